@@ -1,0 +1,4 @@
+pub mod Deciding
+pub mod Counting
+pub mod Sorting
+pub mod Growing

@@ -1,0 +1,4 @@
+pub mod Walks
+pub mod Depths
+pub mod Verdicts
+pub mod Timelines

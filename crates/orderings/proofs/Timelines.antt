@@ -1,0 +1,64 @@
+-- The claims of document 01: more walks show more, and finitely many walks are enough.
+use Prim.Native.Nat.{ℕ, _≤_}
+use mathlib.Core.Path.{_≡_, refl}
+use mathlib.Core.Bool.{true}
+use mathlib.Core.Logic.{_⊎_, ⊎-elim, _↔_}
+use mathlib.Core.List.{List, [], _∷_, _++_, List·Memᴰ·head, List·Memᴰ·tail, List·Memᴰ·not-nil, List·Memᴰ·append-cases, List·Memᴰ·cases-cons, List·Memᴰ·eq-of-singleton, Memᴰ·append-left, Memᴰ·append-right}
+use native.Mathlib.Omega.{arith}
+use Rattle.lists.specs.Tests.{_among_, _part-of_, range}
+use Rattle.lists.proofs.Deciding.{test·, keep·, range-in}
+use Rattle.masks.specs.Mask.{member, _∈_}
+use Rattle.masks.proofs.Member.{member-lt}
+use Rattle.rows.specs.declared.Row.{Row}
+use Rattle.orderings.specs.Steps.{Claim, loops, mixes, Step, Walk, members}
+use Rattle.orderings.specs.Claims.{Through, OnPiece, Says}
+use Rattle.orderings.specs.Timelines.{timelines}
+use Rattle.orderings.proofs.Depths.{Lawful}
+
+pub members-iff : (P s : ℕ) → s among members P ↔ (s ∈ P)
+unfolding members
+members-iff P s = let k = keep· (λ s. test· (member s P)) (range 0 64) s in ((λ m. k .0 m .1), λ h. k .1 (range-in 0 64 s (omega arith) (omega (arith, member-lt s P h)), h))
+
+module _ {W W′ : Walk → Type 0} (f : (w : Walk) → W w → W′ w) where
+  through-more : (P a b : ℕ) → Through W P a b → Through W′ P a b
+  through-more P a b t = (t .0, f _ (t .1), t .2, t .3, t .4)
+
+  piece-more : (rows : List Row) (P s : ℕ) → OnPiece rows W P s → OnPiece rows W′ P s
+  piece-more rows P s h = (h .0, h .1, h .2, h .3, (h .4 .0, f _ (h .4 .1), h .4 .2, h .4 .3, h .4 .4), h .5)
+
+  pub says-more : (rows : List Row) (c : Claim) → Says rows W c → Says rows W′ c
+  says-more rows (loops P) h = λ a b p q. through-more P a b (h a b p q)
+  says-more rows (mixes P) h = λ s p. piece-more rows P s (h s p)
+
+-- finitely many of the walks at hand, of which T holds
+module _ (W : Walk → Type 0) where
+  abbrev Few : (List Walk → Type 0) → Type 0
+  Few T = (ws : List Walk) × ((w : Walk) → w among ws → W w) × T ws
+
+  few-all : (l : List ℕ) (T : ℕ → List Walk → Type 0) → ((a : ℕ) (ws ws′ : List Walk) → ws part-of ws′ → T a ws → T a ws′) → ((a : ℕ) → a among l → Few (T a))
+      → Few (λ ws. (a : ℕ) → a among l → T a ws)
+  few-all [] T up f = ([], (λ w m. absurd (List·Memᴰ·not-nil m)), λ a m. absurd (List·Memᴰ·not-nil m))
+  few-all (x ∷ l) T up f = let r = few-all l T up (λ a m. f a (List·Memᴰ·tail m)) in let s = f x (List·Memᴰ·head refl) in (
+    s .0 ++ r .0,
+    (λ w m. ⊎-elim (s .1 w) (r .1 w) (List·Memᴰ·append-cases (s .0) m)),
+    λ a m. ⊎-elim (λ e. rw e (up x _ _ (λ w i. Memᴰ·append-left (r .0) i) (s .2))) (λ i. up a _ _ (λ w j. Memᴰ·append-right (s .0) j) (r .2 a i)) (List·Memᴰ·cases-cons m),
+  )
+
+  few-of : (P : ℕ) (T : ℕ → List Walk → Type 0) → ((a : ℕ) (ws ws′ : List Walk) → ws part-of ws′ → T a ws → T a ws′) → ((a : ℕ) → a ∈ P → Few (T a))
+      → Few (λ ws. (a : ℕ) → a ∈ P → T a ws)
+  few-of P T up f = let r = few-all (members P) T up (λ a m. f a (members-iff P a .0 m)) in (r .0, r .1, λ a p. r .2 a (members-iff P a .1 p))
+
+  alone : (w : Walk) → W w → (v : Walk) → v among (w ∷ []) → W v
+  alone w h v m = rw (List·Memᴰ·eq-of-singleton m) h
+
+  says-finite : (rows : List Row) (c : Claim) → Says rows W c → Few (λ ws. Says rows (λ w. w among ws) c)
+  says-finite rows (loops P) h =
+      let r = few-of P (λ a ws. (b : ℕ) → b ∈ P → Through (λ w. w among ws) P a b) (λ a ws ws′ up g b q. through-more up P a b (g b q))
+      (λ a p. few-of P (λ b ws. Through (λ w. w among ws) P a b) (λ b ws ws′ up. through-more up P a b)
+      (λ b q. let t = h a b p q in (t .0 ∷ [], alone (t .0) (t .1), (t .0, List·Memᴰ·head refl, t .2, t .3, t .4)))) in
+      (r .0, r .1, λ a b p q. r .2 a p b q)
+  says-finite rows (mixes P) h = few-of P (λ s ws. OnPiece rows (λ w. w among ws) P s) (λ s ws ws′ up. piece-more up rows P s)
+      (λ s p. let o = h s p in let t = o .4 in (t .0 ∷ [], alone (t .0) (t .1), (o .0, o .1, o .2, o .3, (t .0, List·Memᴰ·head refl, t .2, t .3, t .4), o .5)))
+
+pub lawful : (rows : List Row) → Lawful (timelines rows)
+lawful rows = record { more = λ f c. says-more f rows c; finite = λ {W} c. says-finite W rows c }

@@ -1,0 +1,37 @@
+-- Document 01, "Steps and claims": what a claim says, of the walks W that are at hand.
+use Prim.Native.Nat.{ℕ}
+use mathlib.Core.Logic.{_≢_}
+use mathlib.Core.List.{List, [], _∷_}
+use Rattle.lists.specs.Tests.{_among_}
+use Rattle.masks.specs.Mask.{_∈_}
+use Rattle.rows.specs.declared.Row.{Row}
+use Rattle.rows.specs.declared.Row.the-variants.{LeftLimit, RightLimit}
+use Rattle.orderings.specs.Steps.{Claim, loops, mixes, Walk, Leads, Inside, On}
+
+-- a walk of one or more steps inside P leads from a to b
+abbrev pub Through : (Walk → Type 0) → ℕ → ℕ → ℕ → Type 0
+Through W P a b = (w : Walk) × W w × Leads a w b × Inside P w × (w ≢ [])
+
+-- P loops: from any state of P to any, equal ones included
+abbrev pub Loops : (Walk → Type 0) → ℕ → Type 0
+Loops W P = (a b : ℕ) → a ∈ P → b ∈ P → Through W P a b
+
+-- an entrance of P: a state e of P with row P → e
+abbrev pub Entrance : List Row → ℕ → ℕ → Type 0
+Entrance rows P e = (e ∈ P) × LeftLimit P e among rows
+
+-- an exit of P: a state f of P with row f → P
+abbrev pub Exit : List Row → ℕ → ℕ → Type 0
+Exit rows P f = (f ∈ P) × RightLimit f P among rows
+
+-- s lies on a piece: a walk of one or more steps inside P from an entrance to an exit, ends included
+abbrev pub OnPiece : List Row → (Walk → Type 0) → ℕ → ℕ → Type 0
+OnPiece rows W P s = (e : ℕ) × (f : ℕ) × Entrance rows P e × Exit rows P f × (t : Through W P e f) × On s e (t .0)
+
+-- P mixes: every state of P lies on some piece
+abbrev pub Mixes : List Row → (Walk → Type 0) → ℕ → Type 0
+Mixes rows W P = (s : ℕ) → s ∈ P → OnPiece rows W P s
+
+abbrev pub Says : List Row → (Walk → Type 0) → Claim → Type 0
+Says rows W (loops P) = Loops W P
+Says rows W (mixes P) = Mixes rows W P

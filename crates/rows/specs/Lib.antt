@@ -1,0 +1,4 @@
+-- Document 01, "Rows and the batch".
+pub mod Rows
+pub mod Reading
+pub mod Batch
