@@ -1,1 +1,5 @@
+-- The laws that the proofs of `masks` share.
+pub mod Count
+pub mod Digit
 pub mod Member
+pub mod Walks

@@ -1,1 +1,3 @@
+-- The definitions that the contracts of `masks` cite.
+pub mod Graph
 pub mod Mask

@@ -2,3 +2,5 @@ pub mod Walks
 pub mod Depths
 pub mod Verdicts
 pub mod Timelines
+pub mod Reach
+pub mod Deciding

@@ -65,7 +65,7 @@ targets G = map (λ t. t .to) G
 
 -- the states to which a walk of one or more of the steps leads from a
 unfoldable pub reach : List Step → ℕ → List ℕ
-reach G a = grown eqb (targets G) (leads-to? G a) (length G)
+reach G a = grown eqb (targets G) (leads-to? G a) (length (targets G))
 
 abbrev pub reaches? : List Step → ℕ → ℕ → Bool
 reaches? G a b = any (eqb b) (reach G a)

@@ -1,0 +1,111 @@
+-- The different sets of some rows: which they are, their order and their number.
+use Prim.Native.Nat.{ℕ, suc, _≤_}
+use mathlib.Core.Path.{_≡_, refl, sym}
+use mathlib.Core.Bool.{Bool, true, false}
+use mathlib.Core.Logic.{_⊎_, inl, inr, ⊎-elim, _↔_}
+use mathlib.Core.List.{List, [], _∷_, List·Memᴰ·head, List·Memᴰ·tail, List·Memᴰ·not-nil, List·Memᴰ·cases-cons, List·Memᴰ·eq-of-singleton, Memᴰ·cast}
+use lib.Dec.{eqb}
+use lib.ListN.{length}
+use native.Mathlib.Omega.{arith}
+use Rattle.lists.specs.Tests.{Decides, _among_, _part-of_, Once, any, gather}
+use Rattle.lists.specs.Order.{Sorted, insert-by}
+use Rattle.lists.proofs.Deciding.{eqb·, has·, yes·, no·, dec·, gather-in, gather-out}
+use Rattle.lists.proofs.Counting.{once-length}
+use Rattle.lists.proofs.Sorting.{insert-iff, insert-sorted, insert-once, sorted-same}
+use Rattle.rows.specs.declared.Row.{Row}
+use Rattle.rows.specs.declared.Row.the-variants.{Initial, Final, Successor, LeftLimit, RightLimit}
+use Rattle.rows.specs.Rows.{sets-of, SetOf, add-new, distinct, sets}
+
+abbrev key : ℕ → List ℕ
+key P = P ∷ []
+
+has? : (x : ℕ) (l : List ℕ) → Decides (any (eqb x) l) (x among l)
+has? x l = has· eqb· x l
+
+-- what holds of the list if the number is there, and of the longer one if it is not, holds after add-new
+add-ok : (Q : List ℕ → Type 0) (x : ℕ) (l : List ℕ) → (x among l → Q l) → (¬ (x among l) → Q (insert-by key x l)) → Q (add-new x l)
+add-ok Q x l f g = go (any (eqb x) l) (has? x l)
+  where
+    go : (b : Bool) → Decides b (x among l) → Q (elim b as (λ c. List ℕ) [ true ↦ l | false ↦ insert-by key x l ])
+    go true d = f (yes· d)
+    go false d = g (no· d)
+
+distinct-iff : (l : List ℕ) (y : ℕ) → y among distinct l ↔ y among l
+distinct-iff [] y = ((λ m. m), λ m. m)
+distinct-iff (x ∷ l) y = let i = distinct-iff l y in let p = insert-iff key x (distinct l) y in
+    add-ok (λ (m : List ℕ). y among m ↔ y among (x ∷ l)) x (distinct l)
+    (λ h. ((λ m. List·Memᴰ·tail (i .0 m)), λ m. ⊎-elim (λ e. Memᴰ·cast e h) (i .1) (List·Memᴰ·cases-cons m)))
+    (λ h. ((λ m. ⊎-elim List·Memᴰ·head (λ j. List·Memᴰ·tail (i .0 j)) (p .0 m)), λ m. p .1 (⊎-elim inl (λ j. inr (i .1 j)) (List·Memᴰ·cases-cons m))))
+
+distinct-sorted : (l : List ℕ) → Sorted key (distinct l)
+distinct-sorted [] = tt
+distinct-sorted (x ∷ l) = add-ok (Sorted key) x (distinct l) (λ m. distinct-sorted l) (λ n. insert-sorted key x (distinct l) (distinct-sorted l))
+
+distinct-once : (l : List ℕ) → Once (distinct l)
+distinct-once [] = tt
+distinct-once (x ∷ l) = add-ok Once x (distinct l) (λ m. distinct-once l) (λ n. insert-once key x (distinct l) n (distinct-once l))
+
+pub sets-iff : (rows : List Row) (P : ℕ) → P among sets rows ↔ SetOf rows P
+unfolding sets
+sets-iff rows P = let d = distinct-iff (gather sets-of rows) P in
+    ((λ m. gather-out sets-of P rows (d .0 m)), λ s. d .1 (gather-in sets-of (s .1) (s .2)))
+
+pub sets-sorted : (rows : List Row) → Sorted (λ (P : ℕ). P ∷ []) (sets rows)
+unfolding sets
+sets-sorted rows = distinct-sorted (gather sets-of rows)
+
+pub sets-once : (rows : List Row) → Once (sets rows)
+unfolding sets
+sets-once rows = distinct-once (gather sets-of rows)
+
+sets-part : (rows rows′ : List Row) → rows part-of rows′ → sets rows part-of sets rows′
+sets-part rows rows′ h P m = let s = sets-iff rows P .0 m in sets-iff rows′ P .1 (s .0, h (s .0) (s .1), s .2)
+
+-- no more sets than a list that has them all
+sets-within : (rows : List Row) (l : List ℕ) → sets rows part-of l → length (sets rows) ≤ length l
+sets-within rows l h = once-length (sets rows) l (sets-once rows) h
+
+pub sets-fewer : (rows rows′ : List Row) → rows part-of rows′ → length (sets rows) ≤ length (sets rows′)
+sets-fewer rows rows′ h = sets-within rows (sets rows′) (sets-part rows rows′ h)
+
+-- the same rows, however often and in whatever order, have the same sets
+pub sets-same : (rows rows′ : List Row) → rows part-of rows′ → rows′ part-of rows → sets rows ≡ sets rows′
+sets-same rows rows′ h g = sorted-same key (sets rows) (sets rows′) (λ x y i j e. cc) (sets-sorted rows) (sets-sorted rows′) (sets-once rows) (sets-once rows′)
+    (sets-part rows rows′ h) (sets-part rows′ rows g)
+
+-- a row has one set or none
+one-set : (r : Row) → (sets-of r ≡ []) ⊎ ((P : ℕ) × (sets-of r ≡ P ∷ []))
+one-set (Initial s) = inl refl
+one-set (Final s) = inl refl
+one-set (Successor p a q) = inl refl
+one-set (LeftLimit P q) = inr (P, refl)
+one-set (RightLimit q P) = inr (P, refl)
+
+-- one row more: the sets stay, or there is one more, the row's own
+pub sets-new : (rows rows′ : List Row) (r : Row) → ((x : Row) → x among rows′ ↔ ((x ≡ r) ⊎ x among rows))
+    → (length (sets rows′) ≤ suc (length (sets rows)))
+    × ((length (sets rows′) ≡ length (sets rows)) ⊎ ((P : ℕ) × P among sets-of r × ¬ (P among sets rows) × (length (sets rows′) ≡ suc (length (sets rows)))))
+sets-new rows rows′ r h = ⊎-elim (λ e. (omega arith, inl e)) (λ n. (omega (arith, n .3), inr n)) (⊎-elim
+    (λ e. inl (kept (λ P m. absurd (List·Memᴰ·not-nil (rw e at m)))))
+    (λ s. own (s .0) (s .1) (dec· (has? (s .0) (sets rows))))
+    (one-set r))
+  where
+    grows : rows part-of rows′
+    grows x m = h x .1 (inr m)
+
+    from : (P : ℕ) → P among sets rows′ → P among sets-of r ⊎ P among sets rows
+    from P m = let s = sets-iff rows′ P .0 m in
+        ⊎-elim (λ e. inl (rw e at (s .2))) (λ i. inr (sets-iff rows P .1 (s .0, i, s .2))) (h (s .0) .0 (s .1))
+
+    kept : sets-of r part-of sets rows → length (sets rows′) ≡ length (sets rows)
+    kept f = let a = sets-within rows′ (sets rows) (λ P m. ⊎-elim (f P) (λ i. i) (from P m)) in
+        omega (arith, a, sets-fewer rows rows′ grows)
+
+    own : (P : ℕ) → sets-of r ≡ P ∷ [] → Dec (P among sets rows)
+        → (length (sets rows′) ≡ length (sets rows)) ⊎ ((P : ℕ) × P among sets-of r × ¬ (P among sets rows) × (length (sets rows′) ≡ suc (length (sets rows))))
+    own P e (yes i) = inl (kept (λ Q m. Memᴰ·cast (List·Memᴰ·eq-of-singleton (rw e at m)) i))
+    own P e (no n) = let i : P among sets-of r = rw e (List·Memᴰ·head refl) in
+        let a = sets-within rows′ (P ∷ sets rows) (λ Q m. ⊎-elim (λ j. List·Memᴰ·head (List·Memᴰ·eq-of-singleton (rw e at j))) List·Memᴰ·tail (from Q m)) in
+        let b = once-length (P ∷ sets rows) (sets rows′) (n, sets-once rows)
+        (λ Q m. ⊎-elim (λ j. sets-iff rows′ Q .1 (r, h r .1 (inl refl), Memᴰ·cast j i)) (sets-part rows rows′ grows Q) (List·Memᴰ·cases-cons m)) in
+        inr (P, i, n, omega (arith, a, b))
