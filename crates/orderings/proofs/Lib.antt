@@ -4,3 +4,4 @@ pub mod Verdicts
 pub mod Timelines
 pub mod Reach
 pub mod Deciding
+pub mod Claims

@@ -1,2 +1,4 @@
 pub mod Same
+pub mod Reading
+pub mod Batch
 pub mod Sets

@@ -1,6 +1,6 @@
 -- The different sets of some rows: which they are, their order and their number.
 use Prim.Native.Nat.{ℕ, suc, _≤_}
-use mathlib.Core.Path.{_≡_, refl, sym}
+use mathlib.Core.Path.{_≡_, refl}
 use mathlib.Core.Bool.{Bool, true, false}
 use mathlib.Core.Logic.{_⊎_, inl, inr, ⊎-elim, _↔_}
 use mathlib.Core.List.{List, [], _∷_, List·Memᴰ·head, List·Memᴰ·tail, List·Memᴰ·not-nil, List·Memᴰ·cases-cons, List·Memᴰ·eq-of-singleton, Memᴰ·cast}
@@ -45,6 +45,7 @@ distinct-once : (l : List ℕ) → Once (distinct l)
 distinct-once [] = tt
 distinct-once (x ∷ l) = add-ok Once x (distinct l) (λ m. distinct-once l) (λ n. insert-once key x (distinct l) n (distinct-once l))
 
+-- they are the sets of the rows
 pub sets-iff : (rows : List Row) (P : ℕ) → P among sets rows ↔ SetOf rows P
 unfolding sets
 sets-iff rows P = let d = distinct-iff (gather sets-of rows) P in
@@ -65,6 +66,7 @@ sets-part rows rows′ h P m = let s = sets-iff rows P .0 m in sets-iff rows′ 
 sets-within : (rows : List Row) (l : List ℕ) → sets rows part-of l → length (sets rows) ≤ length l
 sets-within rows l h = once-length (sets rows) l (sets-once rows) h
 
+-- fewer rows have no more sets
 pub sets-fewer : (rows rows′ : List Row) → rows part-of rows′ → length (sets rows) ≤ length (sets rows′)
 sets-fewer rows rows′ h = sets-within rows (sets rows′) (sets-part rows rows′ h)
 

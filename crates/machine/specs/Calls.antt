@@ -1,0 +1,110 @@
+-- Document 01, "The session as a plain machine" and "Causes and numbers": the calls.
+use Prim.Native.Nat.{ℕ}
+use mathlib.Core.Bool.{true, false, cond}
+use mathlib.Core.List.{List, [], _∷_, _++_}
+use lib.Dec.{ltb}
+use lib.ListN.{length, drop, replicate}
+use Rattle.lists.specs.Order.{sort-by}
+use Rattle.rows.specs.declared.Row.{Row}
+use Rattle.rows.specs.Rows.{row-bytes, batch-of, Bytes}
+use Rattle.rows.specs.Batch.{Fed, fed, failed, feed}
+use Rattle.machine.specs.declared.Phase.{Phase}
+use Rattle.machine.specs.declared.Phase.the-variants.{Open, Running, Settled}
+use Rattle.machine.specs.Machine.{Machine, fresh, load-row, withdraw-row, closed, next-round, reopened}
+use Rattle.machine.specs.Sheet.{sheet}
+
+-- a call, with what its caller brings beside the session: a batch, the length of a buffer
+pub data Call : Type 0 where
+  load withdraw : List ℕ → Call
+  close round reopen : Call
+  print save : ℕ → Call
+
+-- done, text for the buffer, or a refusal with its number and place
+pub data Answer : Type 0 where
+  done : Answer
+  wrote : List ℕ → Answer
+  refused : ℕ → ℕ → Answer
+
+-- the machine after a call, and what the call answers
+pub record Next : Type 0 where
+  pub machine : Machine
+  pub answer : Answer
+
+abbrev pub accept : Machine → Next
+accept m = record { machine = m; answer = done }
+
+-- a refusal leaves the machine as it was
+abbrev pub refuse-at : Machine → ℕ → ℕ → Next
+refuse-at m n place = record { machine = m; answer = refused n place }
+
+abbrev pub refuse : Machine → ℕ → Next
+refuse m n = refuse-at m n 0
+
+-- load and withdraw act on the whole batch or not at all
+abbrev pub with-rows : Machine → Fed (List Row) → Next
+with-rows m (fed rows) = accept (record { rows = rows; phase = m .phase; openings = m .openings; rounds = m .rounds })
+with-rows m (failed n place) = refuse-at m n place
+
+-- 12: the buffer is too short
+abbrev pub write : Machine → ℕ → List ℕ → Next
+write m size l = cond (ltb size (length l)) (refuse m 12) (record { machine = m; answer = wrote l })
+
+-- save writes the standing rows sorted as byte strings
+abbrev pub saved : Machine → List ℕ
+saved m = batch-of (sort-by row-bytes (m .rows))
+
+-- each call in each phase
+unfoldable pub call-in : Phase → Machine → Call → Next
+call-in Open m (load l) = with-rows m (feed load-row (m .rows) l)
+call-in Open m (withdraw l) = with-rows m (feed withdraw-row (m .rows) l)
+call-in Open m close = accept (closed m)
+call-in Open m round = refuse m 9
+call-in Open m reopen = refuse m 9
+call-in Open m (print size) = refuse m 9
+call-in Open m (save size) = write m size (saved m)
+call-in Running m (load l) = refuse m 1
+call-in Running m (withdraw l) = refuse m 1
+call-in Running m close = refuse m 1
+call-in Running m round = cond (ltb (m .rounds) 129) (accept (next-round m)) (refuse m 13)
+call-in Running m reopen = accept (reopened m)
+call-in Running m (print size) = refuse m 11
+call-in Running m (save size) = write m size (saved m)
+call-in (Settled v) m (load l) = refuse m 1
+call-in (Settled v) m (withdraw l) = refuse m 1
+call-in (Settled v) m close = refuse m 1
+call-in (Settled v) m round = refuse m 10
+call-in (Settled v) m reopen = accept (reopened m)
+call-in (Settled v) m (print size) = write m size (sheet v m)
+call-in (Settled v) m (save size) = write m size (saved m)
+
+abbrev pub call : Machine → Call → Next
+call m c = call-in (m .phase) m c
+
+-- what the caller's buffer holds after a call: the text, and beyond it the bytes that it had
+abbrev pub buffer-after : Answer → List ℕ → List ℕ
+buffer-after done old = old
+buffer-after (wrote l) old = l ++ drop (length l) old
+buffer-after (refused n place) old = old
+
+-- a machine is fed a list of calls in order
+abbrev pub run : Machine → List Call → Machine
+run m [] = m
+run m (c ∷ cs) = run (call m c .machine) cs
+
+-- batches hold bytes
+abbrev pub Brings : Call → Type 0
+Brings (load l) = Bytes l
+Brings (withdraw l) = Bytes l
+Brings close = Unit {0}
+Brings round = Unit {0}
+Brings reopen = Unit {0}
+Brings (print size) = Unit {0}
+Brings (save size) = Unit {0}
+
+-- close, then rounds until settled: at most 129 are done, and a settled machine refuses the others
+abbrev pub settle : List Call
+settle = close ∷ replicate 129 round
+
+-- the second machine of demand 3: fresh, it loads the rows in one batch, sorted as byte strings, closes and does rounds until settled
+unfoldable pub second : List Row → Machine
+second rows = run fresh (load (batch-of (sort-by row-bytes rows)) ∷ settle)

@@ -1,0 +1,51 @@
+-- Document 01, "The sheet": which walk it prints.
+use Prim.Native.Nat.{ℕ, _≤_}
+use mathlib.Core.Path.{_≡_}
+use mathlib.Core.List.{List, [], _∷_, _++_}
+use lib.ListN.{length}
+use Rattle.lists.specs.Tests.{_among_, gather}
+use Rattle.lists.specs.Order.{_≺_}
+use Rattle.rows.specs.declared.Row.{Row}
+use Rattle.rows.specs.declared.Row.the-variants.{Initial, Final}
+use Rattle.orderings.specs.Steps.{Claim, Label, letter, ω, back, mix, Step, Walk, Leads}
+use Rattle.orderings.specs.Systems.{Allowed}
+use Rattle.orderings.specs.Timelines.{timelines}
+
+-- by kind: letter, omega, back, mix
+abbrev pub kind : Label → ℕ
+kind (letter a) = 0
+kind (ω P) = 1
+kind (back P) = 2
+kind (mix P) = 3
+
+-- lower letter or set
+abbrev pub value : Label → ℕ
+value (letter a) = a
+value (ω P) = P
+value (back P) = P
+value (mix P) = P
+
+-- lower target
+abbrev pub step-key : Step → List ℕ
+step-key t = kind (t .label) ∷ value (t .label) ∷ t .to ∷ []
+
+-- a walk with its start
+pub record Found : Type 0 where
+  pub start : ℕ
+  pub walk : Walk
+
+-- by lower start, then at the first different step
+abbrev pub walk-key : Found → List ℕ
+walk-key f = f .start ∷ gather step-key (f .walk)
+
+-- a walk from an initial to a final state, with letter steps and steps of the claims l
+abbrev pub Candidate : List Row → List Claim → Found → Type 0
+Candidate rows l f = Initial (f .start) among rows
+    × ((b : ℕ) × Final b among rows × Leads (f .start) (f .walk) b)
+    × Allowed (timelines rows) (λ c. c among l) (f .walk)
+
+-- no other such walk has fewer steps, and among equals it is the first
+pub record Best (rows : List Row) (l : List Claim) (f : Found) : Type 0 where
+  pub is : Candidate rows l f
+  pub short : (g : Found) → Candidate rows l g → length (f .walk) ≤ length (g .walk)
+  pub first : (g : Found) → Candidate rows l g → length (g .walk) ≡ length (f .walk) → ¬ (walk-key g ≺ walk-key f)

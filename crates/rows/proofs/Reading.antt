@@ -1,0 +1,296 @@
+-- A row that fits is read back from its bytes, what is read fits and has the bytes that were read, and a refusal has its cause.
+use Prim.Native.Nat.{ℕ, zero, suc, _≤_, _<_, _+_, _*_, _/_, _%_, _^_}
+use mathlib.Core.Path.{_≡_, refl, ap, sym, _∙_, subst}
+use mathlib.Core.Bool.{Bool, true, false, cond, _||_, or-false}
+use mathlib.Core.Logic.{⊎-elim, _↔_}
+use mathlib.Core.List.{List, [], _∷_, _++_, List·Memᴰ·head, List·Memᴰ·tail, List·Memᴰ·not-nil, List·Memᴰ·cases-cons, List·Memᴰ·append-cases}
+use lib.Dec.{eqb, ltb}
+use lib.ListN.{length, take, drop, getD, length-take, length-drop, take-append-drop}
+use lib.Seq.{drop-cons, drop-drop}
+use native.Mathlib.Omega.{arith}
+use native.Mathlib.Nat.{div-div-eq-div-mul, div-eq-of-lt, div-one, pow-suc}
+use Rattle.lists.specs.Tests.{Decides, _among_, any}
+use Rattle.lists.proofs.Deciding.{eqb·, ltb·, leb·, and·, any·, dec·, yes·, no·}
+use Rattle.rows.specs.declared.Row.{Row}
+use Rattle.rows.specs.declared.Row.the-variants.{Initial, Final, Successor, LeftLimit, RightLimit}
+use Rattle.rows.specs.declared.ReadRow.{ReadRow}
+use Rattle.rows.specs.declared.ReadRow.the-variants.{Read, Refused}
+use Rattle.rows.specs.Rows.{big, row-bytes, Fits, Bytes}
+use Rattle.rows.specs.Reading.{number, set-at, state-row, step-row, limit-row, kind-row, read-row, Known, width, state-places, set-places, Malformed, unknown-kind, cut-short, high-state, zero-set}
+
+-- without one byte more
+high : (x n : ℕ) → x / 256 ^ suc n ≡ x / 256 ^ n / 256
+high x n = rw pow-suc (sym (div-div-eq-div-mul x (256 ^ n) 256))
+
+-- a number is that of its bytes, after what stands ahead of them
+number-big : (n x : ℕ) → number (big n x) (x / 256 ^ n) ≡ x
+number-big zero x = div-one x
+number-big (suc n) x = let e : x / 256 ^ suc n * 256 + x / 256 ^ n % 256 ≡ x / 256 ^ n = rw (high x n) (omega arith) in
+    ap (number (big n x)) e ∙ number-big n x
+
+-- what stands ahead of some bytes is left when they are taken off
+number-high : (l : List ℕ) (x : ℕ) → Bytes l → number l x / 256 ^ length l ≡ x
+number-high [] x h = div-one x
+number-high (b ∷ l) x h = let e : (x * 256 + b) / 256 ≡ x = omega (arith, h b (List·Memᴰ·head refl)) in
+    high (number l (x * 256 + b)) (length l) ∙ (ap (λ (y : ℕ). y / 256) (number-high l (x * 256 + b) (λ c m. h c (List·Memᴰ·tail m))) ∙ e)
+
+-- bytes are those of their number
+big-number : (l : List ℕ) (x : ℕ) → Bytes l → big (length l) (number l x) ≡ l
+big-number [] x h = refl
+big-number (b ∷ l) x h = let t : Bytes l = λ c m. h c (List·Memᴰ·tail m) in
+    let e : (x * 256 + b) % 256 ≡ b = omega (arith, h b (List·Memᴰ·head refl)) in
+    rw (number-high l (x * 256 + b) t, e, big-number l (x * 256 + b) t)
+
+-- a set is the number of its eight bytes
+eight : (P : ℕ) → P < 256 ^ 8 → number (big 8 P) 0 ≡ P
+eight P h = subst (λ (x : ℕ). number (big 8 P) x ≡ P) (div-eq-of-lt h) (number-big 8 P)
+
+-- parts of bytes are bytes
+in-take : (n : ℕ) (l : List ℕ) (x : ℕ) → x among take n l → x among l
+in-take zero l x m = absurd (List·Memᴰ·not-nil m)
+in-take (suc n) [] x m = m
+in-take (suc n) (a ∷ l) x m = ⊎-elim List·Memᴰ·head (λ i. List·Memᴰ·tail (in-take n l x i)) (List·Memᴰ·cases-cons m)
+
+in-drop : (n : ℕ) (l : List ℕ) (x : ℕ) → x among drop n l → x among l
+in-drop zero l x m = m
+in-drop (suc n) [] x m = m
+in-drop (suc n) (a ∷ l) x m = List·Memᴰ·tail (in-drop n l x m)
+
+pub bytes-drop : (n : ℕ) (l : List ℕ) → Bytes l → Bytes (drop n l)
+bytes-drop n l h b m = h b (in-drop n l b m)
+
+-- past the end too
+byte-at : (l : List ℕ) (i : ℕ) → Bytes l → getD l i 0 < 256
+byte-at [] i h = omega arith
+byte-at (a ∷ l) zero h = h a (List·Memᴰ·head refl)
+byte-at (a ∷ l) (suc i) h = byte-at l i (λ b m. h b (List·Memᴰ·tail m))
+
+-- the set at a place with eight bytes
+module _ (l : List ℕ) (j : ℕ) (h : Bytes l) (w : j + 8 ≤ length l) where
+  bytes-at : Bytes (take 8 (drop j l))
+  bytes-at b m = h b (in-drop j l b (in-take 8 (drop j l) b m))
+
+  eight-at : length (take 8 (drop j l)) ≡ 8
+  eight-at = simp (length-take, length-drop) (omega arith)
+
+  set-bytes : big 8 (set-at l j) ≡ take 8 (drop j l)
+  unfolding set-at
+  set-bytes = subst (λ (n : ℕ). big n (number (take 8 (drop j l)) 0) ≡ take 8 (drop j l)) eight-at (big-number (take 8 (drop j l)) 0 bytes-at)
+
+  set-below : set-at l j < 256 ^ 8
+  unfolding set-at
+  set-below = let e : number (take 8 (drop j l)) 0 / 256 ^ 8 ≡ 0 = rw eight-at at (number-high (take 8 (drop j l)) 0 bytes-at) in omega arith
+
+  set-split : drop j l ≡ big 8 (set-at l j) ++ drop (j + 8) l
+  set-split = sym (take-append-drop 8 (drop j l))
+      ∙ (ap (λ (x : List ℕ). x ++ drop 8 (drop j l)) (sym set-bytes) ∙ ap (λ (x : List ℕ). big 8 (set-at l j) ++ x) (drop-drop 8 j l))
+
+pub some-bytes : (r : Row) → 0 < length (row-bytes r)
+unfolding row-bytes
+some-bytes (Initial s) = omega arith
+some-bytes (Final s) = omega arith
+some-bytes (Successor p a q) = omega arith
+some-bytes (LeftLimit P q) = omega arith
+some-bytes (RightLimit q P) = omega arith
+
+-- what holds of both branches, each with its test, holds of the cond
+cond-ok : {A : Type 0} (Q : A → Type 0) {b : Bool} {B : Type 0} {x y : A} → Decides b B → (B → Q x) → (¬ B → Q y) → Q (cond b x y)
+cond-ok {A} Q {b} {B} {x} {y} d f g = go b d
+  where
+    go : (b : Bool) → Decides b B → Q (cond b x y)
+    go true d = f (yes· d)
+    go false d = g (no· d)
+
+cond-yes : {A : Type 0} {b : Bool} {B : Type 0} {x : A} (y : A) → Decides b B → B → cond b x y ≡ x
+cond-yes {x = x} y d h = cond-ok (λ z. z ≡ x) d (λ h. refl) (λ n. absurd (n h))
+
+cond-no : {A : Type 0} {b : Bool} {B : Type 0} (x : A) {y z : A} → Decides b B → ¬ B → y ≡ z → cond b x y ≡ z
+cond-no x {z = z} d n e = cond-ok (λ a. a ≡ z) d (λ h. absurd (n h)) (λ n. e)
+
+state-back : (make : ℕ → Row) (l : List ℕ) (s : ℕ) → getD l 1 0 ≡ s → 2 ≤ length l → s < 64 → state-row make l ≡ Read (make s) 2
+unfolding state-row
+state-back make l s e w h = cond-no _ (ltb· (length l) 2) (omega arith) (cond-no _ (ltb· 63 (getD l 1 0)) (omega arith) (cc))
+
+limit-back : (make : ℕ → ℕ → Row) (i j : ℕ) (l : List ℕ) (P q : ℕ) → getD l i 0 ≡ q → set-at l j ≡ P → 10 ≤ length l → (0 < P) × (P < 256 ^ 8) × (q < 64)
+    → limit-row make i j l ≡ Read (make P q) 10
+unfolding limit-row
+limit-back make i j l P q e g w h =
+    cond-no _ (ltb· (length l) 10) (omega arith) (cond-no _ (ltb· 63 (getD l i 0)) (omega arith) (cond-no _ (eqb· (set-at l j) 0) (omega arith) (cc)))
+
+-- a row that fits is read back, whatever follows it
+pub read-back : (r : Row) (tail : List ℕ) → Fits r → read-row (row-bytes r ++ tail) ≡ Read r (length (row-bytes r))
+unfolding row-bytes read-row kind-row step-row set-at
+read-back (Initial s) tail f = state-back Initial (1 ∷ s ∷ tail) s refl (omega arith) f
+read-back (Final s) tail f = state-back Final (2 ∷ s ∷ tail) s refl (omega arith) f
+read-back (Successor p a q) tail f =
+    cond-no _ (ltb· (suc (suc (suc (suc (length tail))))) 4) (omega arith) (cond-no _ (ltb· 63 p) (omega arith) (cond-no _ (ltb· 63 q) (omega arith) refl))
+read-back (LeftLimit P q) tail f = limit-back LeftLimit 9 1 (4 ∷ (big 8 P ++ (q ∷ tail))) P q refl (eight P (f .1)) (omega arith) f
+read-back (RightLimit q P) tail f = limit-back (λ P q. RightLimit q P) 1 2 (5 ∷ q ∷ (big 8 P ++ tail)) P q refl (eight P (f .1)) (omega arith) f
+
+-- the row at the head of bytes of a known kind
+abbrev row-at : ℕ → List ℕ → Row
+row-at k l = cond (eqb k 1) (Initial (getD l 1 0))
+    (cond (eqb k 2) (Final (getD l 1 0))
+    (cond (eqb k 3) (Successor (getD l 1 0) (getD l 2 0) (getD l 3 0))
+    (cond (eqb k 4) (LeftLimit (set-at l 1) (getD l 9 0))
+    (RightLimit (getD l 1 0) (set-at l 2)))))
+
+-- the tests by the places of the kind
+abbrev checked : ℕ → List ℕ → ReadRow
+checked k l = cond (ltb (length l) (width k)) (Refused 3)
+    (cond (any (λ i. ltb 63 (getD l i 0)) (state-places k)) (Refused 4)
+    (cond (any (λ j. eqb (set-at l j) 0) (set-places k)) (Refused 5)
+    (Read (row-at k l) (width k))))
+
+-- what holds of each kind holds of a known kind
+by-kind : (Q : ℕ → Type 0) → Q 1 → Q 2 → Q 3 → Q 4 → Q 5 → (k : ℕ) → Known k → Q k
+by-kind Q a b c d e zero h = absurd (omega arith)
+by-kind Q a b c d e (suc zero) h = a
+by-kind Q a b c d e (suc (suc zero)) h = b
+by-kind Q a b c d e (suc (suc (suc zero))) h = c
+by-kind Q a b c d e (suc (suc (suc (suc zero)))) h = d
+by-kind Q a b c d e (suc (suc (suc (suc (suc zero))))) h = e
+by-kind Q a b c d e (suc (suc (suc (suc (suc (suc k)))))) h = absurd (omega arith)
+
+cond-or : {A : Type 0} (a b : Bool) (x y : A) → cond a x (cond b x y) ≡ cond (a || b) x y
+cond-or true b x y = refl
+cond-or false b x y = refl
+
+-- the reader makes the tests of the kind
+known : (l : List ℕ) (k : ℕ) → Known k → kind-row k l ≡ checked k l
+unfolding kind-row state-row step-row limit-row
+known l = by-kind (λ k. kind-row k l ≡ checked k l)
+    (simp (or-false, cond-or))
+    (simp (or-false, cond-or))
+    (simp (or-false, cond-or))
+    (simp (or-false, cond-or))
+    (simp (or-false, cond-or))
+
+unknown : (l : List ℕ) (k : ℕ) → ¬ Known k → kind-row k l ≡ Refused 2
+unfolding kind-row
+unknown l k n = cond-no _ (eqb· k 1) (λ e. n (omega arith)) (cond-no _ (eqb· k 2) (λ e. n (omega arith)) (cond-no _ (eqb· k 3) (λ e. n (omega arith))
+    (cond-no _ (eqb· k 4) (λ e. n (omega arith)) (cond-no _ (eqb· k 5) (λ e. n (omega arith)) refl))))
+
+-- no cause but an unknown kind refuses the row at the head of the bytes
+record Sound (k : ℕ) (l : List ℕ) : Type 0 where
+  whole : width k ≤ length l
+  low : (i : ℕ) → i among state-places k → getD l i 0 ≤ 63
+  some : (j : ℕ) → j among set-places k → ¬ (set-at l j ≡ 0)
+
+-- what was read, or why not
+abbrev Right : List ℕ → ReadRow → Type 0
+Right l (Refused n) = Malformed l n
+Right l (Read r n) = Known (getD l 0 0) × Sound (getD l 0 0) l × (r ≡ row-at (getD l 0 0) l) × (n ≡ width (getD l 0 0))
+
+high· : (k : ℕ) (l : List ℕ) → Decides (any (λ i. ltb 63 (getD l i 0)) (state-places k)) ((i : ℕ) × i among state-places k × (63 < getD l i 0))
+high· k l = any· (λ i. ltb· 63 (getD l i 0)) (state-places k)
+
+zero· : (k : ℕ) (l : List ℕ) → Decides (any (λ j. eqb (set-at l j) 0) (set-places k)) ((j : ℕ) × j among set-places k × (set-at l j ≡ 0))
+zero· k l = any· (λ j. eqb· (set-at l j) 0) (set-places k)
+
+checked-right : (l : List ℕ) → Known (getD l 0 0) → Right l (checked (getD l 0 0) l)
+checked-right l h = cond-ok (Right l) (ltb· (length l) (width (getD l 0 0))) (cut-short h)
+    (λ w. let long : width (getD l 0 0) ≤ length l = omega arith in
+    cond-ok (Right l) (high· (getD l 0 0) l) (λ p. high-state (getD l 0 0) (p .0) (refl, h, long) (p .1) (p .2))
+    (λ n. let low : (i : ℕ) → i among state-places (getD l 0 0) → getD l i 0 ≤ 63 = λ i m. below i m n in
+    cond-ok (Right l) (zero· (getD l 0 0) l) (λ p. zero-set (getD l 0 0) (p .0) (refl, h, long) low (p .1) (p .2))
+    (λ z. (h, record { whole = long; low = low; some = λ j m e. z (j, m, e) }, refl, refl))))
+  where
+    below : (i : ℕ) → i among state-places (getD l 0 0) → ¬ ((i : ℕ) × i among state-places (getD l 0 0) × (63 < getD l i 0)) → getD l i 0 ≤ 63
+    below i m n = let g : ¬ (63 < getD l i 0) = λ g. n (i, m, g) in omega arith
+
+read-some : (l : List ℕ) → 0 < length l → read-row l ≡ kind-row (getD l 0 0) l
+unfolding read-row
+read-some [] h = absurd (omega arith)
+read-some (k ∷ l) h = refl
+
+right : (l : List ℕ) → 0 < length l → Right l (read-row l)
+right l h = rw (read-some l h) (elim (dec· (and· (leb· 1 (getD l 0 0)) (leb· (getD l 0 0) 5))) [
+  | yes k ↦ rw (known l (getD l 0 0) k) (checked-right l k)
+  | no n ↦ rw (unknown l (getD l 0 0) n) (unknown-kind n)
+])
+
+-- each cause refuses with its number
+refused : (l : List ℕ) (n : ℕ) → Malformed l n → kind-row (getD l 0 0) l ≡ Refused n
+refused l _ (unknown-kind n) = unknown l (getD l 0 0) n
+refused l _ (cut-short h w) = known l (getD l 0 0) h ∙ cond-yes _ (ltb· (length l) (width (getD l 0 0))) w
+refused l _ (high-state k i w m g) =
+    ap (λ (x : ℕ). kind-row x l) (w .0) ∙ (known l k (w .1) ∙ cond-no _ (ltb· (length l) (width k)) (omega arith) (cond-yes _ (high· k l) (i, m, g)))
+refused l _ (zero-set k j w low m z) =
+    ap (λ (x : ℕ). kind-row x l) (w .0) ∙ (known l k (w .1)
+    ∙ cond-no _ (ltb· (length l) (width k)) (omega arith) (cond-no _ (high· k l) (λ p. omega (arith, low (p .0) (p .1), p .2)) (cond-yes _ (zero· k l) (j, m, z))))
+
+-- the reader refuses with the number of the cause, and with no other
+pub malformed : (l : List ℕ) (n : ℕ) → 0 < length l → (read-row l ≡ Refused n) ↔ Malformed l n
+malformed l n h = ((λ e. subst (Right l) e (right l h)), λ m. read-some l h ∙ refused l n m)
+
+-- what holds where a row was read
+got : (l : List ℕ) (r : Row) (n : ℕ) → read-row l ≡ Read r n → Right l (Read r n)
+unfolding read-row
+got [] r n e = let z : _≡_ {A = ℕ} 0 1 = cc in absurd (omega arith)
+got (k ∷ l) r n e = rw e at (right (k ∷ l) (omega arith))
+
+-- the row at the head fits, and it has the bytes at the head, as many as its kind has
+fits-at : (l : List ℕ) → Bytes l → (k : ℕ) → Known k → Sound k l → Fits (row-at k l)
+fits-at l h = by-kind (λ k. Sound k l → Fits (row-at k l))
+    (λ s. omega (arith, s .low 1 (List·Memᴰ·head refl)))
+    (λ s. omega (arith, s .low 1 (List·Memᴰ·head refl)))
+    (λ s. omega (arith, s .low 1 (List·Memᴰ·head refl), byte-at l 2 h, s .low 3 (List·Memᴰ·tail (List·Memᴰ·head refl))))
+    (λ s. omega (arith, s .some 1 (List·Memᴰ·head refl), set-below l 1 h (omega (arith, s .whole)), s .low 9 (List·Memᴰ·head refl)))
+    (λ s. omega (arith, s .some 2 (List·Memᴰ·head refl), set-below l 2 h (omega (arith, s .whole)), s .low 1 (List·Memᴰ·head refl)))
+
+size-at : (l : List ℕ) (k : ℕ) → Known k → length (row-bytes (row-at k l)) ≡ width k
+unfolding row-bytes
+size-at l = by-kind (λ k. length (row-bytes (row-at k l)) ≡ width k) refl refl refl refl refl
+
+split-at : (l : List ℕ) → Bytes l → (k : ℕ) → Known k → getD l 0 0 ≡ k → width k ≤ length l → l ≡ row-bytes (row-at k l) ++ drop (width k) l
+unfolding row-bytes
+split-at l h = by-kind (λ k. getD l 0 0 ≡ k → width k ≤ length l → l ≡ row-bytes (row-at k l) ++ drop (width k) l)
+    (λ e w. cc (byte 0 (omega arith), byte 1 (omega arith)))
+    (λ e w. cc (byte 0 (omega arith), byte 1 (omega arith)))
+    (λ e w. cc (byte 0 (omega arith), byte 1 (omega arith), byte 2 (omega arith), byte 3 (omega arith)))
+    (λ e w. cc (byte 0 (omega arith), set-split l 1 h (omega arith), byte 9 (omega arith)))
+    (λ e w. cc (byte 0 (omega arith), byte 1 (omega arith), set-split l 2 h (omega arith)))
+  where
+    byte : (i : ℕ) → i < length l → drop i l ≡ getD l i 0 ∷ drop (suc i) l
+    byte i w = drop-cons l i 0 w
+
+-- a row that was read from bytes fits
+pub read-fits : (l : List ℕ) → Bytes l → (r : Row) (n : ℕ) → read-row l ≡ Read r n → Fits r
+read-fits l h r n e = let g = got l r n e in rw (g .2) (fits-at l h (getD l 0 0) (g .0) (g .1))
+
+-- a row has bytes, and they lie within those given
+pub read-len : (l : List ℕ) (r : Row) (n : ℕ) → read-row l ≡ Read r n → (1 ≤ n) × (n ≤ length l)
+read-len l r n e = let g = got l r n e in omega (arith, g .3, g .1 .whole, size-at l (getD l 0 0) (g .0), some-bytes (row-at (getD l 0 0) l))
+
+-- the bytes read are the row's own
+pub read-split : (l : List ℕ) → Bytes l → (r : Row) (n : ℕ) → read-row l ≡ Read r n → (n ≡ length (row-bytes r)) × (l ≡ row-bytes r ++ drop n l)
+read-split l h r n e = let g = got l r n e in
+    rw (g .2, g .3) (sym (size-at l (getD l 0 0) (g .0)), split-at l h (getD l 0 0) (g .0) refl (g .1 .whole))
+
+no-bytes : Bytes []
+no-bytes b m = absurd (List·Memᴰ·not-nil m)
+
+byte-and : {a : ℕ} {l : List ℕ} → a < 256 → Bytes l → Bytes (a ∷ l)
+byte-and {a} g h b m = ⊎-elim (λ e. omega arith) (h b) (List·Memᴰ·cases-cons m)
+
+bytes-append : (l m : List ℕ) → Bytes l → Bytes m → Bytes (l ++ m)
+bytes-append l m g h b i = ⊎-elim (g b) (h b) (List·Memᴰ·append-cases l i)
+
+big-bytes : (n x : ℕ) → Bytes (big n x)
+big-bytes zero x = no-bytes
+big-bytes (suc n) x = byte-and (omega arith) (big-bytes n x)
+
+pub row-bytes-are-bytes : (r : Row) → Fits r → Bytes (row-bytes r)
+unfolding row-bytes
+row-bytes-are-bytes (Initial s) f = byte-and (omega arith) (byte-and (omega arith) no-bytes)
+row-bytes-are-bytes (Final s) f = byte-and (omega arith) (byte-and (omega arith) no-bytes)
+row-bytes-are-bytes (Successor p a q) f = byte-and (omega arith) (byte-and (omega arith) (byte-and (f .1) (byte-and (omega arith) no-bytes)))
+row-bytes-are-bytes (LeftLimit P q) f = byte-and (omega arith) (bytes-append (big 8 P) (q ∷ []) (big-bytes 8 P) (byte-and (omega arith) no-bytes))
+row-bytes-are-bytes (RightLimit q P) f = byte-and (omega arith) (byte-and (omega arith) (big-bytes 8 P))
+
+-- rows that fit and have the same bytes are one row
+pub bytes-apart : (r s : Row) → Fits r → Fits s → row-bytes r ≡ row-bytes s → r ≡ s
+bytes-apart r s f g e =
+    let a = read-back r [] f in let b = read-back s [] g in let c = ap (λ (l : List ℕ). read-row (l ++ [])) e in
+    cc (a, b, c)
