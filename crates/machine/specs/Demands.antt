@@ -1,2 +1,90 @@
--- What is shown of the plain machine, as statements.
-use Prim.Native.Nat.{ℕ}
+-- What is shown of the plain machine, as statements. Nothing here is computed by the machine's own search.
+use Prim.Native.Nat.{ℕ, suc, _≤_}
+use mathlib.Core.Path.{_≡_}
+use mathlib.Core.Logic.{_⊎_, _↔_, _≢_}
+use mathlib.Core.List.{List, [], _∷_}
+use lib.ListN.{length}
+use Rattle.lists.specs.Tests.{_among_, Once}
+use Rattle.lists.specs.Order.{Sorted, sort-by}
+use Rattle.rows.specs.declared.Row.{Row}
+use Rattle.rows.specs.Rows.{row-bytes, batch-of, AllFit, Bytes}
+use Rattle.orderings.specs.Steps.{Claim, loops, mixes, set-of, Walk}
+use Rattle.orderings.specs.Systems.{Allowed, Holds, LeastDepth, GreatestLeast, NonEmpty, LeastAccepted}
+use Rattle.orderings.specs.Timelines.{Accepting, timelines}
+use Rattle.machine.specs.declared.Verdict.{Verdict}
+use Rattle.machine.specs.declared.Verdict.the-variants.{NonEmpty as NonEmptyV, Empty as EmptyV}
+use Rattle.machine.specs.declared.Phase.the-variants.{Open, Running, Settled}
+use Rattle.machine.specs.Machine.{Opening, Machine, open-claims}
+use Rattle.machine.specs.Sheet.{sheet}
+use Rattle.machine.specs.Calls.{Call, load, withdraw, print, save, Answer, done, wrote, refused, call, run, second, Brings}
+use Rattle.machine.specs.Machine.{fresh}
+
+-- a walk of zero or more steps, with letter steps and steps of the claims l, leads from an initial to a final state
+abbrev pub SomeWalk : List Row → List Claim → Type 0
+SomeWalk rows l = (w : Walk) × Accepting rows w × Allowed (timelines rows) (λ c. c among l) w
+
+-- Document 01, "close": m′ is m closed
+pub record Closed (m m′ : Machine) : Type 0 where
+  pub rows : m′ .rows ≡ m .rows
+  pub count : m′ .rounds ≡ 0
+  pub none : m′ .openings ≡ []
+  pub non-empty : (m′ .phase ≡ Settled NonEmptyV) ↔ SomeWalk (m .rows) []
+  pub running : (m′ .phase ≡ Running) ↔ (¬ SomeWalk (m .rows) [])
+
+-- the sheet's order of openings: by round, then set, then loop before mix
+abbrev pub loop-first : Claim → ℕ
+loop-first (loops P) = 0
+loop-first (mixes P) = 1
+
+abbrev pub opening-key : Opening → List ℕ
+opening-key o = o .round ∷ set-of (o .claim) ∷ loop-first (o .claim) ∷ []
+
+-- Document 01, "Rounds": m′ is m after one round
+pub record Rounded (m m′ : Machine) : Type 0 where
+  pub rows : m′ .rows ≡ m .rows
+  pub count : m′ .rounds ≡ suc (m .rounds)
+  -- every claim that holds with letter steps and the steps of the claims opened in rounds before, and that isn't open yet
+  pub opens : (o : Opening) → o among m′ .openings
+      ↔ (o among m .openings ⊎ ((o .round ≡ suc (m .rounds)) × Holds (timelines (m .rows)) (λ c. c among open-claims m) (o .claim) × ¬ (o .claim among open-claims m)))
+  -- after it, a walk leads from an initial to a final state; or it opened nothing
+  pub non-empty : (m′ .phase ≡ Settled NonEmptyV) ↔ SomeWalk (m .rows) (open-claims m′)
+  pub empty : (m′ .phase ≡ Settled EmptyV) ↔ (¬ SomeWalk (m .rows) (open-claims m′) × (m′ .openings ≡ m .openings))
+  pub running : (m′ .phase ≡ Running) ↔ (¬ SomeWalk (m .rows) (open-claims m′) × (m′ .openings ≢ m .openings))
+
+-- the openings that a sheet lists: in its order, none twice, each derivable claim of least depth at most the count of rounds with that depth
+pub record Listed (m : Machine) : Type 0 where
+  pub order : Sorted opening-key (m .openings)
+  pub once : Once (open-claims m)
+  pub depths : (o : Opening) → o among m .openings ↔ ((o .round ≤ m .rounds) × LeastDepth (timelines (m .rows)) (o .claim) (o .round))
+
+-- demands 2 and 3: the verdict, and the round number K
+abbrev pub Number : List Row → Verdict → ℕ → Type 0
+Number rows NonEmptyV K = NonEmpty (timelines rows) × LeastAccepted (timelines rows) K
+Number rows EmptyV K = ¬ NonEmpty (timelines rows) × ((g : ℕ) × (K ≡ suc g) × GreatestLeast (timelines rows) g)
+
+-- load and withdraw as sets of rows: a batch is rows one after another
+abbrev pub Loaded : Machine → List ℕ → Machine → Type 0
+Loaded m l m′ = (batch : List Row) × AllFit batch × (l ≡ batch-of batch) × ((r : Row) → r among m′ .rows ↔ (r among m .rows ⊎ r among batch))
+
+abbrev pub Withdrawn : Machine → List ℕ → Machine → Type 0
+Withdrawn m l m′ = (batch : List Row) × AllFit batch × (l ≡ batch-of batch) × ((r : Row) → r among m′ .rows ↔ (r among m .rows × ¬ (r among batch)))
+
+-- demand 3 at one print: the machine m was fed the calls before it, and the buffer has some size
+pub record Prints (m : Machine) (size : ℕ) : Type 0 where
+  -- accepted exactly when m is settled and the buffer is long enough for the second machine's sheet, whose bytes it writes
+  pub accepted : (l : List ℕ) → (call m (print size) .answer ≡ wrote l)
+      ↔ ((v : Verdict) × (m .phase ≡ Settled v) × (l ≡ sheet v (second (m .rows))) × (length l ≤ size))
+  -- the second machine is settled with the same verdict, and its round number is the depth that the demand names
+  pub numbered : (v : Verdict) → m .phase ≡ Settled v
+      → (second (m .rows) .phase ≡ Settled v) × Number (m .rows) v (second (m .rows) .rounds) × (second (m .rows) .rounds ≤ 129)
+
+-- demand 3 of the plain machine: at every print of every list of calls
+abbrev pub EveryPrint : Type 0
+EveryPrint = (cs : List Call) → ((c : Call) → c among cs → Brings c) → (size : ℕ) → Prints (run fresh cs) size
+
+-- saved rows, loaded into a fresh machine, give the same rows
+pub record Saves (m : Machine) (l : List ℕ) : Type 0 where
+  pub bytes : Bytes l
+  pub sorted : l ≡ batch-of (sort-by row-bytes (m .rows))
+  pub loads : call fresh (load l) .answer ≡ done
+  pub same : call fresh (load l) .machine .rows ≡ m .rows

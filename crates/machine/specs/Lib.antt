@@ -7,4 +7,5 @@ pub mod Sheet
 pub mod Calls
 pub mod Causes
 pub mod Program
+pub mod WellFormed
 pub mod Demands
