@@ -1,12 +1,13 @@
 -- Lists without repeats, and how long lists are.
-use Prim.Native.Nat.{ℕ, zero, suc, _≤_, _<_, _+_}
+use Prim.Native.Nat.{ℕ, zero, suc, _≤_, _<_, _+_, _*_}
 use mathlib.Core.Path.{_≡_, refl, ap, sym, _∙_}
 use mathlib.Core.Bool.{Bool, true, false}
 use mathlib.Core.Logic.{_⊎_, inl, inr, ⊎-elim}
-use mathlib.Core.List.{List, [], _∷_, _++_, List·Memᴰ, List·Memᴰ·head, List·Memᴰ·tail, List·Memᴰ·cases-cons, Memᴰ·cast}
-use lib.ListN.{length}
+use mathlib.Core.List.{List, [], _∷_, _++_, List·Memᴰ, List·Memᴰ·head, List·Memᴰ·tail, List·Memᴰ·cases-cons, List·Memᴰ·append-cases, Memᴰ·cast}
+use lib.ListN.{length, length-append}
+use native.Mathlib.Nat.{suc-mul}
 use native.Mathlib.Omega.{arith}
-use Rattle.lists.specs.Tests.{_among_, _part-of_, Once, put, keep, range}
+use Rattle.lists.specs.Tests.{_among_, _part-of_, Once, put, keep, gather, range}
 use Rattle.lists.proofs.Deciding.{kept}
 
 -- without an element that it has, a list is one shorter
@@ -54,3 +55,13 @@ keep-grows {A} f g (x ∷ l) h = go (f x) (g x) (h x (List·Memᴰ·head refl)) 
 pub range-length : (a n : ℕ) → length (range a n) ≡ n
 range-length a zero = refl
 range-length a (suc n) = ap suc (range-length (suc a) n)
+
+-- two lists without repeats that share nothing
+pub once-append : {A : Type 0} (l m : List A) → Once l → Once m → ((x : A) → x among l → ¬ (x among m)) → Once (l ++ m)
+once-append [] m o p f = p
+once-append (x ∷ l) m o p f = ((λ i. ⊎-elim (o .0) (f x (List·Memᴰ·head refl)) (List·Memᴰ·append-cases l i)), once-append l m (o .1) p (λ y i. f y (List·Memᴰ·tail i)))
+
+-- lists of at most n each, one after another
+pub gather-length : {A B : Type 0} (f : A → List B) (n : ℕ) (l : List A) → ((x : A) → x among l → length (f x) ≤ n) → length (gather f l) ≤ length l * n
+gather-length f n [] h = omega arith
+gather-length f n (x ∷ l) h = rw (length-append, suc-mul) (omega (arith, h x (List·Memᴰ·head refl), gather-length f n l (λ y m. h y (List·Memᴰ·tail m))))

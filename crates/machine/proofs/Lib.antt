@@ -1,1 +1,12 @@
 pub mod Cases
+pub mod Rounding
+pub mod Settling
+pub mod Openings
+pub mod Search
+pub mod Walks
+pub mod Text
+pub mod Sheet
+pub mod Tables
+pub mod Outcomes
+pub mod History
+pub mod Demands

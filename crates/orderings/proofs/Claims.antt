@@ -29,7 +29,7 @@ both-in (mixes P) (List·Memᴰ·head e) = List·Memᴰ·tail (List·Memᴰ·hea
 both-in (loops P) (List·Memᴰ·tail m) = List·Memᴰ·tail (List·Memᴰ·tail (both-in (loops P) m))
 both-in (mixes P) (List·Memᴰ·tail m) = List·Memᴰ·tail (List·Memᴰ·tail (both-in (mixes P) m))
 
-both-out : (c : Claim) (l : List ℕ) → c among both l → set-of c among l
+pub both-out : (c : Claim) (l : List ℕ) → c among both l → set-of c among l
 both-out c [] m = absurd (List·Memᴰ·not-nil m)
 both-out c (P ∷ l) m = ⊎-elim (λ e. List·Memᴰ·head (ap set-of e)) (λ i. ⊎-elim (λ e. List·Memᴰ·head (ap set-of e)) (λ j. List·Memᴰ·tail (both-out c l j)) (List·Memᴰ·cases-cons i)) (List·Memᴰ·cases-cons m)
 

@@ -274,7 +274,7 @@ no-bytes b m = absurd (List·Memᴰ·not-nil m)
 byte-and : {a : ℕ} {l : List ℕ} → a < 256 → Bytes l → Bytes (a ∷ l)
 byte-and {a} g h b m = ⊎-elim (λ e. omega arith) (h b) (List·Memᴰ·cases-cons m)
 
-bytes-append : (l m : List ℕ) → Bytes l → Bytes m → Bytes (l ++ m)
+pub bytes-append : (l m : List ℕ) → Bytes l → Bytes m → Bytes (l ++ m)
 bytes-append l m g h b i = ⊎-elim (g b) (h b) (List·Memᴰ·append-cases l i)
 
 big-bytes : (n x : ℕ) → Bytes (big n x)

@@ -1,0 +1,118 @@
+-- What holds of every machine that calls make from a fresh one.
+use Prim.Native.Nat.{ℕ, suc, _≤_, _<_}
+use mathlib.Core.Path.{_≡_, refl, ap, sym, _∙_, subst}
+use mathlib.Core.Bool.{Bool, cond}
+use mathlib.Core.Logic.{_↔_, ⊎-elim}
+use mathlib.Core.Option.{some}
+use mathlib.Core.List.{List, [], _∷_}
+use lib.Dec.{ltb}
+use lib.ListN.{length}
+use native.Mathlib.Omega.{arith}
+use native.Mathlib.Nat.{eq-or-lt-of-le}
+use Rattle.lists.specs.Tests.{_among_}
+use Rattle.lists.specs.Order.{sort-by}
+use Rattle.lists.proofs.Deciding.{not-so, ltb·}
+use Rattle.rows.specs.declared.Row.{Row}
+use Rattle.rows.specs.Rows.{row-bytes, batch-of}
+use Rattle.rows.specs.Batch.{Fed, fed, feed}
+use Rattle.machine.specs.declared.Verdict.{Verdict}
+use Rattle.machine.specs.declared.Verdict.the-variants.{NonEmpty}
+use Rattle.machine.specs.declared.Phase.{Phase}
+use Rattle.machine.specs.declared.Phase.the-variants.{Open, Running, Settled}
+use Rattle.machine.specs.Machine.{Machine, open-with, fresh, load-row, open-claims}
+use Rattle.machine.specs.Order.{Found, Best}
+use Rattle.machine.specs.Search.{shortest}
+use Rattle.machine.specs.Sheet.{sheet}
+use Rattle.machine.specs.Calls.{Call, load, round, print, Answer, wrote, refused, Next, refuse, with-rows, write, call-in, call, run, settle, second}
+use Rattle.machine.specs.Causes.{NotOpen, running, settled, Writes, sheets}
+use Rattle.machine.specs.WellFormed.{Table, after, Worked, Made, WellFormed}
+use Rattle.machine.specs.Demands.{SomeWalk, Number, Listed, Prints, EveryPrint}
+use Rattle.machine.proofs.Settling.{After, after-after, settled-walk, Settles, settles}
+use Rattle.machine.proofs.Openings.{after-listed, openings-few}
+use Rattle.machine.proofs.Search.{shortest-best}
+use Rattle.machine.proofs.Walks.{best-short}
+use Rattle.machine.proofs.Sheet.{sheet-short}
+use Rattle.machine.proofs.Tables.{sort-table, load-all}
+use Rattle.machine.proofs.Outcomes.{comes}
+use Rattle.machine.proofs.History.{fresh-formed, settle-runs, no-more, as-many, not-both}
+
+-- a table of rows, loaded in one batch, sorted
+pub load-table : (rows : List Row) → Table rows → call fresh (load (batch-of (sort-by row-bytes rows))) .machine ≡ open-with rows
+unfolding call-in
+load-table rows t = ap (λ (x : Fed (List Row)). with-rows fresh x .machine) (ap (λ l. feed load-row [] (batch-of l)) (sort-table rows t) ∙ load-all rows t)
+
+-- what a machine writes when it prints
+print-writes : (m : Machine) {size k : ℕ} {l : List ℕ} → Writes m (print size) l k → (v : Verdict) × (m .phase ≡ Settled v) × (l ≡ sheet v m) × (k ≡ size)
+print-writes m (sheets v size e) = (v, e, refl, refl)
+
+module _ (m : Machine) (w : WellFormed m) where
+  s : Settles (m .rows)
+  s = settles (m .rows) (w .table .few-sets)
+
+  -- settled, it has done as many rounds as its rows take
+  settled-is : (v : Verdict) → m .phase ≡ Settled v → m ≡ after (m .rows) (s .rounds)
+  settled-is v e = let k : Worked m = subst (Made m) e (w .made) in
+      k .1 ∙ ap (after (m .rows)) (as-many (m .rows) s (k .0) v (sym (ap (λ (x : Machine). x .phase) (k .1)) ∙ e) (no-more (m .rows) s (k .0) (k .2)))
+
+  verdict-is : (v : Verdict) → m .phase ≡ Settled v → s .verdict ≡ v
+  verdict-is v e = let f = ap (λ (x : Machine). x .phase) (settled-is v e) in let g = s .phase in cc
+
+  rounds-is : (v : Verdict) → m .phase ≡ Settled v → m .rounds ≡ s .rounds
+  rounds-is v e = ap (λ (x : Machine). x .rounds) (settled-is v e) ∙ after-after (m .rows) (s .rounds) .count
+
+  -- the round number is the depth that demand 3 names, at most 129
+  pub settled-number : (v : Verdict) → m .phase ≡ Settled v → Number (m .rows) v (m .rounds) × (m .rounds ≤ 129)
+  settled-number v e = (rw (rounds-is v e, ← verdict-is v e) (s .number), rw (rounds-is v e) (s .most))
+
+  -- the second machine is the first
+  pub second-is : (v : Verdict) → m .phase ≡ Settled v → second (m .rows) ≡ m
+  unfolding second
+  second-is v e = ap (λ x. run x settle) (load-table (m .rows) (w .table)) ∙ settle-runs (m .rows) s ∙ sym (settled-is v e)
+
+  -- a 130th round is never done
+  pub never-130th : m .phase ≡ Running → m .rounds < 129
+  never-130th e = let k : Worked m = subst (Made m) e (w .made) in
+      let f = sym (ap (λ (x : Machine). x .phase) (k .1)) ∙ e in
+      let c = ap (λ (x : Machine). x .rounds) (k .1) ∙ after-after (m .rows) (k .0) .count in
+      ⊎-elim (λ i. not-both f (subst (λ j. after (m .rows) j .phase ≡ Settled (s .verdict)) (sym i) (s .phase))) (λ l. omega (arith, s .most))
+      (eq-or-lt-of-le (no-more (m .rows) s (k .0) (k .2)))
+
+  pub worked-listed : Worked m → Listed m
+  worked-listed k = subst Listed (sym (k .1)) (after-listed (m .rows) (k .0))
+
+  print-accepts : (size : ℕ) (v : Verdict) → m .phase ≡ Settled v → length (sheet v m) ≤ size → call m (print size) .answer ≡ wrote (sheet v m)
+  unfolding call-in
+  print-accepts size v e h = ap (λ (p : Phase). call-in p m (print size) .answer) e
+      ∙ ap (λ (b : Bool). cond {A = Next} b (refuse m 12) (record { machine = m; answer = wrote (sheet v m) }) .answer) (not-so (ltb· size (length (sheet v m))) (λ l. omega arith))
+
+  -- demand 3 at one print
+  pub prints : (size : ℕ) → Prints m size
+  prints size = record {
+    accepted = λ l. (
+      (λ e. let c = comes m (print size) (wrote l) e in let p = print-writes m (c .2) in
+          (p .0, p .1, p .2 ∙ sym (ap (sheet (p .0)) (second-is (p .0) (p .1))), omega (arith, c .3, p .3))),
+      λ p. let i : l ≡ sheet (p .0) m = p .2 ∙ ap (sheet (p .0)) (second-is (p .0) (p .1)) in
+          print-accepts size (p .0) (p .1) (omega (arith, p .3, ap length i)) ∙ ap wrote (sym i),
+    );
+    numbered = λ v e. let n = settled-number v e in rw (second-is v e) (e, n .0, n .1);
+  }
+
+  -- the walk that a non-empty sheet prints: the best one with the openings listed, of at most 63 steps
+  pub printed-walk : m .phase ≡ Settled NonEmpty → (f : Found) × (shortest (m .rows) (open-claims m) ≡ some f) × Best (m .rows) (open-claims m) f × (length (f .walk) ≤ 63)
+  printed-walk e = let i = settled-is NonEmpty e in let k = subst (λ (x : Machine). SomeWalk (m .rows) (open-claims x)) (sym i) some-walk in
+      let c = k .1 in let b = shortest-best (m .rows) (open-claims m) (record { start = c .0; walk = k .0 }) (c .2, (c .1, c .3, c .4), k .2) in
+      (b .0, b .1, b .2, best-short (m .rows) (open-claims m) (b .0) (w .table .fit) (b .2))
+    where
+      some-walk : SomeWalk (m .rows) (open-claims (after (m .rows) (s .rounds)))
+      some-walk = settled-walk (m .rows) (s .rounds) (s .phase ∙ ap Settled (verdict-is NonEmpty e))
+
+  -- no sheet exceeds 6,400 bytes
+  pub sheet-fits : (v : Verdict) → m .phase ≡ Settled v → length (sheet v m) ≤ 6400
+  sheet-fits v e = let n = settled-number v e .1 in let k : Worked m = subst (Made m) e (w .made) in
+      sheet-short v m (w .table .fit) (omega arith)
+      (omega (arith, w .table .few-sets, ap (λ (x : Machine). length (x .openings)) (k .1), openings-few (m .rows) (k .0)))
+      (λ o i. omega (arith, n, worked-listed k .depths o .0 i .0))
+
+-- demand 3 of the plain machine
+pub every-print : EveryPrint
+every-print cs b size = prints (run fresh cs) (fresh-formed cs b) size

@@ -1,0 +1,123 @@
+-- Whatever calls led to a settled machine, it is the machine that its rows, loaded in one batch, lead to.
+use Prim.Native.Nat.{ℕ, zero, suc, _≤_, _<_, _+_}
+use mathlib.Core.Path.{_≡_, refl, ap, sym, _∙_, subst}
+use mathlib.Core.Bool.{Bool, true, false, cond}
+use mathlib.Core.Logic.{_⊎_, inl, inr, ⊎-elim, _↔_}
+use mathlib.Core.List.{List, [], _∷_, List·Memᴰ·head, List·Memᴰ·tail}
+use lib.Dec.{ltb}
+use lib.ListN.{length, replicate}
+use native.Mathlib.Omega.{arith}
+use native.Mathlib.Decide.{decLt}
+use native.Mathlib.Nat.{eq-or-lt-of-le, le-of-suc-le-suc}
+use Rattle.lists.specs.Tests.{_among_}
+use Rattle.lists.specs.Order.{sort-by}
+use Rattle.lists.proofs.Deciding.{so, ltb·}
+use Rattle.rows.specs.declared.Row.{Row}
+use Rattle.rows.specs.Rows.{row-bytes, batch-of, sets}
+use Rattle.rows.specs.Batch.{Fed, fed, failed, feed}
+use Rattle.orderings.specs.Decide.{accepts?}
+use Rattle.machine.specs.declared.Verdict.{Verdict}
+use Rattle.machine.specs.declared.Phase.{Phase}
+use Rattle.machine.specs.declared.Phase.the-variants.{Open, Running, Settled}
+use Rattle.machine.specs.Machine.{Machine, open-with, fresh, load-row, judged, closed, opened-next, nothing?, next-round, open-claims}
+use Rattle.machine.specs.Calls.{Call, load, close, round, print, Answer, done, wrote, refused, Next, accept, refuse, with-rows, call-in, call, run, Brings, settle, second}
+use Rattle.machine.specs.WellFormed.{Table, after, Worked, Made, WellFormed}
+use Rattle.machine.specs.Demands.{Number, Listed}
+use Rattle.machine.proofs.Settling.{After, after-after, Settles, settles}
+use Rattle.machine.proofs.Openings.{after-listed, openings-few}
+use Rattle.machine.proofs.Tables.{no-rows, load-keeps, withdraw-keeps, sort-table, load-all}
+use Rattle.machine.proofs.Outcomes.{Done, load-done, withdraw-done, close-done, round-done, reopen-done, Comes, comes}
+
+-- a machine that was worked on is made, whatever its judgement
+made-judged : (m : Machine) (b v : Bool) → m .phase ≡ judged b v → Worked m → Made m (m .phase)
+made-judged m b v e w = subst (Made m) (sym e) (by b v)
+  where
+    by : (b v : Bool) → Made m (judged b v)
+    by true v = w
+    by false true = w
+    by false false = w
+
+opened-formed : (rows : List Row) → Table rows → WellFormed (open-with rows)
+opened-formed rows t = record { table = t; made = refl }
+
+closed-formed : (m : Machine) → m .phase ≡ Open → WellFormed m → WellFormed (closed m)
+unfolding closed
+closed-formed m e w = let o : m ≡ open-with (m .rows) = subst (Made m) e (w .made) in
+    record { table = w .table; made = made-judged (closed m) (accepts? (m .rows) []) false refl (0, ap closed o, λ j l. absurd (omega arith)) }
+
+round-formed : (m : Machine) → m .phase ≡ Running → WellFormed m → WellFormed (next-round m)
+unfolding next-round
+round-formed m e w = let k : Worked m = subst (Made m) e (w .made) in
+    record {
+      table = w .table;
+      made = made-judged (next-round m) (accepts? (m .rows) (open-claims (next-round m))) (nothing? (opened-next m)) refl (
+        suc (k .0),
+        ap next-round (k .1),
+        λ j l. ⊎-elim (λ x. subst (λ i. after (m .rows) i .phase ≡ Running) (sym x) (sym (ap (λ (x : Machine). x .phase) (k .1)) ∙ e)) (k .2 j) (eq-or-lt-of-le (le-of-suc-le-suc l)),
+      );
+    }
+
+rows-formed : (m : Machine) (rows : List Row) → m .phase ≡ Open → WellFormed m → Table rows → WellFormed (record { rows = rows; phase = m .phase; openings = m .openings; rounds = m .rounds })
+rows-formed m rows e w t = let o : m ≡ open-with (m .rows) = subst (Made m) e (w .made) in
+    subst WellFormed (ap (λ (x : Machine). record { rows = rows; phase = x .phase; openings = x .openings; rounds = x .rounds }) (sym o)) (opened-formed rows t)
+
+-- every call keeps a machine well formed
+pub call-formed : (m : Machine) (c : Call) → Brings c → WellFormed m → WellFormed (call m c .machine)
+call-formed m c b w = by (call m c .machine) (call m c .answer) (comes m c (call m c .answer) refl)
+  where
+    changed : {c : Call} {m′ : Machine} → Done m c m′ → Brings c → WellFormed m′
+    changed (load-done l rows e f) b = rows-formed m rows e w (load-keeps (m .rows) rows l b (w .table) f)
+    changed (withdraw-done l rows e f) b = rows-formed m rows e w (withdraw-keeps (m .rows) rows l b (w .table) f)
+    changed (close-done e) b = closed-formed m e w
+    changed (round-done e l) b = round-formed m e w
+    changed (reopen-done n) b = opened-formed (m .rows) (w .table)
+
+    by : (m′ : Machine) (a : Answer) → Comes m c m′ a → WellFormed m′
+    by m′ done d = changed d b
+    by m′ (wrote l) p = rw (p .0) w
+    by m′ (refused n place) p = rw (p .0) w
+
+pub run-formed : (m : Machine) (cs : List Call) → ((c : Call) → c among cs → Brings c) → WellFormed m → WellFormed (run m cs)
+run-formed m [] b w = w
+run-formed m (c ∷ cs) b w = run-formed (call m c .machine) cs (λ x i. b x (List·Memᴰ·tail i)) (call-formed m c (b c (List·Memᴰ·head refl)) w)
+
+-- the machines that calls make from a fresh one are well formed
+pub fresh-formed : (cs : List Call) → ((c : Call) → c among cs → Brings c) → WellFormed (run fresh cs)
+fresh-formed cs b = run-formed fresh cs b (opened-formed [] no-rows)
+
+pub not-both : {p : Phase} {v : Verdict} {B : Type 0} → p ≡ Running → p ≡ Settled v → B
+not-both e f = let z : _≡_ {A = ℕ} 0 1 = cc in absurd (omega arith)
+
+-- rounds until settled
+module _ (rows : List Row) (s : Settles rows) where
+  abbrev K : ℕ
+  K = s .rounds
+
+  round-goes : (k : ℕ) → k < K → call (after rows k) round .machine ≡ after rows (suc k)
+  unfolding call-in
+  round-goes k l = let m = after rows k in
+      ap (λ (p : Phase). call-in p m round .machine) (s .before k l)
+      ∙ ap (λ (b : Bool). cond {A = Next} b (accept (next-round m)) (refuse m 13) .machine) (so (ltb· (m .rounds) 129) (omega (arith, after-after rows k .count, s .most)))
+
+  round-stays : call (after rows K) round .machine ≡ after rows K
+  unfolding call-in
+  round-stays = ap (λ (p : Phase). call-in p (after rows K) round .machine) (s .phase)
+
+  run-rounds : (n k : ℕ) → k ≤ K → K ≤ k + n → run (after rows k) (replicate n round) ≡ after rows K
+  run-rounds zero k l h = let e : k ≡ K = omega arith in ap (after rows) e
+  run-rounds (suc n) k l h = ⊎-elim
+      (λ e. ap (λ m. run m (replicate n round)) (subst (λ i. call (after rows i) round .machine ≡ after rows i) (sym e) round-stays) ∙ run-rounds n k l (omega arith))
+      (λ i. ap (λ m. run m (replicate n round)) (round-goes k i) ∙ run-rounds n (suc k) i (omega arith))
+      (eq-or-lt-of-le l)
+
+  -- closed, and settled
+  pub settle-runs : run (open-with rows) settle ≡ after rows K
+  unfolding call-in
+  settle-runs = run-rounds 129 0 (omega arith) (omega (arith, s .most))
+
+  -- a machine that was worked on has done no more rounds, and as many where it is settled
+  pub no-more : (k : ℕ) → ((j : ℕ) → j < k → after rows j .phase ≡ Running) → k ≤ K
+  no-more k f = elim (decLt K k) [ yes l ↦ not-both (f K l) (s .phase) | no n ↦ omega arith ]
+
+  pub as-many : (k : ℕ) (v : Verdict) → after rows k .phase ≡ Settled v → k ≤ K → k ≡ K
+  as-many k v e l = ⊎-elim (λ x. x) (λ i. not-both (s .before k i) e) (eq-or-lt-of-le l)

@@ -1,0 +1,93 @@
+-- What each call comes to, in each phase: it is done, it writes, or it has a cause that refuses it.
+use Prim.Native.Nat.{ℕ, _≤_, _<_}
+use mathlib.Core.Path.{_≡_, refl, subst}
+use mathlib.Core.Bool.{Bool, true, false, cond}
+use mathlib.Core.List.{List}
+use lib.Dec.{ltb}
+use lib.ListN.{length}
+use native.Mathlib.Omega.{arith}
+use Rattle.lists.specs.Tests.{Decides}
+use Rattle.lists.proofs.Deciding.{yes·, no·, ltb·}
+use Rattle.rows.specs.declared.Row.{Row}
+use Rattle.rows.specs.Batch.{Fed, fed, failed, feed}
+use Rattle.rows.proofs.Batch.{feed-fails}
+use Rattle.machine.specs.declared.Phase.{Phase}
+use Rattle.machine.specs.declared.Phase.the-variants.{Open, Running, Settled}
+use Rattle.machine.specs.Machine.{Machine, load-row, withdraw-row, closed, next-round, reopened}
+use Rattle.machine.specs.Calls.{Call, load, withdraw, close, round, reopen, print, save, Answer, done, wrote, refused, Next, accept, refuse-at, with-rows, write, saved, call-in, call, Brings}
+use Rattle.machine.specs.Causes.{NotOpen, running, settled, NeedsOpen, loading, withdrawing, closing, NeedsClosed, reopening, rounding, printing, Writes, sheets, saves, Cause, not-open, load-fails, withdraw-fails, still-open, round-settled, print-running, short-buffer, last-round}
+use Rattle.machine.specs.Sheet.{sheet}
+
+-- the machine with other rows
+abbrev pub rows-to : Machine → List Row → Machine
+rows-to m rows = record { rows = rows; phase = m .phase; openings = m .openings; rounds = m .rounds }
+
+-- the machine after a call that is done, and why it is done
+pub data Done (m : Machine) : Call → Machine → Type 0 where
+  load-done : (l : List ℕ) (rows : List Row) → m .phase ≡ Open → feed load-row (m .rows) l ≡ fed rows → Done m (load l) (rows-to m rows)
+  withdraw-done : (l : List ℕ) (rows : List Row) → m .phase ≡ Open → feed withdraw-row (m .rows) l ≡ fed rows → Done m (withdraw l) (rows-to m rows)
+  close-done : m .phase ≡ Open → Done m close (closed m)
+  round-done : m .phase ≡ Running → m .rounds < 129 → Done m round (next-round m)
+  reopen-done : NotOpen (m .phase) → Done m reopen (reopened m)
+
+-- what a call comes to that leaves the machine m′ and gives an answer: done, text, or a refusal with its cause; only done changes the machine
+abbrev pub Comes : Machine → Call → Machine → Answer → Type 0
+Comes m c m′ done = Done m c m′
+Comes m c m′ (wrote l) = (m′ ≡ m) × (size : ℕ) × Writes m c l size × (length l ≤ size)
+Comes m c m′ (refused n place) = (m′ ≡ m) × (Brings c → Cause m c n place)
+
+abbrev To : Machine → Call → Next → Type 0
+To m c x = Comes m c (x .machine) (x .answer)
+
+module _ (m : Machine) where
+  fed-comes : (c : Call) (x : Fed (List Row)) → ((rows : List Row) → x ≡ fed rows → Done m c (rows-to m rows)) → ((n place : ℕ) → x ≡ failed n place → Brings c → Cause m c n place)
+      → To m c (with-rows m x)
+  fed-comes c (fed rows) f g = f rows refl
+  fed-comes c (failed n place) f g = (refl, g n place refl)
+
+  write-comes : (c : Call) (l : List ℕ) (size : ℕ) → Writes m c l size → To m c (write m size l)
+  write-comes c l size w = by (ltb size (length l)) (ltb· size (length l))
+    where
+      by : (b : Bool) → Decides b (size < length l) → To m c (cond b (refuse-at m 12 0) (record { machine = m; answer = wrote l }))
+      by true d = (refl, λ b. short-buffer c l size w (yes· d))
+      by false d = (refl, size, w, let n = no· d in omega arith)
+
+  round-comes : m .phase ≡ Running → To m round (cond (ltb (m .rounds) 129) (accept (next-round m)) (refuse-at m 13 0))
+  round-comes e = by (ltb (m .rounds) 129) (ltb· (m .rounds) 129)
+    where
+      by : (b : Bool) → Decides b (m .rounds < 129) → To m round (cond b (accept (next-round m)) (refuse-at m 13 0))
+      by true d = round-done e (yes· d)
+      by false d = (refl, λ b. last-round e (let n = no· d in omega arith))
+
+  comes-in : (p : Phase) (c : Call) → m .phase ≡ p → To m c (call-in p m c)
+  unfolding call-in
+  comes-in Open (load l) e = fed-comes (load l) (feed load-row (m .rows) l) (λ rows i. load-done l rows e i) (λ n place i b. load-fails l n place e (feed-fails load-row (m .rows) l n place b .0 i))
+  comes-in Open (withdraw l) e = fed-comes (withdraw l) (feed withdraw-row (m .rows) l) (λ rows i. withdraw-done l rows e i) (λ n place i b. withdraw-fails l n place e (feed-fails withdraw-row (m .rows) l n place b .0 i))
+  comes-in Open close e = close-done e
+  comes-in Open round e = (refl, λ b. still-open round rounding e)
+  comes-in Open reopen e = (refl, λ b. still-open reopen reopening e)
+  comes-in Open (print size) e = (refl, λ b. still-open (print size) (printing size) e)
+  comes-in Open (save size) e = write-comes (save size) (saved m) size (saves size)
+  comes-in Running (load l) e = (refl, λ b. not-open (load l) (loading l) (rw e running))
+  comes-in Running (withdraw l) e = (refl, λ b. not-open (withdraw l) (withdrawing l) (rw e running))
+  comes-in Running close e = (refl, λ b. not-open close closing (rw e running))
+  comes-in Running round e = round-comes e
+  comes-in Running reopen e = reopen-done (rw e running)
+  comes-in Running (print size) e = (refl, λ b. print-running size e)
+  comes-in Running (save size) e = write-comes (save size) (saved m) size (saves size)
+  comes-in (Settled v) (load l) e = (refl, λ b. not-open (load l) (loading l) (rw e (settled v)))
+  comes-in (Settled v) (withdraw l) e = (refl, λ b. not-open (withdraw l) (withdrawing l) (rw e (settled v)))
+  comes-in (Settled v) close e = (refl, λ b. not-open close closing (rw e (settled v)))
+  comes-in (Settled v) round e = (refl, λ b. round-settled v e)
+  comes-in (Settled v) reopen e = reopen-done (rw e (settled v))
+  comes-in (Settled v) (print size) e = write-comes (print size) (sheet v m) size (sheets v size e)
+  comes-in (Settled v) (save size) e = write-comes (save size) (saved m) size (saves size)
+
+  pub comes : (c : Call) (a : Answer) → call m c .answer ≡ a → Comes m c (call m c .machine) a
+  comes c a e = subst (Comes m c (call m c .machine)) e (comes-in (m .phase) c refl)
+
+  pub writes-keep : (c : Call) (l : List ℕ) → call m c .answer ≡ wrote l → call m c .machine ≡ m
+  writes-keep c l e = comes c (wrote l) e .0
+
+  pub refused-keeps : (c : Call) (n place : ℕ) → call m c .answer ≡ refused n place → call m c .machine ≡ m
+  refused-keeps c n place e = comes c (refused n place) e .0

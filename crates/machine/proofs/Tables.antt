@@ -1,0 +1,223 @@
+-- Loading and withdrawing rows: what a row does, what a batch does, and that tables stay tables.
+use Prim.Native.Nat.{ℕ, suc, _≤_, _<_}
+use mathlib.Core.Path.{_≡_, refl, ap, sym, _∙_, subst}
+use mathlib.Core.Bool.{Bool, true, false, not, cond}
+use mathlib.Core.Logic.{_⊎_, inl, inr, ⊎-elim, _↔_}
+use mathlib.Core.List.{List, [], _∷_, _++_, append-assoc, append-nil, List·Memᴰ·head, List·Memᴰ·tail, List·Memᴰ·not-nil, List·Memᴰ·cases-cons, Memᴰ·append-left, Memᴰ·append-right}
+use lib.Dec.{ltb, leb}
+use lib.ListN.{length, length-append}
+use native.Mathlib.Omega.{arith}
+use Rattle.lists.specs.Tests.{Decides, _among_, _part-of_, Once, keep}
+use Rattle.lists.specs.Order.{Sorted, insert-by, sort-by}
+use Rattle.lists.proofs.Deciding.{yes·, no·, ltb·, leb·, not·, keep·, kept}
+use Rattle.lists.proofs.Counting.{once-length, keep-once, keep-length}
+use Rattle.lists.proofs.Sorting.{insert-iff, insert-sorted, insert-length, insert-once, insert-last, sort-iff, sort-sorted, keep-sorted, sorted-mid, once-mid, sorted-same}
+use Rattle.rows.specs.declared.Row.{Row}
+use Rattle.rows.specs.Rows.{row-bytes, batch-of, Fits, AllFit, Bytes, sets-of, sets, same-row, stands?}
+use Rattle.rows.specs.Batch.{Turn, go, stop, Fed, fed, run-rows, feed}
+use Rattle.rows.proofs.Same.{same-row·, stands·}
+use Rattle.rows.proofs.Reading.{bytes-apart}
+use Rattle.rows.proofs.Batch.{feed-runs, feed-batch}
+use Rattle.rows.proofs.Sets.{sets-iff, sets-once, sets-fewer, sets-new}
+use Rattle.machine.specs.Machine.{load-row, withdraw-row}
+use Rattle.machine.specs.Causes.{LoadStops, full, sets-full, WithdrawStops, absent}
+use Rattle.machine.specs.WellFormed.{Table}
+
+pub no-rows : Table []
+unfolding sets
+no-rows = record { sorted = tt; once = tt; fit = λ r m. absurd (List·Memᴰ·not-nil m); few = omega arith; few-sets = omega arith }
+
+-- the rows with one more
+abbrev pub with-row : Row → List Row → List Row
+with-row r rows = insert-by row-bytes r rows
+
+-- what loading a row comes to
+pub data Loads (r : Row) (rows : List Row) : Turn (List Row) → Type 0 where
+  stood : r among rows → Loads r rows (go rows)
+  added : ¬ (r among rows) → length rows < 256 → length (sets (with-row r rows)) ≤ 64 → Loads r rows (go (with-row r rows))
+  no-place : ¬ (r among rows) → 256 ≤ length rows → Loads r rows (stop 6)
+  no-set : ¬ (r among rows) → length rows < 256 → 64 < length (sets (with-row r rows)) → Loads r rows (stop 7)
+
+pub loads : (r : Row) (rows : List Row) → Loads r rows (load-row r rows)
+unfolding load-row
+loads r rows = by (stands? r rows) (ltb (length rows) 256) (leb (length (sets (with-row r rows))) 64) (stands· r rows) (ltb· _ _) (leb· _ _)
+  where
+    by : (a b c : Bool) → Decides a (r among rows) → Decides b (length rows < 256) → Decides c (length (sets (with-row r rows)) ≤ 64)
+        → Loads r rows (cond a (go rows) (cond b (cond c (go (with-row r rows)) (stop 7)) (stop 6)))
+    by true b c p q s = stood (yes· p)
+    by false false c p q s = no-place (no· p) (let n = no· q in omega arith)
+    by false true false p q s = no-set (no· p) (yes· q) (let n = no· s in omega arith)
+    by false true true p q s = added (no· p) (yes· q) (yes· s)
+
+pub load-go : (r : Row) (rows rows′ : List Row) → load-row r rows ≡ go rows′
+    → ((r among rows) × (rows′ ≡ rows)) ⊎ (¬ (r among rows) × (length rows < 256) × (length (sets rows′) ≤ 64) × (rows′ ≡ with-row r rows))
+load-go r rows rows′ e = by (loads r rows) e
+  where
+    by : {x : Turn (List Row)} → Loads r rows x → x ≡ go rows′
+        → ((r among rows) × (rows′ ≡ rows)) ⊎ (¬ (r among rows) × (length rows < 256) × (length (sets rows′) ≤ 64) × (rows′ ≡ with-row r rows))
+    by (stood m) e = inl (m, cc)
+    by (added n l s) e = let i : rows′ ≡ with-row r rows = cc in inr (n, l, rw i s, i)
+    by (no-place n l) e = let z : _≡_ {A = ℕ} 0 1 = cc in absurd (omega arith)
+    by (no-set n l s) e = let z : _≡_ {A = ℕ} 0 1 = cc in absurd (omega arith)
+
+pub load-stops : (r : Row) (rows : List Row) (n : ℕ) → length (sets rows) ≤ 64 → (load-row r rows ≡ stop n) ↔ LoadStops rows r n
+load-stops r rows n h = (to (loads r rows), of (loads r rows))
+  where
+    -- a set that no row has is one more
+    more : (P : ℕ) → P among sets-of r → ¬ (P among sets rows) → length (sets rows) < length (sets (with-row r rows))
+    more P i k = once-length (P ∷ sets rows) (sets (with-row r rows)) (k, sets-once rows) (λ Q m. ⊎-elim
+        (λ e. sets-iff (with-row r rows) Q .1 (r, insert-iff row-bytes r rows r .1 (inl refl), rw e i))
+        (λ j. let s = sets-iff rows Q .0 j in sets-iff (with-row r rows) Q .1 (s .0, insert-iff row-bytes r rows (s .0) .1 (inr (s .1)), s .2))
+        (List·Memᴰ·cases-cons m))
+
+    to : {x : Turn (List Row)} → Loads r rows x → x ≡ stop n → LoadStops rows r n
+    to (stood m) e = let z : _≡_ {A = ℕ} 0 1 = cc in absurd (omega arith)
+    to (added k l s) e = let z : _≡_ {A = ℕ} 0 1 = cc in absurd (omega arith)
+    to (no-place k l) e = let i : n ≡ 6 = cc in rw i (full k l)
+    to (no-set k l s) e = let i : n ≡ 7 = cc in rw i (⊎-elim (λ f. absurd (omega arith)) (λ p. sets-full (p .0) k l (p .1) (p .2) (omega (arith, p .3))) (sets-new rows (with-row r rows) r (insert-iff row-bytes r rows) .1))
+
+    of : {x : Turn (List Row)} {n : ℕ} → Loads r rows x → LoadStops rows r n → x ≡ stop n
+    of (stood m) (full k l) = absurd (k m)
+    of (stood m) (sets-full P k l i j s) = absurd (k m)
+    of (added k l s) (full k′ l′) = absurd (omega arith)
+    of (added k l s) (sets-full P k′ l′ i j s′) = absurd (omega (arith, more P i j))
+    of (no-place k l) (full k′ l′) = refl
+    of (no-place k l) (sets-full P k′ l′ i j s′) = absurd (omega arith)
+    of (no-set k l s) (full k′ l′) = absurd (omega arith)
+    of (no-set k l s) (sets-full P k′ l′ i j s′) = refl
+
+-- the rows without one
+abbrev pub without : Row → List Row → List Row
+without r rows = keep (λ s. not (same-row r s)) rows
+
+-- what withdrawing a row comes to
+pub data Withdraws (r : Row) (rows : List Row) : Turn (List Row) → Type 0 where
+  taken : r among rows → Withdraws r rows (go (without r rows))
+  none : ¬ (r among rows) → Withdraws r rows (stop 8)
+
+pub withdraws : (r : Row) (rows : List Row) → Withdraws r rows (withdraw-row r rows)
+unfolding withdraw-row
+withdraws r rows = by (stands? r rows) (stands· r rows)
+  where
+    by : (a : Bool) → Decides a (r among rows) → Withdraws r rows (cond a (go (without r rows)) (stop 8))
+    by true p = taken (yes· p)
+    by false p = none (no· p)
+
+pub withdraw-go : (r : Row) (rows rows′ : List Row) → withdraw-row r rows ≡ go rows′ → (r among rows) × (rows′ ≡ without r rows)
+withdraw-go r rows rows′ e = by (withdraws r rows) e
+  where
+    by : {x : Turn (List Row)} → Withdraws r rows x → x ≡ go rows′ → (r among rows) × (rows′ ≡ without r rows)
+    by (taken m) e = (m, cc)
+    by (none n) e = let z : _≡_ {A = ℕ} 0 1 = cc in absurd (omega arith)
+
+pub withdraw-stops : (r : Row) (rows : List Row) (n : ℕ) → (withdraw-row r rows ≡ stop n) ↔ WithdrawStops rows r n
+withdraw-stops r rows n = (to (withdraws r rows), of (withdraws r rows))
+  where
+    to : {x : Turn (List Row)} → Withdraws r rows x → x ≡ stop n → WithdrawStops rows r n
+    to (taken m) e = let z : _≡_ {A = ℕ} 0 1 = cc in absurd (omega arith)
+    to (none k) e = let i : n ≡ 8 = cc in rw i (absent k)
+
+    of : {x : Turn (List Row)} {n : ℕ} → Withdraws r rows x → WithdrawStops rows r n → x ≡ stop n
+    of (taken m) (absent k) = absurd (k m)
+    of (none k) (absent k′) = refl
+
+-- what holds of no rows, and of a row and the rows after it where it holds of those, holds of all rows that lead to a state
+module _ {S : Type 0} (rule : Row → S → Turn S) (P : S → List Row → S → Type 0) (end : (s : S) → P s [] s)
+    (more : (r : Row) (rows : List Row) (s u t : S) → rule r s ≡ go u → P u rows t → P s (r ∷ rows) t) where
+  pub run-over : (rows : List Row) (s t : S) → run-rows rule s rows ≡ go t → P s rows t
+  run-over [] s t e = let i : s ≡ t = cc in subst (P s []) i (end s)
+  run-over (r ∷ rows) s t e = by (rule r s) refl e (λ u f. run-over rows u t f)
+    where
+      by : (x : Turn S) → rule r s ≡ x → elim x as (λ y. Turn S) [ go u ↦ run-rows rule u rows | stop n ↦ stop n ] ≡ go t → ((u : S) → run-rows rule u rows ≡ go t → P u rows t) → P s (r ∷ rows) t
+      by (go u) p e below = more r rows s u t p (below u e)
+      by (stop n) p e below = let z : _≡_ {A = ℕ} 0 1 = cc in absurd (omega arith)
+
+-- a rule that keeps tables at each row that fits keeps them over a batch
+feed-keeps : (rule : Row → List Row → Turn (List Row)) → ((r : Row) (rows rows′ : List Row) → Fits r → Table rows → rule r rows ≡ go rows′ → Table rows′)
+    → (rows rows′ : List Row) (l : List ℕ) → Bytes l → Table rows → feed rule rows l ≡ fed rows′ → Table rows′
+feed-keeps rule k rows rows′ l b t e = let o = feed-runs rule rows rows′ l b .0 e in
+    run-over rule (λ s batch u. AllFit batch → Table s → Table u) (λ s f t. t)
+    (λ r batch s u v i below f t. below (λ x m. f x (List·Memᴰ·tail m)) (k r s u (f r (List·Memᴰ·head refl)) t i)) (o .rows) rows rows′ (o .ran) (o .fit) t
+
+pub load-keeps : (rows rows′ : List Row) (l : List ℕ) → Bytes l → Table rows → feed load-row rows l ≡ fed rows′ → Table rows′
+load-keeps = feed-keeps load-row (λ r rows rows′ f t e. ⊎-elim
+    (λ p. rw (p .1) t)
+    (λ p. subst Table (sym (p .3)) (record {
+      sorted = insert-sorted row-bytes r rows (t .sorted);
+      once = insert-once row-bytes r rows (p .0) (t .once);
+      fit = λ x m. ⊎-elim (λ i. rw i f) (t .fit x) (insert-iff row-bytes r rows x .0 m);
+      few = omega (arith, insert-length row-bytes r rows, p .1);
+      few-sets = rw (p .3) at (p .2);
+    }))
+    (load-go r rows rows′ e))
+
+pub withdraw-keeps : (rows rows′ : List Row) (l : List ℕ) → Bytes l → Table rows → feed withdraw-row rows l ≡ fed rows′ → Table rows′
+withdraw-keeps = feed-keeps withdraw-row (λ r rows rows′ f t e. let part : without r rows part-of rows = λ x m. kept _ rows x m in
+    subst Table (sym (withdraw-go r rows rows′ e .1)) (record {
+      sorted = keep-sorted row-bytes _ rows (t .sorted);
+      once = keep-once _ rows (t .once);
+      fit = λ x m. t .fit x (part x m);
+      few = omega (arith, t .few, keep-length (λ s. not (same-row r s)) rows);
+      few-sets = omega (arith, t .few-sets, sets-fewer (without r rows) rows part);
+    }))
+
+-- a batch as a set of rows
+pub load-sets : (rows rows′ batch : List Row) → run-rows load-row rows batch ≡ go rows′ → (r : Row) → r among rows′ ↔ (r among rows ⊎ r among batch)
+load-sets rows rows′ batch e x =
+    run-over load-row (λ s batch t. x among t ↔ (x among s ⊎ x among batch)) (λ s. (inl, ⊎-elim (λ m. m) (λ m. absurd (List·Memᴰ·not-nil m))))
+    (λ r batch s u t i below. let g = one r s u i in (
+      (λ m. ⊎-elim (λ j. ⊎-elim (λ q. inr (List·Memᴰ·head q)) inl (g .0 j)) (λ j. inr (List·Memᴰ·tail j)) (below .0 m)),
+      λ m. below .1 (⊎-elim (λ j. inl (g .1 (inr j))) (λ j. ⊎-elim (λ q. inl (g .1 (inl q))) inr (List·Memᴰ·cases-cons j)) m),
+    )) batch rows rows′ e
+  where
+    one : (r : Row) (s u : List Row) → load-row r s ≡ go u → x among u ↔ ((x ≡ r) ⊎ x among s)
+    one r s u i = ⊎-elim (λ p. rw (p .1) (inr, ⊎-elim (λ q. rw q (p .0)) (λ m. m))) (λ p. rw (p .3) (insert-iff row-bytes r s x)) (load-go r s u i)
+
+pub withdraw-sets : (rows rows′ batch : List Row) → run-rows withdraw-row rows batch ≡ go rows′ → (r : Row) → r among rows′ ↔ (r among rows × ¬ (r among batch))
+withdraw-sets rows rows′ batch e x =
+    run-over withdraw-row (λ s batch t. x among t ↔ (x among s × ¬ (x among batch))) (λ s. ((λ m. (m, λ j. List·Memᴰ·not-nil j)), λ p. p .0))
+    (λ r batch s u t i below. let g = one r s u i in (
+      (λ m. let b = below .0 m in let p = g .0 (b .0) in (p .0, λ j. ⊎-elim (λ q. p .1 (sym q)) (b .1) (List·Memᴰ·cases-cons j))),
+      λ p. below .1 (g .1 (p .0, λ q. p .1 (List·Memᴰ·head (sym q))), λ j. p .1 (List·Memᴰ·tail j)),
+    )) batch rows rows′ e
+  where
+    one : (r : Row) (s u : List Row) → withdraw-row r s ≡ go u → x among u ↔ (x among s × ¬ (r ≡ x))
+    one r s u i = rw (withdraw-go r s u i .1) (keep· (λ y. not· (same-row· r y)) s x)
+
+-- rows that fit are told apart by their bytes
+apart : (a b : List Row) → AllFit a → AllFit b → (x y : Row) → x among a → y among b → row-bytes x ≡ row-bytes y → x ≡ y
+apart a b f g x y i j = bytes-apart x y (f x i) (g y j)
+
+pub same-table : (rows rows′ : List Row) → Table rows → Table rows′ → rows part-of rows′ → rows′ part-of rows → rows ≡ rows′
+same-table a b t u = sorted-same row-bytes a b (apart a b (t .fit) (u .fit)) (t .sorted) (u .sorted) (t .once) (u .once)
+
+sort-once : (rows : List Row) → Once rows → Once (sort-by row-bytes rows)
+sort-once [] o = tt
+sort-once (r ∷ rows) o = insert-once row-bytes r (sort-by row-bytes rows) (λ m. o .0 (sort-iff row-bytes rows r .0 m)) (sort-once rows (o .1))
+
+-- a table is in order
+pub sort-table : (rows : List Row) → Table rows → sort-by row-bytes rows ≡ rows
+sort-table rows t = let a : sort-by row-bytes rows part-of rows = λ x. sort-iff row-bytes rows x .0 in
+    sorted-same row-bytes (sort-by row-bytes rows) rows (apart (sort-by row-bytes rows) rows (λ x m. t .fit x (a x m)) (t .fit))
+    (sort-sorted row-bytes rows) (t .sorted) (sort-once rows (t .once)) (t .once) a (λ x. sort-iff row-bytes rows x .1)
+
+-- the next row of a table goes to the end
+load-next : (l : List Row) (r : Row) (m : List Row) → Table (l ++ (r ∷ m)) → load-row r l ≡ go (l ++ (r ∷ []))
+load-next l r m t = by (loads r l)
+  where
+    fewer : length (sets (with-row r l)) ≤ length (sets (l ++ (r ∷ m)))
+    fewer = sets-fewer (with-row r l) (l ++ (r ∷ m)) (λ x i. ⊎-elim (λ e. Memᴰ·append-right l (List·Memᴰ·head e)) (Memᴰ·append-left (r ∷ m)) (insert-iff row-bytes r l x .0 i))
+
+    by : {x : Turn (List Row)} → Loads r l x → x ≡ go (l ++ (r ∷ []))
+    by (stood i) = absurd (once-mid row-bytes l r m (t .once) i)
+    by (added n k s) = ap go (insert-last row-bytes r l (sorted-mid row-bytes l r m (t .sorted)))
+    by (no-place n k) = absurd (omega (arith, t .few, length-append l (r ∷ m)))
+    by (no-set n k s) = absurd (omega (arith, t .few-sets, fewer))
+
+load-rest : (rest l : List Row) → Table (l ++ rest) → run-rows load-row l rest ≡ go (l ++ rest)
+load-rest [] l t = rw append-nil
+load-rest (r ∷ rest) l t = let a = append-assoc l (r ∷ []) rest in rw (load-next l r rest t, run-rows) (load-rest rest (l ++ (r ∷ [])) (rw a t) ∙ ap go a)
+
+-- the rows of a table, loaded in order
+pub load-all : (rows : List Row) → Table rows → feed load-row [] (batch-of rows) ≡ fed rows
+load-all rows t = feed-batch load-row [] rows (t .fit) rows (load-rest rows [] t)
