@@ -1,3 +1,4 @@
 pub mod Tests
 pub mod Order
 pub mod Growing
+pub mod Writing

@@ -14,16 +14,15 @@ use Rattle.lists.specs.Order.{sort-by}
 use Rattle.lists.proofs.Deciding.{not-so, ltb·}
 use Rattle.rows.specs.declared.Row.{Row}
 use Rattle.rows.specs.Rows.{row-bytes, batch-of}
-use Rattle.rows.specs.Batch.{Fed, fed, feed}
 use Rattle.machine.specs.declared.Verdict.{Verdict}
 use Rattle.machine.specs.declared.Verdict.the-variants.{NonEmpty}
 use Rattle.machine.specs.declared.Phase.{Phase}
 use Rattle.machine.specs.declared.Phase.the-variants.{Open, Running, Settled}
-use Rattle.machine.specs.Machine.{Machine, open-with, fresh, load-row, open-claims}
+use Rattle.machine.specs.Machine.{Machine, open-with, fresh, open-claims}
 use Rattle.machine.specs.Order.{Found, Best}
 use Rattle.machine.specs.Search.{shortest}
 use Rattle.machine.specs.Sheet.{sheet}
-use Rattle.machine.specs.Calls.{Call, load, round, print, Answer, wrote, refused, Next, refuse, with-rows, write, call-in, call, run, settle, second}
+use Rattle.machine.specs.Calls.{Call, load, round, print, Answer, wrote, refused, Next, refuse, call-in, call, run, settle, second, Brings}
 use Rattle.machine.specs.Causes.{NotOpen, running, settled, Writes, sheets}
 use Rattle.machine.specs.WellFormed.{Table, after, Worked, Made, WellFormed}
 use Rattle.machine.specs.Demands.{SomeWalk, Number, Listed, Prints, EveryPrint}
@@ -32,14 +31,14 @@ use Rattle.machine.proofs.Openings.{after-listed, openings-few}
 use Rattle.machine.proofs.Search.{shortest-best}
 use Rattle.machine.proofs.Walks.{best-short}
 use Rattle.machine.proofs.Sheet.{sheet-short}
-use Rattle.machine.proofs.Tables.{sort-table, load-all}
+use Rattle.machine.proofs.Loading.{loads-back}
+use Rattle.machine.proofs.Causes.{refusals, only-rounds}
 use Rattle.machine.proofs.Outcomes.{comes}
 use Rattle.machine.proofs.History.{fresh-formed, settle-runs, no-more, as-many, not-both}
 
 -- a table of rows, loaded in one batch, sorted
-pub load-table : (rows : List Row) → Table rows → call fresh (load (batch-of (sort-by row-bytes rows))) .machine ≡ open-with rows
-unfolding call-in
-load-table rows t = ap (λ (x : Fed (List Row)). with-rows fresh x .machine) (ap (λ l. feed load-row [] (batch-of l)) (sort-table rows t) ∙ load-all rows t)
+pub load-sorted : (rows : List Row) → Table rows → call fresh (load (batch-of (sort-by row-bytes rows))) .machine ≡ open-with rows
+load-sorted rows t = ap (λ (x : Next). x .machine) (loads-back (open-with rows) t)
 
 -- what a machine writes when it prints
 print-writes : (m : Machine) {size k : ℕ} {l : List ℕ} → Writes m (print size) l k → (v : Verdict) × (m .phase ≡ Settled v) × (l ≡ sheet v m) × (k ≡ size)
@@ -67,7 +66,7 @@ module _ (m : Machine) (w : WellFormed m) where
   -- the second machine is the first
   pub second-is : (v : Verdict) → m .phase ≡ Settled v → second (m .rows) ≡ m
   unfolding second
-  second-is v e = ap (λ x. run x settle) (load-table (m .rows) (w .table)) ∙ settle-runs (m .rows) s ∙ sym (settled-is v e)
+  second-is v e = ap (λ x. run x settle) (load-sorted (m .rows) (w .table)) ∙ settle-runs (m .rows) s ∙ sym (settled-is v e)
 
   -- a 130th round is never done
   pub never-130th : m .phase ≡ Running → m .rounds < 129
@@ -77,10 +76,13 @@ module _ (m : Machine) (w : WellFormed m) where
       ⊎-elim (λ i. not-both f (subst (λ j. after (m .rows) j .phase ≡ Settled (s .verdict)) (sym i) (s .phase))) (λ l. omega (arith, s .most))
       (eq-or-lt-of-le (no-more (m .rows) s (k .0) (k .2)))
 
+  pub no-13 : (c : Call) (place : ℕ) → Brings c → ¬ (call m c .answer ≡ refused 13 place)
+  no-13 c place b e = let h = only-rounds m c 13 place (w .table) refl (refusals m c 13 place b .0 e) in omega (arith, never-130th (h .0), h .1)
+
   pub worked-listed : Worked m → Listed m
   worked-listed k = subst Listed (sym (k .1)) (after-listed (m .rows) (k .0))
 
-  print-accepts : (size : ℕ) (v : Verdict) → m .phase ≡ Settled v → length (sheet v m) ≤ size → call m (print size) .answer ≡ wrote (sheet v m)
+  pub print-accepts : (size : ℕ) (v : Verdict) → m .phase ≡ Settled v → length (sheet v m) ≤ size → call m (print size) .answer ≡ wrote (sheet v m)
   unfolding call-in
   print-accepts size v e h = ap (λ (p : Phase). call-in p m (print size) .answer) e
       ∙ ap (λ (b : Bool). cond {A = Next} b (refuse m 12) (record { machine = m; answer = wrote (sheet v m) }) .answer) (not-so (ltb· size (length (sheet v m))) (λ l. omega arith))

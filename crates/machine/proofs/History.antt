@@ -25,7 +25,7 @@ use Rattle.machine.specs.WellFormed.{Table, after, Worked, Made, WellFor
 use Rattle.machine.specs.Demands.{Number, Listed}
 use Rattle.machine.proofs.Settling.{After, after-after, Settles, settles}
 use Rattle.machine.proofs.Openings.{after-listed, openings-few}
-use Rattle.machine.proofs.Tables.{no-rows, load-keeps, withdraw-keeps, sort-table, load-all}
+use Rattle.machine.proofs.Tables.{no-rows, load-keeps, withdraw-keeps}
 use Rattle.machine.proofs.Outcomes.{Done, load-done, withdraw-done, close-done, round-done, reopen-done, Comes, comes}
 
 -- a machine that was worked on is made, whatever its judgement
@@ -37,7 +37,7 @@ made-judged m b v e w = subst (Made m) (sym e) (by b v)
     by false true = w
     by false false = w
 
-opened-formed : (rows : List Row) → Table rows → WellFormed (open-with rows)
+pub opened-formed : (rows : List Row) → Table rows → WellFormed (open-with rows)
 opened-formed rows t = record { table = t; made = refl }
 
 closed-formed : (m : Machine) → m .phase ≡ Open → WellFormed m → WellFormed (closed m)

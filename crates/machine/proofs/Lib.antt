@@ -8,5 +8,8 @@ pub mod Text
 pub mod Sheet
 pub mod Tables
 pub mod Outcomes
+pub mod Loading
+pub mod Causes
 pub mod History
 pub mod Demands
+pub mod Program

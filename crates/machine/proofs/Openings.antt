@@ -108,5 +108,9 @@ module _ (rows : List Row) where
   -- at most two for each set
   pub openings-few : (k : ℕ) → length (after rows k .openings) ≤ length (sets rows) + length (sets rows)
   openings-few k = let a = after-after rows k in
-      omega (arith, length-map (after rows k .openings) (λ (o : Opening). o .claim), claims-length rows,
-      once-length (open-claims (after rows k)) (claims rows) (ordered k .1) (λ c m. claims-iff rows c .1 (open-subject rows k c (a .claims c .0 m))))
+      omega (
+        arith,
+        length-map (after rows k .openings) (λ (o : Opening). o .claim),
+        claims-length rows,
+        once-length (open-claims (after rows k)) (claims rows) (ordered k .1) (λ c m. claims-iff rows c .1 (open-subject rows k c (a .claims c .0 m))),
+      )

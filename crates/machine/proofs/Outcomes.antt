@@ -1,6 +1,6 @@
 -- What each call comes to, in each phase: it is done, it writes, or it has a cause that refuses it.
 use Prim.Native.Nat.{ℕ, _≤_, _<_}
-use mathlib.Core.Path.{_≡_, refl, subst}
+use mathlib.Core.Path.{_≡_, refl, ap, subst}
 use mathlib.Core.Bool.{Bool, true, false, cond}
 use mathlib.Core.List.{List}
 use lib.Dec.{ltb}
@@ -15,7 +15,7 @@ use Rattle.machine.specs.declared.Phase.{Phase}
 use Rattle.machine.specs.declared.Phase.the-variants.{Open, Running, Settled}
 use Rattle.machine.specs.Machine.{Machine, load-row, withdraw-row, closed, next-round, reopened}
 use Rattle.machine.specs.Calls.{Call, load, withdraw, close, round, reopen, print, save, Answer, done, wrote, refused, Next, accept, refuse-at, with-rows, write, saved, call-in, call, Brings}
-use Rattle.machine.specs.Causes.{NotOpen, running, settled, NeedsOpen, loading, withdrawing, closing, NeedsClosed, reopening, rounding, printing, Writes, sheets, saves, Cause, not-open, load-fails, withdraw-fails, still-open, round-settled, print-running, short-buffer, last-round}
+use Rattle.machine.specs.Causes.{NotOpen, running, settled, loading, withdrawing, closing, reopening, rounding, printing, Writes, sheets, saves, Cause, not-open, load-fails, withdraw-fails, still-open, round-settled, print-running, short-buffer, last-round}
 use Rattle.machine.specs.Sheet.{sheet}
 
 -- the machine with other rows
@@ -91,3 +91,14 @@ module _ (m : Machine) where
 
   pub refused-keeps : (c : Call) (n place : ℕ) → call m c .answer ≡ refused n place → call m c .machine ≡ m
   refused-keeps c n place e = comes c (refused n place) e .0
+
+  -- what a call that writes comes to
+  pub writing : {c : Call} {l : List ℕ} {size : ℕ} → Writes m c l size → call m c ≡ write m size l
+  unfolding call-in
+  writing (sheets v size e) = ap (λ (p : Phase). call-in p m (print size)) e
+  writing (saves size) = by (m .phase)
+    where
+      by : (p : Phase) → call-in p m (save size) ≡ write m size (saved m)
+      by Open = refl
+      by Running = refl
+      by (Settled v) = refl

@@ -1,5 +1,5 @@
 -- Loading and withdrawing rows: what a row does, what a batch does, and that tables stay tables.
-use Prim.Native.Nat.{ℕ, suc, _≤_, _<_}
+use Prim.Native.Nat.{ℕ, _≤_, _<_}
 use mathlib.Core.Path.{_≡_, refl, ap, sym, _∙_, subst}
 use mathlib.Core.Bool.{Bool, true, false, not, cond}
 use mathlib.Core.Logic.{_⊎_, inl, inr, ⊎-elim, _↔_}
@@ -8,13 +8,13 @@ use lib.Dec.{ltb, leb}
 use lib.ListN.{length, length-append}
 use native.Mathlib.Omega.{arith}
 use Rattle.lists.specs.Tests.{Decides, _among_, _part-of_, Once, keep}
-use Rattle.lists.specs.Order.{Sorted, insert-by, sort-by}
-use Rattle.lists.proofs.Deciding.{yes·, no·, ltb·, leb·, not·, keep·, kept}
+use Rattle.lists.specs.Order.{insert-by, sort-by}
+use Rattle.lists.proofs.Deciding.{so, not-so, yes·, no·, ltb·, leb·, not·, keep·, kept}
 use Rattle.lists.proofs.Counting.{once-length, keep-once, keep-length}
 use Rattle.lists.proofs.Sorting.{insert-iff, insert-sorted, insert-length, insert-once, insert-last, sort-iff, sort-sorted, keep-sorted, sorted-mid, once-mid, sorted-same}
 use Rattle.rows.specs.declared.Row.{Row}
 use Rattle.rows.specs.Rows.{row-bytes, batch-of, Fits, AllFit, Bytes, sets-of, sets, same-row, stands?}
-use Rattle.rows.specs.Batch.{Turn, go, stop, Fed, fed, run-rows, feed}
+use Rattle.rows.specs.Batch.{Turn, go, stop, fed, run-rows, feed}
 use Rattle.rows.proofs.Same.{same-row·, stands·}
 use Rattle.rows.proofs.Reading.{bytes-apart}
 use Rattle.rows.proofs.Batch.{feed-runs, feed-batch}
@@ -32,36 +32,38 @@ abbrev pub with-row : Row → List Row → List Row
 with-row r rows = insert-by row-bytes r rows
 
 -- what loading a row comes to
-pub data Loads (r : Row) (rows : List Row) : Turn (List Row) → Type 0 where
-  stood : r among rows → Loads r rows (go rows)
-  added : ¬ (r among rows) → length rows < 256 → length (sets (with-row r rows)) ≤ 64 → Loads r rows (go (with-row r rows))
-  no-place : ¬ (r among rows) → 256 ≤ length rows → Loads r rows (stop 6)
-  no-set : ¬ (r among rows) → length rows < 256 → 64 < length (sets (with-row r rows)) → Loads r rows (stop 7)
+abbrev pub Loads : Row → List Row → Turn (List Row) → Type 0
+Loads r rows (go rows′) = ((r among rows) × (rows′ ≡ rows)) ⊎ (¬ (r among rows) × (length rows < 256) × (length (sets rows′) ≤ 64) × (rows′ ≡ with-row r rows))
+Loads r rows (stop n) = length (sets rows) ≤ 64 → LoadStops rows r n
 
-pub loads : (r : Row) (rows : List Row) → Loads r rows (load-row r rows)
+loads : (r : Row) (rows : List Row) → Loads r rows (load-row r rows)
 unfolding load-row
 loads r rows = by (stands? r rows) (ltb (length rows) 256) (leb (length (sets (with-row r rows))) 64) (stands· r rows) (ltb· _ _) (leb· _ _)
   where
     by : (a b c : Bool) → Decides a (r among rows) → Decides b (length rows < 256) → Decides c (length (sets (with-row r rows)) ≤ 64)
         → Loads r rows (cond a (go rows) (cond b (cond c (go (with-row r rows)) (stop 7)) (stop 6)))
-    by true b c p q s = stood (yes· p)
-    by false false c p q s = no-place (no· p) (let n = no· q in omega arith)
-    by false true false p q s = no-set (no· p) (yes· q) (let n = no· s in omega arith)
-    by false true true p q s = added (no· p) (yes· q) (yes· s)
+    by true b c p q s = inl (yes· p, refl)
+    by false true true p q s = inr (no· p, yes· q, yes· s, refl)
+    by false false c p q s = λ h. let n = no· q in full (no· p) (omega arith)
+    by false true false p q s = λ h. let n = no· s in ⊎-elim (λ e. absurd (omega arith)) (λ x. sets-full (x .0) (no· p) (yes· q) (x .1) (x .2) (omega (arith, x .3)))
+        (sets-new rows (with-row r rows) r (insert-iff row-bytes r rows) .1)
 
-pub load-go : (r : Row) (rows rows′ : List Row) → load-row r rows ≡ go rows′
-    → ((r among rows) × (rows′ ≡ rows)) ⊎ (¬ (r among rows) × (length rows < 256) × (length (sets rows′) ≤ 64) × (rows′ ≡ with-row r rows))
-load-go r rows rows′ e = by (loads r rows) e
-  where
-    by : {x : Turn (List Row)} → Loads r rows x → x ≡ go rows′
-        → ((r among rows) × (rows′ ≡ rows)) ⊎ (¬ (r among rows) × (length rows < 256) × (length (sets rows′) ≤ 64) × (rows′ ≡ with-row r rows))
-    by (stood m) e = inl (m, cc)
-    by (added n l s) e = let i : rows′ ≡ with-row r rows = cc in inr (n, l, rw i s, i)
-    by (no-place n l) e = let z : _≡_ {A = ℕ} 0 1 = cc in absurd (omega arith)
-    by (no-set n l s) e = let z : _≡_ {A = ℕ} 0 1 = cc in absurd (omega arith)
+pub load-go : (r : Row) (rows rows′ : List Row) → load-row r rows ≡ go rows′ → Loads r rows (go rows′)
+load-go r rows rows′ e = subst (Loads r rows) e (loads r rows)
+
+-- a row that stands
+pub load-same : (r : Row) (rows : List Row) → r among rows → load-row r rows ≡ go rows
+unfolding load-row
+load-same r rows m = rw (so (stands· r rows) m)
+
+-- a row for which there is room
+pub load-new : (r : Row) (rows : List Row) → ¬ (r among rows) → length rows < 256 → length (sets (with-row r rows)) ≤ 64 → load-row r rows ≡ go (with-row r rows)
+unfolding load-row
+load-new r rows n k s = rw (not-so (stands· r rows) n, so (ltb· (length rows) 256) k, so (leb· (length (sets (with-row r rows))) 64) s)
 
 pub load-stops : (r : Row) (rows : List Row) (n : ℕ) → length (sets rows) ≤ 64 → (load-row r rows ≡ stop n) ↔ LoadStops rows r n
-load-stops r rows n h = (to (loads r rows), of (loads r rows))
+unfolding load-row
+load-stops r rows n h = ((λ e. subst (Loads r rows) e (loads r rows) h), of)
   where
     -- a set that no row has is one more
     more : (P : ℕ) → P among sets-of r → ¬ (P among sets rows) → length (sets rows) < length (sets (with-row r rows))
@@ -70,56 +72,37 @@ load-stops r rows n h = (to (loads r rows), of (loads r rows))
         (λ j. let s = sets-iff rows Q .0 j in sets-iff (with-row r rows) Q .1 (s .0, insert-iff row-bytes r rows (s .0) .1 (inr (s .1)), s .2))
         (List·Memᴰ·cases-cons m))
 
-    to : {x : Turn (List Row)} → Loads r rows x → x ≡ stop n → LoadStops rows r n
-    to (stood m) e = let z : _≡_ {A = ℕ} 0 1 = cc in absurd (omega arith)
-    to (added k l s) e = let z : _≡_ {A = ℕ} 0 1 = cc in absurd (omega arith)
-    to (no-place k l) e = let i : n ≡ 6 = cc in rw i (full k l)
-    to (no-set k l s) e = let i : n ≡ 7 = cc in rw i (⊎-elim (λ f. absurd (omega arith)) (λ p. sets-full (p .0) k l (p .1) (p .2) (omega (arith, p .3))) (sets-new rows (with-row r rows) r (insert-iff row-bytes r rows) .1))
-
-    of : {x : Turn (List Row)} {n : ℕ} → Loads r rows x → LoadStops rows r n → x ≡ stop n
-    of (stood m) (full k l) = absurd (k m)
-    of (stood m) (sets-full P k l i j s) = absurd (k m)
-    of (added k l s) (full k′ l′) = absurd (omega arith)
-    of (added k l s) (sets-full P k′ l′ i j s′) = absurd (omega (arith, more P i j))
-    of (no-place k l) (full k′ l′) = refl
-    of (no-place k l) (sets-full P k′ l′ i j s′) = absurd (omega arith)
-    of (no-set k l s) (full k′ l′) = absurd (omega arith)
-    of (no-set k l s) (sets-full P k′ l′ i j s′) = refl
+    of : {n : ℕ} → LoadStops rows r n → load-row r rows ≡ stop n
+    of (full k l) = rw (not-so (stands· r rows) k, not-so (ltb· (length rows) 256) (λ i. omega arith))
+    of (sets-full P k l i j s) =
+        rw (not-so (stands· r rows) k, so (ltb· (length rows) 256) l, not-so (leb· (length (sets (with-row r rows))) 64) (λ q. omega (arith, more P i j)))
 
 -- the rows without one
 abbrev pub without : Row → List Row → List Row
 without r rows = keep (λ s. not (same-row r s)) rows
 
 -- what withdrawing a row comes to
-pub data Withdraws (r : Row) (rows : List Row) : Turn (List Row) → Type 0 where
-  taken : r among rows → Withdraws r rows (go (without r rows))
-  none : ¬ (r among rows) → Withdraws r rows (stop 8)
+abbrev pub Withdraws : Row → List Row → Turn (List Row) → Type 0
+Withdraws r rows (go rows′) = (r among rows) × (rows′ ≡ without r rows)
+Withdraws r rows (stop n) = WithdrawStops rows r n
 
-pub withdraws : (r : Row) (rows : List Row) → Withdraws r rows (withdraw-row r rows)
+withdraws : (r : Row) (rows : List Row) → Withdraws r rows (withdraw-row r rows)
 unfolding withdraw-row
 withdraws r rows = by (stands? r rows) (stands· r rows)
   where
     by : (a : Bool) → Decides a (r among rows) → Withdraws r rows (cond a (go (without r rows)) (stop 8))
-    by true p = taken (yes· p)
-    by false p = none (no· p)
+    by true p = (yes· p, refl)
+    by false p = absent (no· p)
 
-pub withdraw-go : (r : Row) (rows rows′ : List Row) → withdraw-row r rows ≡ go rows′ → (r among rows) × (rows′ ≡ without r rows)
-withdraw-go r rows rows′ e = by (withdraws r rows) e
-  where
-    by : {x : Turn (List Row)} → Withdraws r rows x → x ≡ go rows′ → (r among rows) × (rows′ ≡ without r rows)
-    by (taken m) e = (m, cc)
-    by (none n) e = let z : _≡_ {A = ℕ} 0 1 = cc in absurd (omega arith)
+pub withdraw-go : (r : Row) (rows rows′ : List Row) → withdraw-row r rows ≡ go rows′ → Withdraws r rows (go rows′)
+withdraw-go r rows rows′ e = subst (Withdraws r rows) e (withdraws r rows)
 
 pub withdraw-stops : (r : Row) (rows : List Row) (n : ℕ) → (withdraw-row r rows ≡ stop n) ↔ WithdrawStops rows r n
-withdraw-stops r rows n = (to (withdraws r rows), of (withdraws r rows))
+unfolding withdraw-row
+withdraw-stops r rows n = ((λ e. subst (Withdraws r rows) e (withdraws r rows)), of)
   where
-    to : {x : Turn (List Row)} → Withdraws r rows x → x ≡ stop n → WithdrawStops rows r n
-    to (taken m) e = let z : _≡_ {A = ℕ} 0 1 = cc in absurd (omega arith)
-    to (none k) e = let i : n ≡ 8 = cc in rw i (absent k)
-
-    of : {x : Turn (List Row)} {n : ℕ} → Withdraws r rows x → WithdrawStops rows r n → x ≡ stop n
-    of (taken m) (absent k) = absurd (k m)
-    of (none k) (absent k′) = refl
+    of : {n : ℕ} → WithdrawStops rows r n → withdraw-row r rows ≡ stop n
+    of (absent k) = rw (not-so (stands· r rows) k)
 
 -- what holds of no rows, and of a row and the rows after it where it holds of those, holds of all rows that lead to a state
 module _ {S : Type 0} (rule : Row → S → Turn S) (P : S → List Row → S → Type 0) (end : (s : S) → P s [] s)
@@ -203,16 +186,11 @@ sort-table rows t = let a : sort-by row-bytes rows part-of rows = λ x. sort-iff
 
 -- the next row of a table goes to the end
 load-next : (l : List Row) (r : Row) (m : List Row) → Table (l ++ (r ∷ m)) → load-row r l ≡ go (l ++ (r ∷ []))
-load-next l r m t = by (loads r l)
+load-next l r m t = load-new r l (once-mid row-bytes l r m (t .once)) (omega (arith, t .few, length-append l (r ∷ m))) (omega (arith, t .few-sets, fewer))
+    ∙ ap go (insert-last row-bytes r l (sorted-mid row-bytes l r m (t .sorted)))
   where
     fewer : length (sets (with-row r l)) ≤ length (sets (l ++ (r ∷ m)))
     fewer = sets-fewer (with-row r l) (l ++ (r ∷ m)) (λ x i. ⊎-elim (λ e. Memᴰ·append-right l (List·Memᴰ·head e)) (Memᴰ·append-left (r ∷ m)) (insert-iff row-bytes r l x .0 i))
-
-    by : {x : Turn (List Row)} → Loads r l x → x ≡ go (l ++ (r ∷ []))
-    by (stood i) = absurd (once-mid row-bytes l r m (t .once) i)
-    by (added n k s) = ap go (insert-last row-bytes r l (sorted-mid row-bytes l r m (t .sorted)))
-    by (no-place n k) = absurd (omega (arith, t .few, length-append l (r ∷ m)))
-    by (no-set n k s) = absurd (omega (arith, t .few-sets, fewer))
 
 load-rest : (rest l : List Row) → Table (l ++ rest) → run-rows load-row l rest ≡ go (l ++ rest)
 load-rest [] l t = rw append-nil

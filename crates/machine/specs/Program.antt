@@ -1,13 +1,17 @@
 -- Document 01, "Sheets to check": the program `sheet`, from the bytes of standard input to those of standard output.
-use Prim.Native.Nat.{ℕ}
+use Prim.Native.Nat.{ℕ, _≤_, _<_}
+use mathlib.Core.Path.{_≡_}
 use mathlib.Core.Bool.{true, false}
 use mathlib.Core.List.{List, [], _++_}
 use lib.Dec.{ltb}
 use lib.ListN.{length}
+use Rattle.machine.specs.declared.Verdict.{Verdict}
+use Rattle.machine.specs.declared.Phase.the-variants.{Settled}
 use Rattle.machine.specs.Machine.{Machine, fresh}
 use Rattle.machine.specs.Text.{text, number-text}
-use Rattle.machine.specs.Sheet.{line}
-use Rattle.machine.specs.Calls.{load, print, Answer, done, wrote, refused, Next, call, run, settle}
+use Rattle.machine.specs.Sheet.{line, sheet}
+use Rattle.machine.specs.Calls.{load, print, Answer, done, wrote, refused, Next, call, run, settle, second}
+use Rattle.machine.specs.Causes.{Cause}
 
 -- a refusal prints the line `refused N at PLACE`
 abbrev pub refusal-line : ℕ → ℕ → List ℕ
@@ -19,13 +23,17 @@ shown (wrote l) = l
 shown (refused n place) = refusal-line n place
 
 -- after an accepted load: closes, does rounds until settled and prints the sheet
-abbrev pub finished : Next → List ℕ
-finished n = elim (n .answer) [
-  | done ↦ shown (call (run (n .machine) settle) (print 6400) .answer)
-  | wrote l ↦ l
-  | refused c place ↦ refusal-line c place
-]
+unfoldable pub finish : Machine → Answer → List ℕ
+finish m done = shown (call (run m settle) (print 6400) .answer)
+finish m (wrote l) = l
+finish m (refused n place) = refusal-line n place
 
 -- one batch of at most 65,536 bytes; longer input prints the line `too long`
 unfoldable pub program : List ℕ → List ℕ
-program l = elim (ltb 65536 (length l)) [ true ↦ line (text "too long") | false ↦ finished (call fresh (load l)) ]
+program l = elim (ltb 65536 (length l)) [ true ↦ line (text "too long") | false ↦ finish (call fresh (load l) .machine) (call fresh (load l) .answer) ]
+
+-- what the program writes for each input: `too long`, the line of the cause that refuses the batch, or the sheet of its rows
+pub data Shows (l : List ℕ) : List ℕ → Type 0 where
+  too-long : 65536 < length l → Shows l (line (text "too long"))
+  refusal : (n place : ℕ) → length l ≤ 65536 → Cause fresh (load l) n place → Shows l (refusal-line n place)
+  sheet-of : (m : Machine) (v : Verdict) → length l ≤ 65536 → call fresh (load l) ≡ record { machine = m; answer = done } → second (m .rows) .phase ≡ Settled v → Shows l (sheet v (second (m .rows)))
