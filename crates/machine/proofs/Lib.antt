@@ -1,4 +1,5 @@
 pub mod Cases
+pub mod Further
 pub mod Rounding
 pub mod Settling
 pub mod Openings

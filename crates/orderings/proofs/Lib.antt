@@ -5,3 +5,4 @@ pub mod Timelines
 pub mod Reach
 pub mod Deciding
 pub mod Claims
+pub mod Drift

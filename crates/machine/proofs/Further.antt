@@ -1,0 +1,74 @@
+-- Further sheets, computed: the order of openings, each place of the order of walks, and refusals.
+use Prim.Native.Nat.{ℕ}
+use mathlib.Core.Path.{_≡_, refl}
+use mathlib.Core.List.{List, [], _∷_, _++_}
+use native.Mathlib.Decide.{ℕ-discrete}
+use Rattle.masks.specs.Mask.{member}
+use Rattle.rows.specs.declared.Row.{Row}
+use Rattle.rows.specs.declared.Row.the-variants.{Initial, Final, Successor, LeftLimit, RightLimit}
+use Rattle.rows.specs.Rows.{row-bytes, batch-of, sets, same-row}
+use Rattle.rows.specs.Reading.{set-at, state-row, step-row, limit-row, kind-row, read-row}
+use Rattle.rows.specs.Batch.{on-turn, on-read, feed-from, feed}
+use Rattle.orderings.specs.Steps.{members}
+use Rattle.orderings.specs.Decide.{reach, holds?, accepts?}
+use Rattle.machine.specs.Machine.{fresh, load-row, withdraw-row, closed, opened-next, next-round}
+use Rattle.machine.specs.Search.{walk-of, least, shortest}
+use Rattle.machine.specs.Text.{text, hex, decimal}
+use Rattle.machine.specs.Sheet.{sheet}
+use Rattle.machine.specs.Calls.{Call, load, withdraw, close, round, reopen, print, save, Answer, done, wrote, refused, call-in, call, run}
+use Rattle.machine.specs.Program.{finish, program}
+
+abbrev on-rows : List Row → List ℕ
+on-rows rows = program (batch-of rows)
+
+-- by round, then set, then loop before mix; sets compare as numbers, with bit 63 too
+pub openings : on-rows (Initial 0 ∷ Final 5 ∷ Successor 0 7 0 ∷ Successor 1 7 1 ∷ Successor 63 7 63 ∷ LeftLimit 9223372036854775808 63 ∷ RightLimit 0 1 ∷ LeftLimit 1 0 ∷ LeftLimit 2 1 ∷ [])
+    ≡ text "verdict empty rounds 2\nopen 1 loop 0000000000000001\nopen 1 mix 0000000000000001\nopen 1 loop 0000000000000002\nopen 1 loop 8000000000000000\n"
+unfolding ℕ-discrete member row-bytes sets same-row set-at state-row step-row limit-row kind-row read-row on-turn on-read feed-from feed members reach holds? accepts? load-row closed opened-next next-round walk-of least shortest hex decimal sheet call-in finish program
+openings = refl
+
+-- what each table below shares: the sets {0}, {1} and {2} loop and mix
+abbrev three : List Row
+three = Successor 0 7 0 ∷ Successor 1 7 1 ∷ Successor 2 7 2 ∷ []
+
+-- omega before back before mix
+pub kinds : (on-rows (Initial 0 ∷ Final 1 ∷ RightLimit 0 4 ∷ LeftLimit 4 1 ∷ RightLimit 2 4 ∷ LeftLimit 4 2 ∷ RightLimit 0 2 ∷ LeftLimit 1 1 ∷ three)
+    ≡ text "verdict nonempty rounds 1\nopen 1 loop 0000000000000001\nopen 1 loop 0000000000000002\nopen 1 loop 0000000000000004\nopen 1 mix 0000000000000004\nstart 0\nstep omega 0000000000000001 to 1\n")
+    × (on-rows (Initial 0 ∷ Final 1 ∷ RightLimit 0 4 ∷ LeftLimit 4 1 ∷ RightLimit 2 4 ∷ LeftLimit 4 2 ∷ RightLimit 0 2 ∷ three)
+    ≡ text "verdict nonempty rounds 1\nopen 1 loop 0000000000000002\nopen 1 loop 0000000000000004\nopen 1 mix 0000000000000004\nstart 0\nstep back 0000000000000002 to 1\n")
+unfolding ℕ-discrete member row-bytes sets same-row set-at state-row step-row limit-row kind-row read-row on-turn on-read feed-from feed members reach holds? accepts? load-row closed opened-next next-round walk-of least shortest hex decimal sheet call-in finish program
+kinds = (refl, refl)
+
+-- lower start; letter before omega, lower letter, lower target, lower set
+pub ties : (on-rows (Initial 1 ∷ Initial 0 ∷ Final 2 ∷ Successor 0 7 0 ∷ LeftLimit 3 2 ∷ Successor 0 7 1 ∷ Successor 1 7 0 ∷ []) ≡ text "verdict nonempty rounds 1\nopen 1 loop 0000000000000003\nstart 0\nstep omega 0000000000000003 to 2\n")
+    × (on-rows (Initial 0 ∷ Final 3 ∷ Successor 0 7 0 ∷ LeftLimit 1 1 ∷ Successor 0 9 1 ∷ Successor 0 4 2 ∷ Successor 0 4 1 ∷ Successor 1 7 1 ∷ LeftLimit 2 3 ∷ Successor 2 7 2 ∷ LeftLimit 4 3 ∷ [])
+    ≡ text "verdict nonempty rounds 1\nopen 1 loop 0000000000000001\nopen 1 loop 0000000000000002\nopen 1 loop 0000000000000004\nstart 0\nstep letter 4 to 1\nstep omega 0000000000000002 to 3\n")
+    × (on-rows (Initial 0 ∷ Final 3 ∷ Successor 0 7 0 ∷ Successor 0 7 1 ∷ Successor 1 7 0 ∷ LeftLimit 3 3 ∷ LeftLimit 1 3 ∷ [])
+    ≡ text "verdict nonempty rounds 1\nopen 1 loop 0000000000000001\nopen 1 loop 0000000000000003\nstart 0\nstep omega 0000000000000001 to 3\n")
+unfolding ℕ-discrete member row-bytes sets same-row set-at state-row step-row limit-row kind-row read-row on-turn on-read feed-from feed members reach holds? accepts? load-row closed opened-next next-round walk-of least shortest hex decimal sheet call-in finish program
+ties = (refl, refl, refl)
+
+-- causes 2 to 5 at the place of the row, the lowest number of the first row that fails
+pub refusals : (program (1 ∷ 0 ∷ 6 ∷ 0 ∷ []) ≡ text "refused 2 at 2\n")
+    × (program (1 ∷ 0 ∷ 3 ∷ 64 ∷ 7 ∷ []) ≡ text "refused 3 at 2\n")
+    × (program (1 ∷ 64 ∷ 0 ∷ []) ≡ text "refused 4 at 0\n")
+    × (program (4 ∷ 0 ∷ 0 ∷ 0 ∷ 0 ∷ 0 ∷ 0 ∷ 0 ∷ 0 ∷ 64 ∷ []) ≡ text "refused 4 at 0\n")
+    × (program (5 ∷ 63 ∷ 0 ∷ 0 ∷ 0 ∷ 0 ∷ 0 ∷ 0 ∷ 0 ∷ 0 ∷ []) ≡ text "refused 5 at 0\n")
+unfolding ℕ-discrete member row-bytes sets same-row set-at state-row step-row limit-row kind-row read-row on-turn on-read feed-from feed members reach holds? accepts? load-row closed opened-next next-round walk-of least shortest hex decimal sheet call-in finish program
+refusals = (refl, refl, refl, refl, refl)
+
+abbrev answer-after : List Call → Call → Answer
+answer-after cs c = call (run fresh cs) c .answer
+
+-- causes 1 and 8 to 12, and the phase before the rows and before the buffer's length
+pub calls : (answer-after (close ∷ []) (load (6 ∷ [])) ≡ refused 1 0)
+    × (answer-after (load (1 ∷ 0 ∷ []) ∷ []) (withdraw (1 ∷ 0 ∷ 1 ∷ 0 ∷ [])) ≡ refused 8 2)
+    × (answer-after [] (print 0) ≡ refused 9 0)
+    × (answer-after (close ∷ round ∷ []) round ≡ refused 10 0)
+    × (answer-after (close ∷ []) (print 0) ≡ refused 11 0)
+    × (answer-after (close ∷ round ∷ []) (print 22) ≡ refused 12 0)
+    × (answer-after (close ∷ round ∷ []) (print 23) ≡ wrote (text "verdict empty rounds 1\n"))
+    × (answer-after (load (2 ∷ 5 ∷ 1 ∷ 3 ∷ []) ∷ []) (save 4) ≡ wrote (1 ∷ 3 ∷ 2 ∷ 5 ∷ []))
+    × (answer-after (load (2 ∷ 5 ∷ 1 ∷ 3 ∷ []) ∷ withdraw (2 ∷ 5 ∷ []) ∷ close ∷ reopen ∷ []) (save 9) ≡ wrote (1 ∷ 3 ∷ []))
+unfolding ℕ-discrete member row-bytes sets same-row set-at state-row step-row limit-row kind-row read-row on-turn on-read feed-from feed members reach holds? accepts? load-row withdraw-row closed opened-next next-round walk-of least shortest hex decimal sheet call-in
+calls = (refl, refl, refl, refl, refl, refl, refl, refl, refl)
