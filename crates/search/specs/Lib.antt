@@ -1,0 +1,2 @@
+-- What the search reads, and what its promises say.
+pub mod Masked
