@@ -2,3 +2,4 @@ pub mod Deciding
 pub mod Counting
 pub mod Sorting
 pub mod Growing
+pub mod Writing

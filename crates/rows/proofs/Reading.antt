@@ -42,7 +42,7 @@ big-number (b ∷ l) x h = let t : Bytes l = λ c m. h c (List·Memᴰ·tail m) 
     rw (number-high l (x * 256 + b) t, e, big-number l (x * 256 + b) t)
 
 -- a set is the number of its eight bytes
-eight : (P : ℕ) → P < 256 ^ 8 → number (big 8 P) 0 ≡ P
+pub eight : (P : ℕ) → P < 256 ^ 8 → number (big 8 P) 0 ≡ P
 eight P h = subst (λ (x : ℕ). number (big 8 P) x ≡ P) (div-eq-of-lt h) (number-big 8 P)
 
 -- parts of bytes are bytes
@@ -59,6 +59,9 @@ in-drop (suc n) (a ∷ l) x m = List·Memᴰ·tail (in-drop n l x m)
 pub bytes-drop : (n : ℕ) (l : List ℕ) → Bytes l → Bytes (drop n l)
 bytes-drop n l h b m = h b (in-drop n l b m)
 
+pub bytes-take : (n : ℕ) (l : List ℕ) → Bytes l → Bytes (take n l)
+bytes-take n l h b m = h b (in-take n l b m)
+
 -- past the end too
 byte-at : (l : List ℕ) (i : ℕ) → Bytes l → getD l i 0 < 256
 byte-at [] i h = omega arith
@@ -68,7 +71,7 @@ byte-at (a ∷ l) (suc i) h = byte-at l i (λ b m. h b (List·Memᴰ·tail m))
 -- the set at a place with eight bytes
 module _ (l : List ℕ) (j : ℕ) (h : Bytes l) (w : j + 8 ≤ length l) where
   bytes-at : Bytes (take 8 (drop j l))
-  bytes-at b m = h b (in-drop j l b (in-take 8 (drop j l) b m))
+  bytes-at = bytes-take 8 (drop j l) (bytes-drop j l h)
 
   eight-at : length (take 8 (drop j l)) ≡ 8
   eight-at = simp (length-take, length-drop) (omega arith)
@@ -199,7 +202,13 @@ checked-right l h = cond-ok (Right l) (ltb· (length l) (width (getD l 0 0))) (c
     below : (i : ℕ) → i among state-places (getD l 0 0) → ¬ ((i : ℕ) × i among state-places (getD l 0 0) × (63 < getD l i 0)) → getD l i 0 ≤ 63
     below i m n = let g : ¬ (63 < getD l i 0) = λ g. n (i, m, g) in omega arith
 
-read-some : (l : List ℕ) → 0 < length l → read-row l ≡ kind-row (getD l 0 0) l
+-- nothing to read, and something
+pub read-none : (l : List ℕ) → length l ≡ 0 → read-row l ≡ Refused 3
+unfolding read-row
+read-none [] h = refl
+read-none (k ∷ l) h = absurd (omega arith)
+
+pub read-some : (l : List ℕ) → 0 < length l → read-row l ≡ kind-row (getD l 0 0) l
 unfolding read-row
 read-some [] h = absurd (omega arith)
 read-some (k ∷ l) h = refl
@@ -268,10 +277,10 @@ pub read-split : (l : List ℕ) → Bytes l → (r : Row) (n : ℕ) → read-row
 read-split l h r n e = let g = got l r n e in
     rw (g .2, g .3) (sym (size-at l (getD l 0 0) (g .0)), split-at l h (getD l 0 0) (g .0) refl (g .1 .whole))
 
-no-bytes : Bytes []
+pub no-bytes : Bytes []
 no-bytes b m = absurd (List·Memᴰ·not-nil m)
 
-byte-and : {a : ℕ} {l : List ℕ} → a < 256 → Bytes l → Bytes (a ∷ l)
+pub byte-and : {a : ℕ} {l : List ℕ} → a < 256 → Bytes l → Bytes (a ∷ l)
 byte-and {a} g h b m = ⊎-elim (λ e. omega arith) (h b) (List·Memᴰ·cases-cons m)
 
 pub bytes-append : (l m : List ℕ) → Bytes l → Bytes m → Bytes (l ++ m)

@@ -2,3 +2,5 @@
 pub mod Rows
 pub mod Reading
 pub mod Batch
+pub mod Keys
+pub mod Storing

@@ -1,4 +1,15 @@
-// The rows of an automaton on linear orderings, and what reading one finds.
+// The rows of an automaton on linear orderings: read from bytes, written to bytes, and their keys.
+
+ghost use mathlib.Core.Path.{_≡_};
+ghost use mathlib.Core.Bool.{cond};
+ghost use Prim.Native.Nat.{_+_, _*_, _≤_, _<_};
+ghost use lib.ListN.{length};
+ghost use Rattle.lists.specs.Writing.{Wrote};
+ghost use Rattle.rows.specs.declared.Row.{Row};
+ghost use Rattle.rows.specs.Rows.{row-bytes};
+ghost use Rattle.rows.specs.Reading.{set-at, state-row, step-row, limit-row, read-row};
+ghost use Rattle.rows.specs.Keys.{high, low, row-from, set-or-none};
+ghost use Rattle.rows.specs.Storing.{stored};
 
 // Document 01, "Rows and the batch": the five kinds.
 pub enum Row {
@@ -13,4 +24,244 @@ pub enum Row {
 pub enum ReadRow {
     Read(Row, usize),
     Refused(u8),
+}
+
+// Two bytes as one number.
+fn join8(a: u8, b: u8) -> u16
+    ensures { λ r. ⌜ r ≡ a * 256 + b ⌝ }
+{
+    (a as u16) * 256 + (b as u16)
+}
+
+// Two numbers of two bytes as one.
+fn join16(a: u16, b: u16) -> u32
+    ensures { λ r. ⌜ r ≡ a * 65536 + b ⌝ }
+{
+    (a as u32) * 65536 + (b as u32)
+}
+
+// Two numbers of four bytes as one.
+fn join32(a: u32, b: u32) -> u64
+    ensures { λ r. ⌜ r ≡ a * 4294967296 + b ⌝ }
+{
+    (a as u64) * 4294967296 + (b as u64)
+}
+
+// The set at place `at`: eight bytes, most significant first.
+fn set_at(s: &[u8], at: usize) -> u64
+    requires { ⌜ at + 8 ≤ length (now s) ⌝ }
+    ensures { λ r. ⌜ r ≡ set-at (now (s .entry)) at ⌝ }
+{
+    let a = join8(s[at], s[at + 1]);
+    let b = join8(s[at + 2], s[at + 3]);
+    let c = join8(s[at + 4], s[at + 5]);
+    let d = join8(s[at + 6], s[at + 7]);
+    join32(join16(a, b), join16(c, d))
+}
+
+// A row of kind 1 or 2.
+fn read_state(rest: &[u8], initial: bool) -> ReadRow
+    ensures { λ r. ⌜ r ≡ state-row (cond initial Row.Initial Row.Final) (now (rest .entry)) ⌝ }
+{
+    if rest.len() < 2 {
+        return ReadRow::Refused(3);
+    }
+    let state = rest[1];
+    if 63 < state {
+        return ReadRow::Refused(4);
+    }
+    if initial {
+        ReadRow::Read(Row::Initial(state), 2)
+    } else {
+        ReadRow::Read(Row::Final(state), 2)
+    }
+}
+
+// A row of kind 3.
+fn read_step(rest: &[u8]) -> ReadRow
+    ensures { λ r. ⌜ r ≡ step-row (now (rest .entry)) ⌝ }
+{
+    if rest.len() < 4 {
+        return ReadRow::Refused(3);
+    }
+    let from = rest[1];
+    let letter = rest[2];
+    let to = rest[3];
+    if 63 < from {
+        return ReadRow::Refused(4);
+    }
+    if 63 < to {
+        return ReadRow::Refused(4);
+    }
+    ReadRow::Read(Row::Successor(from, letter, to), 4)
+}
+
+// A row of kind 4 or 5: a state at `state_place` and a set at `set_place`.
+fn read_limit(rest: &[u8], left: bool, state_place: usize, set_place: usize) -> ReadRow
+    requires { ⌜ («state_place» < 10) × («set_place» ≤ 2) ⌝ }
+    ensures { λ r. ⌜ r ≡ limit-row (cond left Row.LeftLimit (λ P q. Row.RightLimit q P)) «state_place» «set_place» (now (rest .entry)) ⌝ }
+{
+    if rest.len() < 10 {
+        return ReadRow::Refused(3);
+    }
+    let state = rest[state_place];
+    if 63 < state {
+        return ReadRow::Refused(4);
+    }
+    let set = set_at(rest, set_place);
+    if set == 0 {
+        return ReadRow::Refused(5);
+    }
+    if left {
+        ReadRow::Read(Row::LeftLimit(set, state), 10)
+    } else {
+        ReadRow::Read(Row::RightLimit(state, set), 10)
+    }
+}
+
+// The row at the head of the bytes, or the lowest number that refuses it.
+pub fn read_row(rest: &[u8]) -> ReadRow
+    ensures { λ r. ⌜ r ≡ read-row (now (rest .entry)) ⌝ }
+{
+    if rest.len() == 0 {
+        return ReadRow::Refused(3);
+    }
+    let kind = rest[0];
+    match kind {
+        1 => read_state(rest, true),
+        2 => read_state(rest, false),
+        3 => read_step(rest),
+        4 => read_limit(rest, true, 9, 1),
+        5 => read_limit(rest, false, 1, 2),
+        0 | 6..=255 => ReadRow::Refused(2),
+    }
+}
+
+// How many bytes the row has.
+pub fn row_len(row: Row) -> usize
+    ensures { λ r. ⌜ r ≡ length (row-bytes row) ⌝ }
+{
+    match row {
+        Row::Initial(_) => 2,
+        Row::Final(_) => 2,
+        Row::Successor(_, _, _) => 4,
+        Row::LeftLimit(_, _) => 10,
+        Row::RightLimit(_, _) => 10,
+    }
+}
+
+// Stores the eight bytes of a set from place `at` on.
+fn put_set(buf: &mut [u8], at: usize, set: u64)
+    requires { ⌜ at + 8 ≤ length (now buf) ⌝ }
+    ensures { λ _. ⌜ now (buf .exit) ≡ stored (now (buf .entry)) at set ⌝ }
+{
+    buf[at] = (set / 72057594037927936 % 256) as u8;
+    buf[at + 1] = (set / 281474976710656 % 256) as u8;
+    buf[at + 2] = (set / 1099511627776 % 256) as u8;
+    buf[at + 3] = (set / 4294967296 % 256) as u8;
+    buf[at + 4] = (set / 16777216 % 256) as u8;
+    buf[at + 5] = (set / 65536 % 256) as u8;
+    buf[at + 6] = (set / 256 % 256) as u8;
+    buf[at + 7] = (set % 256) as u8;
+}
+
+// Writes the row's bytes at the front of the buffer.
+pub fn write_row(buf: &mut [u8], row: Row) -> usize
+    requires { ⌜ length (row-bytes row) ≤ length (now buf) ⌝ }
+    ensures { λ r. ⌜ Wrote (row-bytes row) (now (buf .entry)) (now (buf .exit)) r ⌝ }
+{
+    match row {
+        Row::Initial(s) => {
+            buf[0] = 1;
+            buf[1] = s;
+            2
+        }
+        Row::Final(s) => {
+            buf[0] = 2;
+            buf[1] = s;
+            2
+        }
+        Row::Successor(p, a, q) => {
+            buf[0] = 3;
+            buf[1] = p;
+            buf[2] = a;
+            buf[3] = q;
+            4
+        }
+        Row::LeftLimit(set, q) => {
+            buf[0] = 4;
+            put_set(buf, 1, set);
+            buf[9] = q;
+            10
+        }
+        Row::RightLimit(q, set) => {
+            buf[0] = 5;
+            buf[1] = q;
+            put_set(buf, 2, set);
+            10
+        }
+    }
+}
+
+// The first word of the row's key.
+pub fn high_of(row: Row) -> u64
+    ensures { λ r. ⌜ r ≡ high row ⌝ }
+{
+    match row {
+        Row::Initial(s) => 72057594037927936 + (s as u64) * 281474976710656,
+        Row::Final(s) => 144115188075855872 + (s as u64) * 281474976710656,
+        Row::Successor(p, a, q) => 216172782113783808
+            + (p as u64) * 281474976710656
+            + (a as u64) * 1099511627776
+            + (q as u64) * 4294967296,
+        Row::LeftLimit(set, _) => 288230376151711744 + set / 256,
+        Row::RightLimit(q, set) => 360287970189639680 + (q as u64) * 281474976710656 + set / 65536,
+    }
+}
+
+// The second word of the row's key.
+pub fn low_of(row: Row) -> u64
+    ensures { λ r. ⌜ r ≡ low row ⌝ }
+{
+    match row {
+        Row::Initial(_) => 0,
+        Row::Final(_) => 0,
+        Row::Successor(_, _, _) => 0,
+        Row::LeftLimit(set, q) => set % 256 * 256 + (q as u64),
+        Row::RightLimit(_, set) => set % 65536,
+    }
+}
+
+// The row of a key.
+pub fn row_of(high: u64, low: u64) -> Row
+    ensures { λ r. ⌜ r ≡ row-from high low ⌝ }
+{
+    let first = (high / 281474976710656 % 256) as u8;
+    match high / 72057594037927936 {
+        1 => Row::Initial(first),
+        2 => Row::Final(first),
+        3 => Row::Successor(
+            first,
+            (high / 1099511627776 % 256) as u8,
+            (high / 4294967296 % 256) as u8,
+        ),
+        4 => Row::LeftLimit(
+            high % 72057594037927936 * 256 + low / 256 % 256,
+            (low % 256) as u8,
+        ),
+        _ => Row::RightLimit(first, high % 281474976710656 * 65536 + low % 65536),
+    }
+}
+
+// The row's set, 0 if it has none.
+pub fn set_of(row: Row) -> u64
+    ensures { λ r. ⌜ r ≡ set-or-none row ⌝ }
+{
+    match row {
+        Row::Initial(_) => 0,
+        Row::Final(_) => 0,
+        Row::Successor(_, _, _) => 0,
+        Row::LeftLimit(set, _) => set,
+        Row::RightLimit(_, set) => set,
+    }
 }

@@ -1,0 +1,131 @@
+-- A row's key: it fits two words, it gives the row back, and it has the order of the row's bytes.
+use Prim.Native.Nat.{ℕ, zero, suc, _-_, _<_, _+_, _*_, _/_, _%_, _^_}
+use mathlib.Core.Path.{_≡_, refl, ap, sym, _∙_}
+use mathlib.Core.Bool.{cond}
+use mathlib.Core.List.{List, [], _∷_, _++_}
+use lib.Dec.{eqb}
+use lib.ListN.{length, take, drop, getD, replicate}
+use native.Mathlib.Omega.{arith}
+use borrow.Author.Tests.{ne-eqb}
+use Rattle.lists.specs.Order.{before}
+use Rattle.rows.specs.declared.Row.{Row}
+use Rattle.rows.specs.declared.Row.the-variants.{Initial, Final, Successor, LeftLimit, RightLimit}
+use Rattle.rows.specs.Rows.{row-bytes, Fits, Bytes, sets-of}
+use Rattle.rows.specs.Reading.{number, width}
+use Rattle.sorted.specs.Keys.{key-less}
+use Rattle.rows.specs.Keys.{high, low, row-from, set-or-none}
+use Rattle.rows.proofs.Reading.{eight, some-bytes, bytes-append, byte-and, no-bytes, row-bytes-are-bytes}
+use Rattle.rows.proofs.ByteOrder.{split-order, before-filled}
+
+-- the first word has eight bytes, the second two
+pub key-words : (r : Row) → Fits r → (high r < 2 ^ 64) × (low r < 2 ^ 16)
+unfolding high low
+key-words (Initial s) f = (omega arith, omega arith)
+key-words (Final s) f = (omega arith, omega arith)
+key-words (Successor p a q) f = (omega arith, omega arith)
+key-words (LeftLimit P q) f = (omega arith, omega arith)
+key-words (RightLimit q P) f = (omega arith, omega arith)
+
+-- a row is that of its key
+pub key-back : (r : Row) → Fits r → row-from (high r) (low r) ≡ r
+unfolding high low row-from
+key-back (Initial s) f =
+    let k : (1 * 256 ^ 7 + s * 256 ^ 6) / 256 ^ 7 ≡ 1 = omega arith in
+    let e : (1 * 256 ^ 7 + s * 256 ^ 6) / 256 ^ 6 % 256 ≡ s = omega arith in
+    rw (k, e)
+key-back (Final s) f =
+    let k : (2 * 256 ^ 7 + s * 256 ^ 6) / 256 ^ 7 ≡ 2 = omega arith in
+    let e : (2 * 256 ^ 7 + s * 256 ^ 6) / 256 ^ 6 % 256 ≡ s = omega arith in
+    rw (k, e)
+key-back (Successor p a q) f =
+    let k : (3 * 256 ^ 7 + p * 256 ^ 6 + a * 256 ^ 5 + q * 256 ^ 4) / 256 ^ 7 ≡ 3 = omega arith in
+    let e : (3 * 256 ^ 7 + p * 256 ^ 6 + a * 256 ^ 5 + q * 256 ^ 4) / 256 ^ 6 % 256 ≡ p = omega arith in
+    let e′ : (3 * 256 ^ 7 + p * 256 ^ 6 + a * 256 ^ 5 + q * 256 ^ 4) / 256 ^ 5 % 256 ≡ a = omega arith in
+    let e″ : (3 * 256 ^ 7 + p * 256 ^ 6 + a * 256 ^ 5 + q * 256 ^ 4) / 256 ^ 4 % 256 ≡ q = omega arith in
+    rw (k, e, e′, e″)
+key-back (LeftLimit P q) f =
+    let k : (4 * 256 ^ 7 + P / 256) / 256 ^ 7 ≡ 4 = omega arith in
+    let e : (4 * 256 ^ 7 + P / 256) % 256 ^ 7 * 256 + (P % 256 * 256 + q) / 256 % 256 ≡ P = omega arith in
+    let e′ : (P % 256 * 256 + q) % 256 ≡ q = omega arith in
+    rw (k, e, e′)
+key-back (RightLimit q P) f =
+    let k : (5 * 256 ^ 7 + q * 256 ^ 6 + P / 65536) / 256 ^ 7 ≡ 5 = omega arith in
+    let e : (5 * 256 ^ 7 + q * 256 ^ 6 + P / 65536) / 256 ^ 6 % 256 ≡ q = omega arith in
+    let e′ : (5 * 256 ^ 7 + q * 256 ^ 6 + P / 65536) % 256 ^ 6 * 65536 + P % 65536 % 65536 ≡ P = omega arith in
+    rw (k, e, e′)
+
+-- rows that fit and have one key are one row
+pub key-apart : (r s : Row) → Fits r → Fits s → high r ≡ high s → low r ≡ low s → r ≡ s
+key-apart r s f g h l = let a = key-back r f in let b = key-back s g in cc
+
+-- zeros up to ten bytes
+abbrev fill : Row → List ℕ
+fill r = replicate (10 - length (row-bytes r)) 0
+
+-- the row's ten bytes
+abbrev filled : Row → List ℕ
+filled r = row-bytes r ++ fill r
+
+-- the first byte tells how many follow
+length-of : (r : Row) → length (row-bytes r) ≡ width (getD (row-bytes r) 0 0)
+unfolding row-bytes
+length-of (Initial s) = refl
+length-of (Final s) = refl
+length-of (Successor p a q) = refl
+length-of (LeftLimit P q) = refl
+length-of (RightLimit q P) = refl
+
+-- rows of one kind are filled alike
+fill-alike : (r s : Row) → getD (row-bytes r) 0 0 ≡ getD (row-bytes s) 0 0 → (length (row-bytes r) ≡ length (row-bytes s)) × (fill r ≡ fill s)
+fill-alike r s e = let l : length (row-bytes r) ≡ length (row-bytes s) = length-of r ∙ (ap width e ∙ sym (length-of s)) in (l, ap (λ (n : ℕ). replicate (10 - n) 0) l)
+
+-- zeros are bytes
+zeros : (n : ℕ) → Bytes (replicate n 0)
+zeros zero = no-bytes
+zeros (suc n) = byte-and (omega arith) (zeros n)
+
+filled-bytes : (r : Row) → Fits r → Bytes (filled r)
+filled-bytes r f = bytes-append (row-bytes r) (fill r) (row-bytes-are-bytes r f) (zeros (10 - length (row-bytes r)))
+
+-- eight bytes and two
+record Ten (r : Row) : Type 0 where
+  first : length (take 8 (filled r)) ≡ 8
+  last : length (drop 8 (filled r)) ≡ 2
+  first-is : number (take 8 (filled r)) 0 ≡ high r
+  last-is : number (drop 8 (filled r)) 0 ≡ low r
+
+-- a set's bytes, divided where the words are
+left-words : (b c d e f g h i P q : ℕ) → i < 256 → number (b ∷ c ∷ d ∷ e ∷ f ∷ g ∷ h ∷ i ∷ []) 0 ≡ P
+    → (number (4 ∷ b ∷ c ∷ d ∷ e ∷ f ∷ g ∷ h ∷ []) 0 ≡ 4 * 256 ^ 7 + P / 256) × (number (i ∷ q ∷ []) 0 ≡ P % 256 * 256 + q)
+left-words b c d e f g h i P q l z = (omega arith, omega arith)
+
+right-words : (b c d e f g h i P q : ℕ) → h < 256 → i < 256 → number (b ∷ c ∷ d ∷ e ∷ f ∷ g ∷ h ∷ i ∷ []) 0 ≡ P
+    → (number (5 ∷ q ∷ b ∷ c ∷ d ∷ e ∷ f ∷ g ∷ []) 0 ≡ 5 * 256 ^ 7 + q * 256 ^ 6 + P / 65536) × (number (h ∷ i ∷ []) 0 ≡ P % 65536)
+right-words b c d e f g h i P q k l z = (omega arith, omega arith)
+
+-- the words are the numbers of those bytes
+ten : (r : Row) → Fits r → Ten r
+unfolding row-bytes high low
+ten (Initial s) f = record { first = refl; last = refl; first-is = omega arith; last-is = omega arith }
+ten (Final s) f = record { first = refl; last = refl; first-is = omega arith; last-is = omega arith }
+ten (Successor p a q) f = record { first = refl; last = refl; first-is = omega arith; last-is = omega arith }
+ten (LeftLimit P q) f = let w = left-words _ _ _ _ _ _ _ (P / 256 ^ 0 % 256) P q (omega arith) (eight P (f .1)) in
+    record { first = refl; last = refl; first-is = w .0; last-is = w .1 }
+ten (RightLimit q P) f = let w = right-words _ _ _ _ _ _ (P / 256 ^ 1 % 256) (P / 256 ^ 0 % 256) P q (omega arith) (omega arith) (eight P (f .1)) in
+    record { first = refl; last = refl; first-is = w .0; last-is = w .1 }
+
+-- rows come in the order of their keys
+pub key-order : (r s : Row) → Fits r → Fits s → before (row-bytes r) (row-bytes s) ≡ key-less (high r) (low r) (high s) (low s)
+key-order r s f g =
+    let a = ten r f in let b = ten s g in
+    sym (before-filled (row-bytes r) (row-bytes s) (fill r) (fill s) (some-bytes r) (some-bytes s) (fill-alike r s))
+    ∙ (split-order 8 (filled r) (filled s) (a .first ∙ sym (b .first)) (a .last ∙ sym (b .last)) (filled-bytes r f) (filled-bytes s g)
+    ∙ rw (a .first-is, a .last-is, b .first-is, b .last-is))
+
+-- a row without a set has 0, and no set is 0
+pub set-or-none-is : (r : Row) → Fits r → sets-of r ≡ cond (eqb (set-or-none r) 0) [] (set-or-none r ∷ [])
+set-or-none-is (Initial s) f = refl
+set-or-none-is (Final s) f = refl
+set-or-none-is (Successor p a q) f = refl
+set-or-none-is (LeftLimit P q) f = rw (ne-eqb P 0 (omega arith))
+set-or-none-is (RightLimit q P) f = rw (ne-eqb P 0 (omega arith))

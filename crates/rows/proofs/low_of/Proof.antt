@@ -1,0 +1,68 @@
+-- `rows::low_of` meets its contract: the word of the kind that the row is.
+use mathlib.Core.Path.{sym, ap}
+use Rattle.rows.specs.Keys.{low}
+use borrow.Author.Needs.{needs}
+use Rattle.rows.proofs.low_of.Statement.{statement}
+use Rattle.rows.proofs.low_of.Tie as tie
+
+enum-told : tie.Need-enum-told
+enum-told c = search needs
+
+enum-told-2 : tie.Need-enum-told-2
+enum-told-2 c = search needs
+
+enum-told-3 : tie.Need-enum-told-3
+enum-told-3 c = search needs
+
+enum-known-row : tie.Need-enum-known-row
+enum-known-row c = search needs
+
+mul-result : tie.Need-mul-result
+mul-result c = search needs
+
+cast-result : tie.Need-cast-result
+cast-result c = search needs
+
+add-result : tie.Need-add-result
+add-result c = search needs
+
+enum-known-row-2 : tie.Need-enum-known-row-2
+enum-known-row-2 c = search needs
+
+returns : tie.Need-returns
+unfolding low
+returns c = search needs
+
+returns-2 : tie.Need-returns-2
+unfolding low
+returns-2 c = search needs
+
+returns-3 : tie.Need-returns-3
+unfolding low
+returns-3 c = search needs
+
+returns-4 : tie.Need-returns-4
+unfolding low
+returns-4 c = sym (ap low (c .before .row .given .1))
+
+returns-5 : tie.Need-returns-5
+unfolding low
+returns-5 c = sym (ap low (c .before .row2 .given .1))
+
+pub low-of-spec : {M : Type 1} → statement M
+low-of-spec =
+    tie.close
+    (tie.spec
+    enum-told
+    enum-told-2
+    enum-told-3
+    enum-known-row
+    mul-result
+    cast-result
+    add-result
+    enum-known-row-2
+    returns
+    returns-2
+    returns-3
+    returns-4
+    returns-5)

@@ -1,0 +1,68 @@
+-- `rows::row_of` meets its contract: each kind by its test; the last where all fail.
+use borrow.Author.Tests.{ne-eqb}
+use Rattle.rows.specs.Keys.{row-from}
+use borrow.Author.Needs.{needs}
+use Rattle.rows.proofs.row_of.Statement.{statement}
+use Rattle.rows.proofs.row_of.Tie as tie
+
+cast-first : tie.Need-cast-first
+cast-first c = search needs
+
+cast-t10 : tie.Need-cast-t10
+cast-t10 c = search needs
+
+cast-t13 : tie.Need-cast-t13
+cast-t13 c = search needs
+
+mul-t15 : tie.Need-mul-t15
+mul-t15 c = search needs
+
+add-t18 : tie.Need-add-t18
+add-t18 c = search needs
+
+cast-t20 : tie.Need-cast-t20
+cast-t20 c = search needs
+
+mul-t22 : tie.Need-mul-t22
+mul-t22 c = search needs
+
+add-t24 : tie.Need-add-t24
+add-t24 c = search needs
+
+returns : tie.Need-returns
+unfolding row-from
+returns c = simp (c .match .keys1)
+
+returns-2 : tie.Need-returns-2
+unfolding row-from
+returns-2 c = simp (c .match .keys2)
+
+returns-3 : tie.Need-returns-3
+unfolding row-from
+returns-3 c = simp (c .match .keys3)
+
+returns-4 : tie.Need-returns-4
+unfolding row-from
+returns-4 c = simp (c .match .keys4)
+
+returns-5 : tie.Need-returns-5
+unfolding row-from
+returns-5 c = simp (ne-eqb _ _ (c .match .rest .0 .0 .0 .1), ne-eqb _ _ (c .match .rest .0 .0 .1), ne-eqb _ _ (c .match .rest .0 .1), ne-eqb _ _ (c .match .rest .1))
+
+pub row-of-spec : {M : Type 1} → statement M
+row-of-spec =
+    tie.close
+    (tie.spec
+    cast-first
+    cast-t10
+    cast-t13
+    mul-t15
+    add-t18
+    cast-t20
+    mul-t22
+    add-t24
+    returns
+    returns-2
+    returns-3
+    returns-4
+    returns-5)

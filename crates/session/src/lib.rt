@@ -1,0 +1,34 @@
+// The session and its calls.
+use machine::Phase;
+use rows::Row;
+
+// What a field that is an array can hold: a struct that holds the row.
+pub struct Slot {
+    pub row: Row,
+}
+
+// The standing rows sorted as byte strings; their sets, rising; the rounds in which the loop and the mix of each set opened, 0 for
+// not open; the phase and the count of rounds. What is not used holds a filler.
+pub struct Session {
+    pub rows: [Slot; 256],
+    pub row_count: usize,
+    pub sets: [u64; 64],
+    pub set_count: usize,
+    pub loop_rounds: [u8; 64],
+    pub mix_rounds: [u8; 64],
+    pub phase: Phase,
+    pub rounds: u8,
+}
+
+// What a call answers: done, the count of bytes written, or a refusal with its number and place.
+pub enum Answer {
+    Done,
+    Wrote(usize),
+    Refused(u8, usize),
+}
+
+// The session handed back, and the answer beside it.
+pub struct Reply {
+    pub session: Session,
+    pub answer: Answer,
+}

@@ -1,0 +1,3 @@
+pub mod Keys
+pub mod Shifts
+pub mod Kept

@@ -1,0 +1,40 @@
+-- A table of rows in arrays: the keys of its rows in order, and its sets.
+use Prim.Native.Nat.{ℕ, _-_}
+use mathlib.Core.Path.{_≡_}
+use mathlib.Core.List.{List, [], _∷_, _++_, map}
+use lib.ListN.{length, take, replicate}
+use Rattle.rows.specs.declared.Row.{Row}
+use Rattle.rows.specs.Rows.{sets}
+use Rattle.rows.specs.Keys.{high, low}
+use Rattle.rows.specs.Batch.{Fed, fed, failed, feed}
+use Rattle.machine.specs.Machine.{load-row, withdraw-row}
+use Rattle.machine.specs.WellFormed.{Table}
+use Rattle.table.specs.declared.Outcome.{Outcome}
+use Rattle.table.specs.declared.Outcome.the-variants.{Done, Refused}
+
+-- a list filled up to n with x
+abbrev pub padded : {A : Type 0} → ℕ → A → List A → List A
+padded n x l = l ++ replicate (n - length l) x
+
+-- the first n places of two arrays hold the keys of the rows, in order
+pub record Keyed (rows : List Row) (highs lows : List ℕ) (n : ℕ) : Type 0 where
+  pub count : n ≡ length rows
+  pub highs-are : take n highs ≡ map high rows
+  pub lows-are : take n lows ≡ map low rows
+
+-- an array holds the k sets of the rows, rising, and then zeros
+pub record Worded (rows : List Row) (words : List ℕ) (k : ℕ) : Type 0 where
+  pub count : k ≡ length (sets rows)
+  pub words-are : words ≡ padded 64 0 (sets rows)
+
+-- what a batch comes to: the arrays then hold the rows that it leads to, or the first row that fails gives its number and its place
+abbrev pub Comes : (List Row → Type 0) → Fed (List Row) → Outcome → Type 0
+Comes Holds (fed rows) r = (r ≡ Done) × Table rows × Holds rows
+Comes Holds (failed n place) r = r ≡ Refused n place
+
+-- a batch loaded into the table that the arrays held, and one withdrawn from it
+abbrev pub Loads : List Row → List ℕ → (List Row → Type 0) → Outcome → Type 0
+Loads rows batch Holds r = Comes Holds (feed load-row rows batch) r
+
+abbrev pub Withdraws : List Row → List ℕ → (List Row → Type 0) → Outcome → Type 0
+Withdraws rows batch Holds r = Comes Holds (feed withdraw-row rows batch) r

@@ -1,0 +1,2 @@
+-- What the arrays of a table hold.
+pub mod Arrays
