@@ -1,10 +1,10 @@
--- A text stored number by number at the front of a buffer.
-use Prim.Native.Nat.{ℕ, suc, _≤_}
-use mathlib.Core.Path.{_≡_, refl, sym, _∙_}
-use mathlib.Core.List.{List, [], _∷_, _++_}
-use lib.ListN.{length, drop, set, length-append}
-use lib.Seq.{set-at, append-snoc}
+-- Laws of writing at the front of a buffer, and into the rest after what was written.
+use Prim.Native.Nat.{ℕ, suc, _+_, _-_, _≤_}
+use mathlib.Core.Path.{_≡_, refl, ap, sym, _∙_}
+use mathlib.Core.List.{List, [], _∷_, _++_, append-assoc, append-nil}
 use native.Mathlib.Omega.{arith}
+use lib.ListN.{length, take, drop, set, length-append, length-drop, drop-of-length-le}
+use lib.Seq.{set-at, append-snoc, take-at, drop-at, take-all, drop-drop}
 use Rattle.lists.specs.Writing.{Wrote}
 
 -- the buffer after the numbers of a text are stored from place i on
@@ -24,3 +24,26 @@ put-after p (b ∷ t) (x ∷ l) h =
 -- the text stands at the front, and beyond it what the buffer had
 pub wrote-all : (t l : List ℕ) → length t ≤ length l → Wrote t l (put-all l 0 t) (length t)
 wrote-all t l h = record { length-is = refl; bytes-are = put-after [] t l h }
+
+pub wrote-nothing : (old : List ℕ) → Wrote [] old old 0
+wrote-nothing old = record { length-is = refl; bytes-are = refl }
+
+-- a text that fits leaves the length of the buffer
+pub wrote-length : (t old new : List ℕ) {a : ℕ} → Wrote t old new a → length t ≤ length old → length new ≡ length old
+wrote-length t old new w h = omega (arith, simp (length-append, length-drop) at (ap length (w .bytes-are)))
+
+-- a text t, and then u into the part after it: t ++ u
+pub wrote-part : (t u old mid part : List ℕ) {a b : ℕ} → Wrote t old mid a → Wrote u (take (length mid - a) (drop a mid)) part b
+    → Wrote (t ++ u) old (take a mid ++ (part ++ drop (length mid - a) (drop a mid))) (a + b)
+wrote-part t u old mid part {a} {b} w v =
+    let whole : take (length mid - a) (drop a mid) ≡ drop a mid = take-all (length mid - a) (drop a mid) (simp length-drop (omega arith)) in
+    let none : drop (length mid - a) (drop a mid) ≡ [] = drop-of-length-le (drop a mid) {i = length mid - a} (simp length-drop (omega arith)) in
+    let front : take a mid ≡ t = ap (take a) (w .bytes-are) ∙ take-at t (drop (length t) old) a (sym (w .length-is)) in
+    let rest : drop a mid ≡ drop (length t) old = ap (drop a) (w .bytes-are) ∙ drop-at t (drop (length t) old) a (sym (w .length-is)) in
+    let body : part ≡ u ++ drop (length (t ++ u)) old =
+    v .bytes-are ∙ ap (λ (l : List ℕ). u ++ drop (length u) l) (whole ∙ rest)
+    ∙ (rw (drop-drop, length-append)) in
+    record {
+      length-is = rw length-append (omega (arith, w .length-is, v .length-is));
+      bytes-are = rw (front, none, append-nil, body, append-assoc);
+    }

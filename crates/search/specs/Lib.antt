@@ -1,2 +1,4 @@
 -- What the search reads, and what its promises say.
 pub mod Masked
+pub mod Hops
+pub mod Promises

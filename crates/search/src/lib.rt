@@ -1,1 +1,349 @@
 // The search: does a set loop, does it mix, does a walk lead from an initial to a final state.
+
+ghost use mathlib.Core.Path.{_≡_};
+ghost use mathlib.Core.Logic.{_↔_};
+ghost use mathlib.Core.Bool.{true, false};
+ghost use Prim.Native.Nat.{ℕ, _≤_, _<_};
+ghost use Rattle.lists.specs.Tests.{Decides};
+ghost use Rattle.masks.specs.Graph.{Turned};
+ghost use Rattle.masks.specs.Mask.{_∈_};
+ghost use Rattle.search.specs.Hops.{Passes, Hop, Chain, Onward, Inner, Joined, Covered};
+ghost use Rattle.search.specs.Promises.{LoopsRight, MixesRight, AcceptsRight, OpensAt, OpensBelow};
+use masks::difference;
+use masks::has;
+use masks::intersection;
+use masks::is_subset;
+use masks::lowest;
+use masks::union;
+use masks::with;
+
+// Do `a` and `b` have a state in common?
+fn meets(a: u64, b: u64) -> bool
+    ensures { λ r. ⌜ Decides r ((t : ℕ) × (t ∈ a) × (t ∈ b)) ⌝ }
+{
+    intersection(a, b) != 0
+}
+
+// The place `i` alone where `b` is true, else nothing.
+fn marked(b: bool, i: u8) -> u64
+    requires { ⌜ i < 64 ⌝ }
+    ensures { λ r. ⌜ ((t : ℕ) → (t ∈ r) ↔ ((t ≡ i) × (b ≡ true))) ⌝ }
+{
+    if b { with(0, i) } else { 0 }
+}
+
+// The places whose words are parts of `p`.
+pub fn inside(words: &[u64; 64], places: u64, p: u64) -> u64
+    ensures { λ r. ⌜ Inner (now (words .entry)) places p r ⌝ }
+{
+    let mut r: u64 = 0;
+    let mut rest = places;
+    while rest != 0 {
+        let i = lowest(rest);
+        r = union(r, marked(is_subset(words[i as usize], p), i));
+        rest = difference(rest, with(0, i));
+    }
+    r
+}
+
+// The set `there` where `here` has one of the states `m`, else nothing.
+fn passed(here: u64, there: u64, m: u64) -> u64
+    ensures { λ r. ⌜ ((t : ℕ) → (t ∈ r) ↔ (((s : ℕ) × (s ∈ m) × (s ∈ here)) × (t ∈ there))) ⌝ }
+{
+    if meets(m, here) { there } else { 0 }
+}
+
+// The sets of `there` at the places where `here` has one of the states `m`.
+fn passing(here: &[u64; 64], there: &[u64; 64], places: u64, m: u64) -> u64
+    ensures { λ r. ⌜ Onward (Passes (now (here .entry)) (now (there .entry)) places) m r ⌝ }
+{
+    let mut r: u64 = 0;
+    let mut rest = places;
+    while rest != 0 {
+        let i = lowest(rest);
+        r = union(r, passed(here[i as usize], there[i as usize], m));
+        rest = difference(rest, with(0, i));
+    }
+    r
+}
+
+// The states to which one step inside `p` leads from the states `m`.
+pub fn targets(
+    letters: &[u64; 64],
+    words: &[u64; 64],
+    lefts: &[u64; 64],
+    rights: &[u64; 64],
+    loops: u64,
+    mixes: u64,
+    p: u64,
+    m: u64,
+) -> u64
+    ensures { λ r. ⌜ Onward (Hop (now (letters .entry)) (now (words .entry)) (now (lefts .entry)) (now (rights .entry)) loops mixes p) m r ⌝ }
+{
+    let from = intersection(m, p);
+    let letter = masks::targets(letters, from);
+    let omega = passing(words, lefts, loops, from);
+    let back = passing(rights, words, loops, from);
+    let mix = passing(rights, lefts, mixes, from);
+    intersection(union(letter, union(omega, union(back, mix))), p)
+}
+
+// The states to which a walk of one or more steps inside `p` leads from the states `m`.
+pub fn reach(
+    letters: &[u64; 64],
+    words: &[u64; 64],
+    lefts: &[u64; 64],
+    rights: &[u64; 64],
+    loops: u64,
+    mixes: u64,
+    p: u64,
+    m: u64,
+) -> u64
+    ensures { λ r. ⌜ Onward (Chain (Hop (now (letters .entry)) (now (words .entry)) (now (lefts .entry)) (now (rights .entry)) loops mixes p)) m r ⌝ }
+{
+    let mut found: u64 = 0;
+    let mut last = m;
+    loop {
+        let next = difference(
+            targets(letters, words, lefts, rights, loops, mixes, p, last),
+            found,
+        );
+        if next == 0 {
+            return found;
+        }
+        found = union(found, next);
+        last = next;
+    }
+}
+
+// Does a walk of one or more steps inside `p` lead from each state of `p` to each? `back` is `letters` turned round.
+fn joined(
+    letters: &[u64; 64],
+    back: &[u64; 64],
+    words: &[u64; 64],
+    lefts: &[u64; 64],
+    rights: &[u64; 64],
+    loops: u64,
+    mixes: u64,
+    p: u64,
+) -> bool
+    ensures { λ r. ⌜ (Turned (now (letters .entry)) (now (back .entry)) → Decides r (Joined (Hop (now (letters .entry)) (now (words .entry)) (now (lefts .entry)) (now (rights .entry)) loops mixes p) p)) ⌝ }
+{
+    if p == 0 {
+        return true;
+    }
+    let s = with(0, lowest(p));
+    if reach(letters, words, lefts, rights, loops, mixes, p, s) != p {
+        return false;
+    }
+    reach(back, words, rights, lefts, loops, mixes, p, s) == p
+}
+
+// Does each state of `p` lie on a walk of one or more steps inside `p` from a state of `m` to one of `n`?
+fn covered(
+    letters: &[u64; 64],
+    back: &[u64; 64],
+    words: &[u64; 64],
+    lefts: &[u64; 64],
+    rights: &[u64; 64],
+    loops: u64,
+    mixes: u64,
+    p: u64,
+    m: u64,
+    n: u64,
+) -> bool
+    ensures { λ r. ⌜ (Turned (now (letters .entry)) (now (back .entry)) → Decides r (Covered (Hop (now (letters .entry)) (now (words .entry)) (now (lefts .entry)) (now (rights .entry)) loops mixes p) m n p)) ⌝ }
+{
+    let after = reach(letters, words, lefts, rights, loops, mixes, p, m);
+    let before = reach(back, words, rights, lefts, loops, mixes, p, n);
+    let first = intersection(m, before);
+    let later = intersection(after, union(n, before));
+    is_subset(p, union(first, later))
+}
+
+// Does `p` loop with the claims in force, whose places are `loop_mask` and `mix_mask`?
+pub fn loops(
+    letters: &[u64; 64],
+    back: &[u64; 64],
+    words: &[u64; 64],
+    lefts: &[u64; 64],
+    rights: &[u64; 64],
+    loop_mask: u64,
+    mix_mask: u64,
+    p: u64,
+) -> bool
+    ensures { λ r. ⌜ LoopsRight (now (letters .entry)) (now (back .entry)) (now (words .entry)) (now (lefts .entry)) (now (rights .entry)) «loop_mask» «mix_mask» p r ⌝ }
+{
+    let a = inside(words, loop_mask, p);
+    let b = inside(words, mix_mask, p);
+    joined(letters, back, words, lefts, rights, a, b, p)
+}
+
+// Does the set at place `i` mix with the claims in force?
+pub fn mixes(
+    letters: &[u64; 64],
+    back: &[u64; 64],
+    words: &[u64; 64],
+    lefts: &[u64; 64],
+    rights: &[u64; 64],
+    loop_mask: u64,
+    mix_mask: u64,
+    i: usize,
+) -> bool
+    requires { ⌜ i < 64 ⌝ }
+    ensures { λ r. ⌜ MixesRight (now (letters .entry)) (now (back .entry)) (now (words .entry)) (now (lefts .entry)) (now (rights .entry)) «loop_mask» «mix_mask» i r ⌝ }
+{
+    let p = words[i];
+    let a = inside(words, loop_mask, p);
+    let b = inside(words, mix_mask, p);
+    let m = intersection(lefts[i], p);
+    let n = intersection(rights[i], p);
+    covered(letters, back, words, lefts, rights, a, b, p, m, n)
+}
+
+// The set of all states.
+fn all_states() -> u64
+    ensures { λ r. ⌜ ((s : ℕ) → s < 64 → s ∈ r) ⌝ }
+{
+    !0u64
+}
+
+// Does a walk of zero or more steps with the claims in force lead from a state of `starts` to one of `ends`?
+pub fn accepts(
+    letters: &[u64; 64],
+    words: &[u64; 64],
+    lefts: &[u64; 64],
+    rights: &[u64; 64],
+    loop_mask: u64,
+    mix_mask: u64,
+    starts: u64,
+    ends: u64,
+) -> bool
+    ensures { λ r. ⌜ AcceptsRight (now (letters .entry)) (now (words .entry)) (now (lefts .entry)) (now (rights .entry)) «loop_mask» «mix_mask» starts ends r ⌝ }
+{
+    if meets(starts, ends) {
+        return true;
+    }
+    let all = all_states();
+    let found = reach(
+        letters,
+        words,
+        lefts,
+        rights,
+        loop_mask,
+        mix_mask,
+        all,
+        starts,
+    );
+    meets(found, ends)
+}
+
+// The places whose loops are opened, and those whose mixes are.
+pub struct Opened {
+    pub loops: u64,
+    pub mixes: u64,
+}
+
+// Is the loop of `p` not in force yet, and do walks inside `p` join its states?
+fn loop_opens(
+    letters: &[u64; 64],
+    back: &[u64; 64],
+    words: &[u64; 64],
+    lefts: &[u64; 64],
+    rights: &[u64; 64],
+    loops: u64,
+    mixes: u64,
+    p: u64,
+    taken: bool,
+) -> bool
+    ensures { λ r. ⌜ (Turned (now (letters .entry)) (now (back .entry)) → Decides r ((taken ≡ false) × Joined (Hop (now (letters .entry)) (now (words .entry)) (now (lefts .entry)) (now (rights .entry)) loops mixes p) p)) ⌝ }
+{
+    if taken {
+        return false;
+    }
+    joined(letters, back, words, lefts, rights, loops, mixes, p)
+}
+
+// Is the mix of `p` not in force yet, and do walks inside `p` from `m` to `n` cover it?
+fn mix_opens(
+    letters: &[u64; 64],
+    back: &[u64; 64],
+    words: &[u64; 64],
+    lefts: &[u64; 64],
+    rights: &[u64; 64],
+    loops: u64,
+    mixes: u64,
+    p: u64,
+    m: u64,
+    n: u64,
+    taken: bool,
+) -> bool
+    ensures { λ r. ⌜ (Turned (now (letters .entry)) (now (back .entry)) → Decides r ((taken ≡ false) × Covered (Hop (now (letters .entry)) (now (words .entry)) (now (lefts .entry)) (now (rights .entry)) loops mixes p) m n p)) ⌝ }
+{
+    if taken {
+        return false;
+    }
+    covered(letters, back, words, lefts, rights, loops, mixes, p, m, n)
+}
+
+// The claims of the set at place `i` that hold with the claims in force and are not in force yet.
+fn opened_at(
+    letters: &[u64; 64],
+    back: &[u64; 64],
+    words: &[u64; 64],
+    lefts: &[u64; 64],
+    rights: &[u64; 64],
+    loop_mask: u64,
+    mix_mask: u64,
+    i: u8,
+) -> Opened
+    requires { ⌜ i < 64 ⌝ }
+    ensures { λ r. ⌜ OpensAt (now (letters .entry)) (now (back .entry)) (now (words .entry)) (now (lefts .entry)) (now (rights .entry)) «loop_mask» «mix_mask» i (r .loops) (r .mixes) ⌝ }
+{
+    if has(intersection(loop_mask, mix_mask), i) {
+        return Opened { loops: 0, mixes: 0 };
+    }
+    let at = i as usize;
+    let p = words[at];
+    let a = inside(words, loop_mask, p);
+    let b = inside(words, mix_mask, p);
+    let held = has(loop_mask, i);
+    let looping = loop_opens(letters, back, words, lefts, rights, a, b, p, held);
+    let m = intersection(lefts[at], p);
+    let n = intersection(rights[at], p);
+    let held = has(mix_mask, i);
+    let mixing = mix_opens(letters, back, words, lefts, rights, a, b, p, m, n, held);
+    Opened {
+        loops: marked(looping, i),
+        mixes: marked(mixing, i),
+    }
+}
+
+// The claims of the `n` sets that hold with the claims in force and are not in force yet.
+pub fn open_next(
+    letters: &[u64; 64],
+    back: &[u64; 64],
+    words: &[u64; 64],
+    lefts: &[u64; 64],
+    rights: &[u64; 64],
+    loop_mask: u64,
+    mix_mask: u64,
+    n: u8,
+) -> Opened
+    requires { ⌜ n ≤ 64 ⌝ }
+    ensures { λ r. ⌜ OpensBelow (now (letters .entry)) (now (back .entry)) (now (words .entry)) (now (lefts .entry)) (now (rights .entry)) «loop_mask» «mix_mask» n n (r .loops) (r .mixes) ⌝ }
+{
+    let mut new_loops: u64 = 0;
+    let mut new_mixes: u64 = 0;
+    let mut i: u8 = 0;
+    while i < n {
+        let opened = opened_at(letters, back, words, lefts, rights, loop_mask, mix_mask, i);
+        new_loops = union(new_loops, opened.loops);
+        new_mixes = union(new_mixes, opened.mixes);
+        i += 1;
+    }
+    Opened {
+        loops: new_loops,
+        mixes: new_mixes,
+    }
+}

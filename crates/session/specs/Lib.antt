@@ -1,3 +1,5 @@
 -- The session record as a function of the plain machine, and the promises of the calls.
 pub mod Record
 pub mod Promise
+pub mod Standing
+pub mod Automaton

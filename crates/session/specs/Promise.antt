@@ -4,6 +4,7 @@ use mathlib.Core.Path.{_≡_}
 use mathlib.Core.List.{List}
 use lib.ListN.{length}
 use Prim.Native.Nat.{ℕ}
+use Rattle.machine.specs.declared.Phase.the-variants.{Open}
 use Rattle.machine.specs.Machine.{Machine, fresh}
 use Rattle.machine.specs.Calls.{Call, Next, call, done, wrote, refused, buffer-after}
 use Rattle.machine.specs.Calls.{Answer as Told}
@@ -30,6 +31,10 @@ Fresh r = r ≡ record-of fresh
 -- for every machine that the session represents, the reply is the machine's after that call
 abbrev pub Keeps : Session → Call → Reply → Type 0
 Keeps s c r = (m : Machine) → Represents m s → r ≡ reply-of (call m c)
+
+-- the same of an open machine
+abbrev pub KeepsOpen : Session → Call → Reply → Type 0
+KeepsOpen s c r = (m : Machine) → Represents m s → m .phase ≡ Open → r ≡ reply-of (call m c)
 
 -- the same of a call that writes: and the buffer holds the text, and beyond it the bytes that it had
 abbrev pub Writes : Session → (ℕ → Call) → List ℕ → List ℕ → Reply → Type 0

@@ -1,4 +1,10 @@
 // The session and its calls.
+mod automaton;
+mod loading;
+mod replies;
+mod saving;
+mod tables;
+
 use machine::Phase;
 use rows::Row;
 
@@ -31,4 +37,10 @@ pub enum Answer {
 pub struct Reply {
     pub session: Session,
     pub answer: Answer,
+}
+
+// The keys of rows, in order: the first words and the second words.
+pub struct Keys {
+    pub high: [u64; 256],
+    pub low: [u64; 256],
 }

@@ -27,6 +27,10 @@ pub record Worded (rows : List Row) (words : List ℕ) (k : ℕ) : Type 0 where
   pub count : k ≡ length (sets rows)
   pub words-are : words ≡ padded 64 0 (sets rows)
 
+-- arrays that hold a table: the keys of its n rows, and its k sets
+abbrev pub Filed : List ℕ → List ℕ → List ℕ → ℕ → ℕ → List Row → Type 0
+Filed high low words n k rows = Keyed rows high low n × Worded rows words k
+
 -- what a batch comes to: the arrays then hold the rows that it leads to, or the first row that fails gives its number and its place
 abbrev pub Comes : (List Row → Type 0) → Fed (List Row) → Outcome → Type 0
 Comes Holds (fed rows) r = (r ≡ Done) × Table rows × Holds rows

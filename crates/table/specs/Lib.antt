@@ -1,2 +1,3 @@
--- What the arrays of a table hold.
+-- What the arrays of a table hold, and the promises of the functions on them.
 pub mod Arrays
+pub mod Promise

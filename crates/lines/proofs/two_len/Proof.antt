@@ -1,0 +1,14 @@
+-- `lines::two_len` meets its contract: the lengths of the parts are summed.
+use borrow.Author.Needs.{needs}
+use native.Mathlib.Omega.{arith}
+use lib.ListN.{length-append}
+use Rattle.lines.proofs.two_len.Statement.{statement}
+use Rattle.lines.proofs.two_len.Tie as tie
+
+returns : tie.Need-returns
+returns c = simp length-append (omega arith)
+
+pub two-len-spec : {M : Type 1} → statement M
+two-len-spec =
+    tie.close
+    (tie.spec (λ c κs. search needs) (λ c. search needs) (λ c. search needs) (λ c κs. search needs) (λ c. search needs) (λ c. search needs) returns)

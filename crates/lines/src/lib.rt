@@ -1,0 +1,280 @@
+// The lines of the sheet, each written at the front of a lent buffer, and how long each is.
+use machine::Verdict;
+ghost use mathlib.Core.Path.{_≡_};
+ghost use Prim.Native.Nat.{_+_, _≤_, _<_};
+ghost use mathlib.Core.List.{_++_};
+ghost use lib.ListN.{length};
+ghost use Rattle.lists.specs.Writing.{Wrote};
+ghost use Rattle.machine.specs.Text.{digit, set-text, number-text};
+ghost use Rattle.machine.specs.Sheet.{verdict-line, opening-line, start-line, step-line};
+ghost use Rattle.machine.specs.Program.{refusal-line};
+ghost use Rattle.lines.specs.Digits.{low-digits};
+ghost use Rattle.lines.specs.Lines.{Next, item-text, one-line, two-line, claim-of, step-to};
+
+// What a step reads: a letter, or a limit at a set.
+pub enum Label {
+    Letter(u8),
+    Omega(u64),
+    Back(u64),
+    Mix(u64),
+}
+
+// What stands after a word of a line.
+pub enum Item {
+    Number(u64),
+    Set(u64),
+}
+
+// Writes a text.
+pub fn put_text(buf: &mut [u8], text: &[u8]) -> usize
+    requires { ⌜ length (now text) ≤ length (now buf) ⌝ }
+    ensures { λ r. ⌜ Wrote (now (text .entry)) (now (buf .entry)) (now (buf .exit)) r ⌝ }
+{
+    let mut i = 0;
+    while i < text.len() {
+        buf[i] = text[i];
+        i += 1;
+    }
+    i
+}
+
+// The byte of a digit: 0 to 9, a to f.
+fn digit_byte(d: u8) -> u8
+    requires { ⌜ d < 16 ⌝ }
+    ensures { λ r. ⌜ r ≡ digit d ⌝ }
+{
+    if d < 10 { 48 + d } else { 87 + d }
+}
+
+// Writes the `count` low digits of a number, from the last to the first.
+fn put_digits(buf: &mut [u8], count: usize, base: u64, n: u64) -> usize
+    requires { ⌜ (count ≤ length (now buf)) × ((0 < base) × (base ≤ 16)) ⌝ }
+    ensures { λ r. ⌜ Wrote (low-digits base count n) (now (buf .entry)) (now (buf .exit)) r ⌝ }
+{
+    let mut i = count;
+    let mut v = n;
+    while 0 < i {
+        i -= 1;
+        buf[i] = digit_byte((v % base) as u8);
+        v = v / base;
+    }
+    count
+}
+
+// How many digits a number has.
+pub fn number_len(n: u64) -> usize
+    ensures { λ r. ⌜ r ≡ length (number-text n) ⌝ }
+{
+    let mut v = n;
+    let mut k = 1;
+    while 10 <= v {
+        v = v / 10;
+        k += 1;
+    }
+    k
+}
+
+// Writes a number with no leading zeros.
+pub fn put_number(buf: &mut [u8], n: u64) -> usize
+    requires { ⌜ length (number-text n) ≤ length (now buf) ⌝ }
+    ensures { λ r. ⌜ Wrote (number-text n) (now (buf .entry)) (now (buf .exit)) r ⌝ }
+{
+    put_digits(buf, number_len(n), 10, n)
+}
+
+// Writes a set as 16 hex digits.
+pub fn put_set(buf: &mut [u8], set: u64) -> usize
+    requires { ⌜ 16 ≤ length (now buf) ⌝ }
+    ensures { λ r. ⌜ Wrote (set-text set) (now (buf .entry)) (now (buf .exit)) r ⌝ }
+{
+    put_digits(buf, 16, 16, set)
+}
+
+// How long the text of a number or a set is.
+fn item_len(item: Item) -> usize
+    ensures { λ r. ⌜ (r ≡ length (item-text item)) × (r ≤ 20) ⌝ }
+{
+    match item {
+        Item::Number(n) => number_len(n),
+        Item::Set(_) => 16,
+    }
+}
+
+// Writes a number or a set.
+fn put_item(buf: &mut [u8], item: Item) -> usize
+    requires { ⌜ length (item-text item) ≤ length (now buf) ⌝ }
+    ensures { λ r. ⌜ Wrote (item-text item) (now (buf .entry)) (now (buf .exit)) r ⌝ }
+{
+    match item {
+        Item::Number(n) => put_number(buf, n),
+        Item::Set(set) => put_set(buf, set),
+    }
+}
+
+// Writes a text from `at` on, and returns the next place.
+fn text_at(buf: &mut [u8], at: usize, text: &[u8]) -> usize
+    requires { ⌜ at + length (now text) ≤ length (now buf) ⌝ }
+    ensures { λ r. ⌜ Next (now (text .entry)) (now (buf .entry)) (now (buf .exit)) at r ⌝ }
+{
+    at + put_text(&mut buf[at..], text)
+}
+
+// Writes a number or a set from `at` on, and returns the next place.
+fn item_at(buf: &mut [u8], at: usize, item: Item) -> usize
+    requires { ⌜ at + length (item-text item) ≤ length (now buf) ⌝ }
+    ensures { λ r. ⌜ Next (item-text item) (now (buf .entry)) (now (buf .exit)) at r ⌝ }
+{
+    at + put_item(&mut buf[at..], item)
+}
+
+// Writes a word and what stands after it from `at` on, and returns the next place.
+fn pair_at(buf: &mut [u8], at: usize, word: &[u8], item: Item) -> usize
+    requires { ⌜ at + (length (now word) + length (item-text item)) ≤ length (now buf) ⌝ }
+    ensures { λ r. ⌜ Next (now (word .entry) ++ item-text item) (now (buf .entry)) (now (buf .exit)) at r ⌝ }
+{
+    let a = text_at(buf, at, word);
+    item_at(buf, a, item)
+}
+
+// How long a line of one word is.
+fn one_len(word: &[u8], item: Item) -> usize
+    requires { ⌜ length (now word) ≤ 64 ⌝ }
+    ensures { λ r. ⌜ r ≡ length (one-line (now (word .entry)) item) ⌝ }
+{
+    word.len() + item_len(item) + 1
+}
+
+// Writes a line of one word.
+fn put_one(buf: &mut [u8], word: &[u8], item: Item) -> usize
+    requires { ⌜ length (one-line (now word) item) ≤ length (now buf) ⌝ }
+    ensures { λ r. ⌜ Wrote (one-line (now (word .entry)) item) (now (buf .entry)) (now (buf .exit)) r ⌝ }
+{
+    let a = pair_at(buf, 0, word, item);
+    text_at(buf, a, b"\n")
+}
+
+// How long a line of two words is.
+fn two_len(first: &[u8], x: Item, second: &[u8], y: Item) -> usize
+    requires { ⌜ (length (now first) ≤ 64) × (length (now second) ≤ 64) ⌝ }
+    ensures { λ r. ⌜ r ≡ length (two-line (now (first .entry)) x (now (second .entry)) y) ⌝ }
+{
+    first.len() + item_len(x) + second.len() + item_len(y) + 1
+}
+
+// Writes a line of two words.
+fn put_two(buf: &mut [u8], first: &[u8], x: Item, second: &[u8], y: Item) -> usize
+    requires { ⌜ length (two-line (now first) x (now second) y) ≤ length (now buf) ⌝ }
+    ensures { λ r. ⌜ Wrote (two-line (now (first .entry)) x (now (second .entry)) y) (now (buf .entry)) (now (buf .exit)) r ⌝ }
+{
+    let a = pair_at(buf, 0, first, x);
+    let b = pair_at(buf, a, second, y);
+    text_at(buf, b, b"\n")
+}
+
+// How long the line `verdict nonempty rounds K` or `verdict empty rounds K` is.
+pub fn verdict_line_len(v: Verdict, k: u64) -> usize
+    ensures { λ r. ⌜ r ≡ length (verdict-line v k) ⌝ }
+{
+    match v {
+        Verdict::NonEmpty => one_len(b"verdict nonempty rounds ", Item::Number(k)),
+        Verdict::Empty => one_len(b"verdict empty rounds ", Item::Number(k)),
+    }
+}
+
+// Writes the line of a verdict.
+pub fn put_verdict_line(buf: &mut [u8], v: Verdict, k: u64) -> usize
+    requires { ⌜ length (verdict-line v k) ≤ length (now buf) ⌝ }
+    ensures { λ r. ⌜ Wrote (verdict-line v k) (now (buf .entry)) (now (buf .exit)) r ⌝ }
+{
+    match v {
+        Verdict::NonEmpty => put_one(buf, b"verdict nonempty rounds ", Item::Number(k)),
+        Verdict::Empty => put_one(buf, b"verdict empty rounds ", Item::Number(k)),
+    }
+}
+
+// How long the line `open K loop SET` or `open K mix SET` is.
+pub fn opening_line_len(round: u64, mixes: bool, set: u64) -> usize
+    ensures { λ r. ⌜ r ≡ length (opening-line (record { round = round; claim = claim-of mixes set })) ⌝ }
+{
+    if mixes {
+        two_len(b"open ", Item::Number(round), b" mix ", Item::Set(set))
+    } else {
+        two_len(b"open ", Item::Number(round), b" loop ", Item::Set(set))
+    }
+}
+
+// Writes the line of an opening.
+pub fn put_opening_line(buf: &mut [u8], round: u64, mixes: bool, set: u64) -> usize
+    requires { ⌜ length (opening-line (record { round = round; claim = claim-of mixes set })) ≤ length (now buf) ⌝ }
+    ensures { λ r. ⌜ Wrote (opening-line (record { round = round; claim = claim-of mixes set })) (now (buf .entry)) (now (buf .exit)) r ⌝ }
+{
+    let x = Item::Number(round);
+    let y = Item::Set(set);
+    if mixes {
+        put_two(buf, b"open ", x, b" mix ", y)
+    } else {
+        put_two(buf, b"open ", x, b" loop ", y)
+    }
+}
+
+// How long the line `start S` is.
+pub fn start_line_len(s: u64) -> usize
+    ensures { λ r. ⌜ r ≡ length (start-line s) ⌝ }
+{
+    one_len(b"start ", Item::Number(s))
+}
+
+// Writes the line of the state where the walk starts.
+pub fn put_start_line(buf: &mut [u8], s: u64) -> usize
+    requires { ⌜ length (start-line s) ≤ length (now buf) ⌝ }
+    ensures { λ r. ⌜ Wrote (start-line s) (now (buf .entry)) (now (buf .exit)) r ⌝ }
+{
+    put_one(buf, b"start ", Item::Number(s))
+}
+
+// How long the line `step letter L to S`, or with `omega SET`, `back SET` or `mix SET`, is.
+pub fn step_line_len(label: Label, to: u64) -> usize
+    ensures { λ r. ⌜ r ≡ length (step-line (step-to label to)) ⌝ }
+{
+    match label {
+        Label::Letter(a) => two_len(
+            b"step letter ",
+            Item::Number(a as u64),
+            b" to ",
+            Item::Number(to),
+        ),
+        Label::Omega(set) => two_len(b"step omega ", Item::Set(set), b" to ", Item::Number(to)),
+        Label::Back(set) => two_len(b"step back ", Item::Set(set), b" to ", Item::Number(to)),
+        Label::Mix(set) => two_len(b"step mix ", Item::Set(set), b" to ", Item::Number(to)),
+    }
+}
+
+// Writes the line of a step.
+pub fn put_step_line(buf: &mut [u8], label: Label, to: u64) -> usize
+    requires { ⌜ length (step-line (step-to label to)) ≤ length (now buf) ⌝ }
+    ensures { λ r. ⌜ Wrote (step-line (step-to label to)) (now (buf .entry)) (now (buf .exit)) r ⌝ }
+{
+    let end = Item::Number(to);
+    match label {
+        Label::Letter(a) => put_two(buf, b"step letter ", Item::Number(a as u64), b" to ", end),
+        Label::Omega(set) => put_two(buf, b"step omega ", Item::Set(set), b" to ", end),
+        Label::Back(set) => put_two(buf, b"step back ", Item::Set(set), b" to ", end),
+        Label::Mix(set) => put_two(buf, b"step mix ", Item::Set(set), b" to ", end),
+    }
+}
+
+// How long the line `refused N at PLACE` is.
+pub fn refusal_line_len(n: u64, place: u64) -> usize
+    ensures { λ r. ⌜ r ≡ length (refusal-line n place) ⌝ }
+{
+    two_len(b"refused ", Item::Number(n), b" at ", Item::Number(place))
+}
+
+// Writes the line of a refusal.
+pub fn put_refusal_line(buf: &mut [u8], n: u64, place: u64) -> usize
+    requires { ⌜ length (refusal-line n place) ≤ length (now buf) ⌝ }
+    ensures { λ r. ⌜ Wrote (refusal-line n place) (now (buf .entry)) (now (buf .exit)) r ⌝ }
+{
+    let x = Item::Number(n);
+    put_two(buf, b"refused ", x, b" at ", Item::Number(place))
+}

@@ -1,0 +1,10 @@
+-- The laws that the proofs of `search` share.
+pub mod Gathering
+pub mod Chains
+pub mod Hops
+pub mod Steps
+pub mod Joining
+pub mod Walks
+pub mod Claims
+pub mod Accepting
+pub mod Opening

@@ -1,0 +1,50 @@
+-- Claims that hold with the claims in force and are not in force yet, place by place.
+use Prim.Native.Nat.{ℕ, zero, suc, _+_, _<_}
+use mathlib.Core.Path.{_≡_, refl, sym, subst, ap, _∙_}
+use mathlib.Core.Bool.{Bool, true, false, _||_}
+use mathlib.Core.Logic.{⊎-elim, _↔_}
+use mathlib.Core.List.{List, [], _∷_, List·Memᴰ·head, List·Memᴰ·tail}
+use native.Mathlib.Omega.{arith}
+use lib.ListN.{length, getD}
+use lib.Seq.{getD-take}
+use Rattle.lists.specs.Tests.{Decides, _among_}
+use Rattle.masks.specs.Mask.{member, _∈_}
+use Rattle.masks.proofs.Member.{in-none, lt-or-le, true-or-false, not-both, union-left, union-right, union-cases}
+use Rattle.rows.specs.declared.Row.{Row}
+use Rattle.rows.specs.Rows.{SetOf, sets}
+use Rattle.rows.proofs.Sets.{sets-iff}
+use Rattle.search.specs.Masked.{Masked}
+
+at-place : (l : List ℕ) (i : ℕ) → i < length l → getD l i 0 among l
+at-place [] i h = absurd (omega arith)
+at-place (x ∷ l) zero h = List·Memᴰ·head refl
+at-place (x ∷ l) (suc i) h = List·Memᴰ·tail (at-place l i (omega arith))
+
+-- at each place below n is a set of the rows
+pub set-at : {rows : List Row} {letters words lefts rights : List ℕ} {n : ℕ} → Masked rows letters words lefts rights n → length (sets rows) ≡ n
+    → (i : ℕ) → i < n → SetOf rows (getD words i 0)
+set-at {rows} {words = words} {n = n} is count i l =
+    let e : getD words i 0 ≡ getD (sets rows) i 0 = sym (getD-take n words i 0 l) ∙ ap (λ (x : List ℕ). getD x i 0) (is .sets-are) in
+    sets-iff rows (getD words i 0) .0 (rw e (at-place (sets rows) i (omega arith)))
+
+-- a claim C that the mask m has at place i where it is in force; `found` tests that it is not, and that it holds
+pub opens-iff : {found taken : Bool} {A B C : Type 0} {n : ℕ} (i m r : ℕ) → i < n → A ↔ B → (i ∈ m) ↔ ((i < n) × C) → taken ≡ member i m
+    → Decides found ((taken ≡ false) × A) → ((t : ℕ) → (t ∈ r) ↔ ((t ≡ i) × (found ≡ true))) → (t : ℕ) → (t ∈ r) ↔ ((t ≡ i) × (B × ¬ C))
+opens-iff i m r l says force is-taken d is t = (
+  (λ h. let x = is t .0 h in let y = d .to (x .1) in (x .0, (says .0 (y .1), λ f. not-both (force .1 (l, f)) (sym is-taken ∙ y .0)))),
+  λ h. is t .1 (h .0, d .of (⊎-elim (λ e. absurd (h .1 .1 (force .0 e .1))) (λ e. is-taken ∙ e) (true-or-false (member i m)), says .1 (h .1 .0))),
+)
+
+-- a claim in force is not opened
+pub opens-not : {B C : Type 0} {n : ℕ} (i m : ℕ) → i ∈ m → (i ∈ m) ↔ ((i < n) × C) → (t : ℕ) → (t ∈ 0) ↔ ((t ≡ i) × (B × ¬ C))
+opens-not i m h force t = ((λ x. absurd (in-none t x)), λ x. absurd (x .1 .1 (force .0 h .1)))
+
+-- the places below k, and k
+pub below-next : {Q : ℕ → Type 0} (k r g r′ : ℕ) → ((t : ℕ) → (t ∈ r) ↔ ((t < k) × Q t)) → ((t : ℕ) → (t ∈ g) ↔ ((t ≡ k) × Q k))
+    → ((t : ℕ) → member t r′ ≡ (member t r || member t g)) → (t : ℕ) → (t ∈ r′) ↔ ((t < k + 1) × Q t)
+below-next {Q} k r g r′ below at is t = (
+  (λ h. ⊎-elim (λ x. let y = below t .0 x in (omega (arith, y .0), y .1)) (λ x. let y = at t .0 x in (omega (arith, y .0), subst Q (sym (y .0)) (y .1)))
+      (union-cases r g r′ is t h)),
+  λ h. ⊎-elim (λ l. union-left r g r′ is t (below t .1 (l, h .1)))
+      (λ l. let e : t ≡ k = omega (arith, h .0, l) in union-right r g r′ is t (at t .1 (e, subst Q e (h .1)))) (lt-or-le t k),
+)

@@ -1,0 +1,64 @@
+-- What the search promises, for all rows and claims that the masks stand for.
+use Prim.Native.Nat.{ℕ, _<_}
+use mathlib.Core.Path.{_≡_}
+use mathlib.Core.Bool.{Bool}
+use mathlib.Core.Logic.{_↔_}
+use mathlib.Core.List.{List}
+use lib.ListN.{length, getD}
+use Rattle.lists.specs.Tests.{Decides, _among_}
+use Rattle.masks.specs.Graph.{Turned}
+use Rattle.masks.specs.Mask.{_∈_}
+use Rattle.rows.specs.declared.Row.{Row}
+use Rattle.rows.specs.declared.Row.the-variants.{Initial, Final}
+use Rattle.rows.specs.Rows.{sets, AllFit}
+use Rattle.orderings.specs.Steps.{Claim, loops, mixes, Walk}
+use Rattle.orderings.specs.Claims.{Loops, Mixes}
+use Rattle.orderings.specs.Systems.{Allowed, AtHand, Holds}
+use Rattle.orderings.specs.Timelines.{timelines, Accepting}
+use Rattle.search.specs.Masked.{Masked, Forced}
+
+-- the masks are those of the rows, and the places those of the claims in force
+pub record Stands (letters words lefts rights : List ℕ) (loop-mask mix-mask : ℕ) (rows : List Row) (claims : List Claim) (n : ℕ) : Type 0 where
+  pub masked : Masked rows letters words lefts rights n
+  pub forced : Forced (λ c. c among claims) words n loop-mask mix-mask
+
+-- the walks of the rows with the claims in force
+abbrev pub Hand : List Row → List Claim → Walk → Type 0
+Hand rows claims w = AtHand (timelines rows) (λ c. c among claims) w
+
+-- r says whether p loops
+abbrev pub LoopsRight : List ℕ → List ℕ → List ℕ → List ℕ → List ℕ → ℕ → ℕ → ℕ → Bool → Type 0
+LoopsRight letters back words lefts rights loop-mask mix-mask p r = Turned letters back
+    → (rows : List Row) (claims : List Claim) (n : ℕ) → Stands letters words lefts rights loop-mask mix-mask rows claims n
+    → Decides r (Loops (Hand rows claims) p)
+
+-- r says whether the set at place i mixes
+abbrev pub MixesRight : List ℕ → List ℕ → List ℕ → List ℕ → List ℕ → ℕ → ℕ → ℕ → Bool → Type 0
+MixesRight letters back words lefts rights loop-mask mix-mask i r = Turned letters back
+    → (rows : List Row) (claims : List Claim) (n : ℕ) → Stands letters words lefts rights loop-mask mix-mask rows claims n
+    → i < n → Decides r (Mixes rows (Hand rows claims) (getD words i 0))
+
+-- r says whether a walk of zero or more steps leads from an initial to a final state
+abbrev pub AcceptsRight : List ℕ → List ℕ → List ℕ → List ℕ → ℕ → ℕ → ℕ → ℕ → Bool → Type 0
+AcceptsRight letters words lefts rights loop-mask mix-mask starts ends r =
+    (rows : List Row) (claims : List Claim) (n : ℕ) → Stands letters words lefts rights loop-mask mix-mask rows claims n → AllFit rows
+    → ((s : ℕ) → (s ∈ starts) ↔ Initial s among rows) → ((s : ℕ) → (s ∈ ends) ↔ Final s among rows)
+    → Decides r ((w : Walk) × Accepting rows w × Allowed (timelines rows) (λ c. c among claims) w)
+
+-- the claim holds with the claims in force, and is not in force yet
+abbrev pub Opens : List Row → List Claim → Claim → Type 0
+Opens rows claims c = Holds (timelines rows) (λ d. d among claims) c × ¬ (c among claims)
+
+-- the place i alone where its loop is opened next, or its mix
+abbrev pub OpensAt : List ℕ → List ℕ → List ℕ → List ℕ → List ℕ → ℕ → ℕ → ℕ → ℕ → ℕ → Type 0
+OpensAt letters back words lefts rights loop-mask mix-mask i new-loops new-mixes = Turned letters back
+    → (rows : List Row) (claims : List Claim) (n : ℕ) → Stands letters words lefts rights loop-mask mix-mask rows claims n → length (sets rows) ≡ n → i < n
+    → ((t : ℕ) → (t ∈ new-loops) ↔ ((t ≡ i) × Opens rows claims (loops (getD words i 0))))
+    × ((t : ℕ) → (t ∈ new-mixes) ↔ ((t ≡ i) × Opens rows claims (mixes (getD words i 0))))
+
+-- the places below k whose loops are opened next, and those whose mixes are
+abbrev pub OpensBelow : List ℕ → List ℕ → List ℕ → List ℕ → List ℕ → ℕ → ℕ → ℕ → ℕ → ℕ → ℕ → Type 0
+OpensBelow letters back words lefts rights loop-mask mix-mask n k new-loops new-mixes = Turned letters back
+    → (rows : List Row) (claims : List Claim) → Stands letters words lefts rights loop-mask mix-mask rows claims n → length (sets rows) ≡ n
+    → ((i : ℕ) → (i ∈ new-loops) ↔ ((i < k) × Opens rows claims (loops (getD words i 0))))
+    × ((i : ℕ) → (i ∈ new-mixes) ↔ ((i < k) × Opens rows claims (mixes (getD words i 0))))

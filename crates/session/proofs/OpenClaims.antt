@@ -1,0 +1,124 @@
+-- The claims that are open are those whose rounds are not 0.
+use Prim.Native.Nat.{ℕ, zero, suc, _<_, _≤_, _+_, _-_}
+use mathlib.Core.Path.{_≡_, refl, ap, sym, _∙_, subst}
+use mathlib.Core.Bool.{Bool, true, false, cond, _||_}
+use mathlib.Core.Logic.{_⊎_, inl, inr, ⊎-elim, _↔_}
+use mathlib.Core.List.{List, [], _∷_, map, List·Memᴰ·head, List·Memᴰ·tail, List·Memᴰ·not-nil, List·Memᴰ·cases-cons}
+use lib.ListN.{length, getD, replicate, length-map, List·getD-append}
+use native.Mathlib.Omega.{arith}
+use native.Mathlib.Nat.{eq-or-lt-of-le}
+use lib.Dec.{eqb}
+use Rattle.lists.specs.Tests.{Decides, _among_}
+use Rattle.lists.proofs.Deciding.{yes·, no·}
+use Rattle.masks.specs.Mask.{member, _∈_}
+use Rattle.masks.proofs.Member.{with-same, with-cases}
+use Rattle.rows.specs.declared.Row.{Row}
+use Rattle.rows.specs.Rows.{sets}
+use Rattle.orderings.specs.Steps.{Claim, loops, mixes}
+use Rattle.orderings.specs.Decide.{same-claim}
+use Rattle.orderings.specs.Rounds.{Opens}
+use Rattle.orderings.specs.Timelines.{timelines}
+use Rattle.orderings.proofs.Deciding.{same-claim·}
+use Rattle.machine.specs.declared.Phase.{Phase}
+use Rattle.machine.specs.declared.Phase.the-variants.{Open, Running, Settled}
+use Rattle.machine.specs.Machine.{Opening, Machine, open-claims}
+use Rattle.machine.specs.WellFormed.{after, Worked, Made, WellFormed}
+use Rattle.machine.proofs.Settling.{after-after}
+use Rattle.search.specs.Masked.{Forced}
+use Rattle.table.specs.Arrays.{padded}
+use Rattle.session.specs.declared.Session.{Session}
+use Rattle.session.specs.Record.{round-of, rounds-of, record-of, Represents}
+use Rattle.session.specs.Automaton.{OpenPlaces}
+
+-- ---- the mask of the places with a round
+
+-- r is the mask of the places below i
+abbrev Below : List ℕ → ℕ → ℕ → Type 0
+Below rounds r i = (k : ℕ) → (k ∈ r) ↔ ((k < i) × (0 < getD rounds k 0))
+
+-- one place more, with a round
+pub one-more : (rounds : List ℕ) (r i w : ℕ) → Below rounds r i → 0 < getD rounds i 0 → ((t : ℕ) → member t w ≡ (member t r || eqb t i)) → Below rounds w (i + 1)
+one-more rounds r i w h g is k = (
+  (λ j. ⊎-elim (λ o. let p = h k .0 o in (omega (arith, p .0), p .1)) (λ e. (omega arith, subst (λ n. 0 < getD rounds n 0) (sym e) g)) (with-cases r i w is k j)),
+  λ p. ⊎-elim (λ e. subst (λ n. n ∈ w) (sym e) (with-same r i w is)) (λ l. is k ∙ ap (λ (b : Bool). b || eqb k i) (h k .1 (omega arith, p .1))) (eq-or-lt-of-le (below-suc (p .0))),
+)
+  where
+    below-suc : k < i + 1 → k ≤ i
+    below-suc l = omega arith
+
+-- one place more, without
+pub none-more : (rounds : List ℕ) (r i : ℕ) → Below rounds r i → getD rounds i 0 ≡ 0 → Below rounds r (i + 1)
+none-more rounds r i h g k = (
+  (λ j. let p = h k .0 j in (omega (arith, p .0), p .1)),
+  λ p. ⊎-elim (λ e. absurd (omega (arith, p .1, ap (λ n. getD rounds n 0) e))) (λ l. h k .1 (omega arith, p .1)) (eq-or-lt-of-le (below-suc (p .0))),
+)
+  where
+    below-suc : k < i + 1 → k ≤ i
+    below-suc l = omega arith
+
+-- ---- the claims that are open
+
+-- every opening has a round of 1 or more
+abbrev Counted : List Opening → Type 0
+Counted l = (o : Opening) → o among l → 0 < o .round
+
+-- among such openings the round of a claim is not 0 just where one opened it
+round-iff : (c : Claim) (l : List Opening) → Counted l → (0 < round-of l c) ↔ c among map (λ (o : Opening). o .claim) l
+round-iff c [] h = ((λ p. absurd (omega arith)), λ m. absurd (List·Memᴰ·not-nil m))
+round-iff c (o ∷ l) h = go (same-claim c (o .claim)) (same-claim· c (o .claim)) (round-iff c l (λ x m. h x (List·Memᴰ·tail m)))
+  where
+    go : (b : Bool) → Decides b (c ≡ o .claim) → (0 < round-of l c) ↔ c among map (λ (o : Opening). o .claim) l
+        → (0 < cond b (o .round) (round-of l c)) ↔ c among (o .claim ∷ map (λ (o : Opening). o .claim) l)
+    go true d r = ((λ p. List·Memᴰ·head (yes· d)), λ m. h o (List·Memᴰ·head refl))
+    go false d r = ((λ p. List·Memᴰ·tail (r .0 p)), λ m. r .1 (⊎-elim (λ e. absurd (no· d e)) (λ i. i) (List·Memᴰ·cases-cons m)))
+
+-- no claim is opened in round 0
+later : (rows : List Row) (k : ℕ) (c : Claim) → Opens (timelines rows) k c → 0 < k
+later rows zero c o = absurd o
+later rows (suc k) c o = omega arith
+
+-- the openings of a machine that calls made
+counted : (m : Machine) → WellFormed m → Counted (m .openings)
+counted m w = go (m .phase) (w .made)
+  where
+    worked : Worked m → Counted (m .openings)
+    worked k o i = later (m .rows) (o .round) (o .claim) (after-after (m .rows) (k .0) .numbers o .0 (subst (λ (x : Machine). o among x .openings) (k .1) i) .1)
+
+    go : (p : Phase) → Made m p → Counted (m .openings)
+    go Open e o i = absurd (List·Memᴰ·not-nil (subst (λ (x : Machine). o among x .openings) e i))
+    go Running k o i = worked k o i
+    go (Settled v) k o i = worked k o i
+
+map-at : (f : ℕ → ℕ) (l : List ℕ) (i : ℕ) → i < length l → getD (map f l) i 0 ≡ f (getD l i 0)
+map-at f [] i h = absurd (omega arith)
+map-at f (x ∷ l) zero h = refl
+map-at f (x ∷ l) (suc i) h = map-at f l i (omega arith)
+
+-- what an array holds below the length of the list that it is filled up from
+filled-at : (l : List ℕ) (i : ℕ) → i < length l → getD (padded 64 0 l) i 0 ≡ getD l i 0
+filled-at l i h = List·getD-append l (replicate (64 - length l) 0) 0 i h
+
+module _ (m : Machine) (w : WellFormed m) (claim : ℕ → Claim) where
+  abbrev P : ℕ → ℕ
+  P i = getD (padded 64 0 (sets (m .rows))) i 0
+
+  -- at the place of a set stands the round of its claim
+  round-at : (i : ℕ) → i < length (sets (m .rows)) → getD (rounds-of m claim) i 0 ≡ round-of (m .openings) (claim (P i))
+  round-at i h = let f : ℕ → ℕ = λ P. round-of (m .openings) (claim P) in let l = sets (m .rows) in
+      filled-at (map f l) i (omega (arith, length-map l f)) ∙ map-at f l i h ∙ ap f (sym (filled-at l i h))
+
+  open-iff : (mask : ℕ) → OpenPlaces (rounds-of m claim) (length (sets (m .rows))) mask → (i : ℕ) → (i ∈ mask) ↔ ((i < length (sets (m .rows))) × claim (P i) among open-claims m)
+  open-iff mask is i = let q = round-iff (claim (P i)) (m .openings) (counted m w) in (
+    (λ k. let p = is i .0 k in (p .0, q .0 (subst (λ n. 0 < n) (round-at i (p .0)) (p .1)))),
+    λ p. is i .1 (p .0, subst (λ n. 0 < n) (sym (round-at i (p .0))) (q .1 (p .1))),
+  )
+
+-- the masks of the places with a round are those of the claims that are open
+pub forced : (m : Machine) (s : Session) (loop-mask mix-mask : ℕ) → Represents m s
+    → OpenPlaces (s .«loop_rounds») (s .«set_count») loop-mask → OpenPlaces (s .«mix_rounds») (s .«set_count») mix-mask
+    → Forced (λ c. c among open-claims m) (s .sets) (s .«set_count») loop-mask mix-mask
+unfolding record-of
+forced m s loop-mask mix-mask r = subst
+    (λ (x : Session). OpenPlaces (x .«loop_rounds») (x .«set_count») loop-mask → OpenPlaces (x .«mix_rounds») (x .«set_count») mix-mask
+    → Forced (λ c. c among open-claims m) (x .sets) (x .«set_count») loop-mask mix-mask)
+    (sym (r .whole)) (λ h g. record { loop-iff = open-iff m (r .formed) loops loop-mask h; mix-iff = open-iff m (r .formed) mixes mix-mask g })

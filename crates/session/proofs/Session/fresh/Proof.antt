@@ -1,0 +1,13 @@
+-- `fresh` meets its contract: the arrays hold nothing but fillers.
+use mathlib.Core.Path.{refl}
+use Rattle.rows.specs.Rows.{sets}
+use Rattle.session.specs.Record.{record-of}
+use Rattle.session.proofs.Session.fresh.Statement.{statement}
+use Rattle.session.proofs.Session.fresh.Tie as tie
+
+returns : tie.Need-returns
+unfolding record-of sets
+returns c = refl
+
+pub fresh-spec : {M : Type 1} → statement M
+fresh-spec = tie.close (tie.spec returns)

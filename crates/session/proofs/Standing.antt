@@ -1,0 +1,111 @@
+-- The rows of an array, one after another: their bytes, their keys, and the array of the rows of some keys.
+use Prim.Native.Nat.{ℕ, zero, suc, _+_, _-_, _<_, _≤_}
+use mathlib.Core.Path.{_≡_, refl, ap, sym, _∙_}
+use mathlib.Core.List.{List, [], _∷_, _++_, map, map-append, append-assoc, append-nil, List·Memᴰ·head, List·Memᴰ·tail}
+use native.Mathlib.Omega.{arith}
+use lib.ListN.{length, getD, take, drop, set, replicate, length-append, length-map}
+use lib.Seq.{take-suc, take-add, take-suc-set, getD-take, length-take-le, set-at, append-snoc}
+use Rattle.lists.specs.Tests.{_among_, gather}
+use Rattle.rows.specs.declared.Row.{Row}
+use Rattle.rows.specs.declared.Row.the-variants.{Initial, Final, Successor, LeftLimit, RightLimit}
+use Rattle.rows.specs.Rows.{row-bytes, batch-of, AllFit}
+use Rattle.rows.specs.Keys.{high, low, row-from}
+use Rattle.rows.proofs.Keys.{key-back}
+use Rattle.table.specs.Arrays.{padded, Keyed}
+use Rattle.session.specs.declared.Slot.{Slot}
+use Rattle.session.specs.Record.{slot, blank}
+use Rattle.session.specs.Standing.{first-rows}
+
+pub row-short : (r : Row) → length (row-bytes r) ≤ 10
+unfolding row-bytes
+row-short (Initial s) = omega arith
+row-short (Final s) = omega arith
+row-short (Successor p a q) = omega arith
+row-short (LeftLimit P q) = omega arith
+row-short (RightLimit q P) = omega arith
+
+gather-append : {A B : Type 0} (f : A → List B) (l m : List A) → gather f (l ++ m) ≡ gather f l ++ gather f m
+gather-append f [] m = refl
+gather-append {A} {B} f (x ∷ l) m = ap (λ (k : List B). f x ++ k) (gather-append f l m) ∙ sym (append-assoc (f x) (gather f l) (gather f m))
+
+-- an element of a list that a function makes
+getD-map-in : {A B : Type 0} (f : A → B) (l : List A) (i : ℕ) (d : A) (e : B) → i < length l → getD (map f l) i e ≡ f (getD l i d)
+getD-map-in f [] i d e h = absurd (omega arith)
+getD-map-in f (x ∷ l) zero d e h = refl
+getD-map-in f (x ∷ l) (suc i) d e h = getD-map-in f l i d e (omega arith)
+
+getD-among : {A : Type 0} (l : List A) (i : ℕ) (d : A) → i < length l → getD l i d among l
+getD-among [] i d h = absurd (omega arith)
+getD-among (x ∷ l) zero d h = List·Memᴰ·head refl
+getD-among (x ∷ l) (suc i) d h = List·Memᴰ·tail (getD-among l i d (omega arith))
+
+module _ (l : List Slot) where
+  pub no-row : first-rows 0 l ≡ []
+  unfolding first-rows
+  no-row = refl
+
+  -- one row more
+  pub row-more : (i : ℕ) → i < length l → first-rows (i + 1) l ≡ first-rows i l ++ (getD l i blank .row ∷ [])
+  unfolding first-rows
+  row-more i h = let e : i + 1 ≡ suc i = omega arith in rw (e, take-suc l i blank h) (map-append (λ (s : Slot). s .row) (take i l) (getD l i blank ∷ []))
+
+  pub bytes-more : (i : ℕ) → i < length l → batch-of (first-rows (i + 1) l) ≡ batch-of (first-rows i l) ++ row-bytes (getD l i blank .row)
+  bytes-more i h = ap batch-of (row-more i h) ∙ gather-append row-bytes (first-rows i l) (getD l i blank .row ∷ [])
+      ∙ ap (λ (t : List ℕ). batch-of (first-rows i l) ++ t) (append-nil (row-bytes (getD l i blank .row)))
+
+  -- the next row is within the bytes of all
+  pub bytes-within : (i n : ℕ) → i < n → n ≤ length l
+      → length (batch-of (first-rows i l)) + length (row-bytes (getD l i blank .row)) ≤ length (batch-of (first-rows n l))
+  unfolding first-rows
+  bytes-within i n h k =
+      let row : Slot → Row = λ s. s .row in
+      let e : (i + 1) + (n - (i + 1)) ≡ n = omega arith in
+      let s : first-rows n l ≡ first-rows (i + 1) l ++ map row (take (n - (i + 1)) (drop (i + 1) l)) =
+      ap (λ (j : ℕ). map row (take j l)) (sym e) ∙ ap (map row) (take-add (i + 1) (n - (i + 1)) l) ∙ map-append row (take (i + 1) l) (take (n - (i + 1)) (drop (i + 1) l)) in
+      let a = ap length (ap batch-of s ∙ gather-append row-bytes (first-rows (i + 1) l) (map row (take (n - (i + 1)) (drop (i + 1) l)))) in
+      let b = ap length (bytes-more i (omega arith)) in
+      omega (arith, simp length-append at a, simp length-append at b)
+
+  -- one key more
+  pub key-more : (i : ℕ) (highs lows : List ℕ) → i < length l → i < length highs → i < length lows → Keyed (first-rows i l) highs lows i
+      → Keyed (first-rows (i + 1) l) (set highs i (high (getD l i blank .row))) (set lows i (low (getD l i blank .row))) (i + 1)
+  key-more i highs lows h g k p =
+      let e : i + 1 ≡ suc i = omega arith in
+      let r = getD l i blank .row in
+      record {
+        count = rw (row-more i h) (simp length-append (omega (arith, p .count)));
+        highs-are = rw (row-more i h, e, take-suc-set highs i (high r) g, p .highs-are) (sym (map-append high (first-rows i l) (r ∷ [])));
+        lows-are = rw (row-more i h, e, take-suc-set lows i (low r) k, p .lows-are) (sym (map-append low (first-rows i l) (r ∷ [])));
+      }
+
+  pub no-key : (highs lows : List ℕ) → Keyed (first-rows 0 l) highs lows 0
+  unfolding first-rows
+  no-key highs lows = record { count = refl; highs-are = refl; lows-are = refl }
+
+-- one element more takes a filler's place
+padded-more : {A : Type 0} (n : ℕ) (d : A) (l : List A) (x : A) → length l < n → set (padded n d l) (length l) x ≡ padded n d (l ++ (x ∷ []))
+padded-more n d l x h =
+    let e : n - length l ≡ suc (n - suc (length l)) = omega arith in
+    let f : length (l ++ (x ∷ [])) ≡ suc (length l) = simp length-append (omega arith) in
+    rw (e, f) (set-at l d (replicate (n - suc (length l)) d) x (length l) refl ∙ sym (append-snoc l x (replicate (n - suc (length l)) d)))
+
+module _ (rows : List Row) (fit : AllFit rows) (highs lows : List ℕ) (n : ℕ) (keyed : Keyed rows highs lows n) where
+  -- the row of a key
+  row-there : (i : ℕ) → i < n → row-from (getD highs i 0) (getD lows i 0) ≡ getD rows i (Initial 0)
+  row-there i h =
+      let k : i < length rows = omega (arith, keyed .count) in
+      let a : getD highs i 0 ≡ high (getD rows i (Initial 0)) = sym (getD-take n highs i 0 h) ∙ ap (λ (l : List ℕ). getD l i 0) (keyed .highs-are) ∙ getD-map-in high rows i (Initial 0) 0 k in
+      let b : getD lows i 0 ≡ low (getD rows i (Initial 0)) = sym (getD-take n lows i 0 h) ∙ ap (λ (l : List ℕ). getD l i 0) (keyed .lows-are) ∙ getD-map-in low rows i (Initial 0) 0 k in
+      rw (a, b) (key-back (getD rows i (Initial 0)) (fit (getD rows i (Initial 0)) (getD-among rows i (Initial 0) k)))
+
+  -- the array with one row more
+  pub slot-more : (i : ℕ) → i < n → n ≤ 256
+      → set (padded 256 blank (map slot (take i rows))) i (slot (row-from (getD highs i 0) (getD lows i 0))) ≡ padded 256 blank (map slot (take (i + 1) rows))
+  slot-more i h g =
+      let k : i < length rows = omega (arith, keyed .count) in
+      let e : length (map slot (take i rows)) ≡ i = length-map (take i rows) slot ∙ length-take-le i rows (omega arith) in
+      let f : take (i + 1) rows ≡ take i rows ++ (getD rows i (Initial 0) ∷ []) = let z : i + 1 ≡ suc i = omega arith in rw z (take-suc rows i (Initial 0) k) in
+      ap (λ (r : Row). set (padded 256 blank (map slot (take i rows))) i (slot r)) (row-there i h)
+      ∙ ap (λ (j : ℕ). set (padded 256 blank (map slot (take i rows))) j (slot (getD rows i (Initial 0)))) (sym e)
+      ∙ padded-more 256 blank (map slot (take i rows)) (slot (getD rows i (Initial 0))) (omega (arith, e))
+      ∙ ap (λ (x : List Slot). padded 256 blank x) (sym (map-append slot (take i rows) (getD rows i (Initial 0) ∷ [])) ∙ ap (map slot) (sym f))

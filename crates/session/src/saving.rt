@@ -1,0 +1,79 @@
+// The call save.
+use crate::Answer;
+use crate::Reply;
+use crate::Session;
+use crate::replies::in_range;
+use rows::Row;
+ghost use mathlib.Core.Path.{_≡_};
+ghost use Prim.Native.Nat.{_≤_, _+_};
+ghost use lib.ListN.{length};
+ghost use Rattle.lists.specs.Writing.{Wrote};
+ghost use Rattle.rows.specs.Rows.{row-bytes, batch-of};
+ghost use Rattle.machine.specs.Calls.{save};
+ghost use Rattle.session.specs.Promise.{Writes};
+ghost use Rattle.session.specs.Standing.{standing, PutAt};
+
+// Writes the row's bytes from `at` on, and returns the next place.
+fn row_at(buf: &mut [u8], at: usize, row: Row) -> usize
+    requires { ⌜ at + length (row-bytes row) ≤ length (now buf) ⌝ }
+    ensures { λ r. ⌜ PutAt (row-bytes row) (now (buf .entry)) at (now (buf .exit)) r ⌝ }
+{
+    at + rows::write_row(&mut buf[at..], row)
+}
+
+impl Session {
+    // How many bytes the standing rows have.
+    fn saved_len(self) -> usize
+        requires { ⌜ self .«row_count» ≤ 256 ⌝ }
+        ensures { λ r. ⌜ r ≡ length (batch-of (standing self)) ⌝ }
+    {
+        let n = self.row_count;
+        let mut len = 0;
+        let mut i = 0;
+        while i < n {
+            let slot = self.rows[i];
+            let row = slot.row;
+            len += rows::row_len(row);
+            i += 1;
+        }
+        len
+    }
+
+    // Writes the standing rows one after another.
+    fn write_rows(self, buffer: &mut [u8]) -> usize
+        requires { ⌜ (self .«row_count» ≤ 256) × (length (batch-of (standing self)) ≤ length (now buffer)) ⌝ }
+        ensures { λ r. ⌜ Wrote (batch-of (standing self)) (now (buffer .entry)) (now (buffer .exit)) r ⌝ }
+    {
+        let n = self.row_count;
+        let mut at = 0;
+        let mut next = 0;
+        while next < n {
+            let slot = self.rows[next];
+            let row = slot.row;
+            at = row_at(buffer, at, row);
+            next += 1;
+        }
+        at
+    }
+
+    // The standing rows into the buffer, in any phase; nothing where the buffer is too short.
+    pub fn save(self, buffer: &mut [u8]) -> Reply
+        ensures { λ r. ⌜ Writes self save (now (buffer .entry)) (now (buffer .exit)) r ⌝ }
+    {
+        let row_count = self.row_count;
+        let set_count = self.set_count;
+        if !in_range(row_count, set_count) {
+            return self.refuse(24);
+        }
+        let len = self.saved_len();
+        if buffer.len() < len {
+            return self.refuse(12);
+        }
+        let wrote = self.write_rows(buffer);
+        let answer = Answer::Wrote(wrote);
+        Reply {
+            session: self,
+            answer,
+        }
+    }
+}

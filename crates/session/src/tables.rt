@@ -1,0 +1,92 @@
+// The fresh session; the table of a session as arrays of keys, and a session with another table.
+use crate::Keys;
+use crate::Session;
+use crate::Slot;
+use machine::Phase;
+use rows::Row;
+ghost use mathlib.Core.Path.{_≡_};
+ghost use Prim.Native.Nat.{_≤_};
+ghost use Rattle.table.specs.Arrays.{Keyed};
+ghost use Rattle.session.specs.Promise.{Fresh};
+ghost use Rattle.session.specs.Standing.{standing, with-table, Slotted};
+
+// The rows of the first `n` keys, and then the filler.
+pub(crate) fn slots(high: &[u64; 256], low: &[u64; 256], n: usize) -> [Slot; 256]
+    requires { ⌜ n ≤ 256 ⌝ }
+    ensures { λ r. ⌜ Slotted (now (high .entry)) (now (low .entry)) n r ⌝ }
+{
+    let row = Row::Initial(0);
+    let blank = Slot { row };
+    let mut rows = [blank; 256];
+    let mut i = 0;
+    while i < n {
+        let row = rows::row_of(high[i], low[i]);
+        let slot = Slot { row };
+        rows[i] = slot;
+        i += 1;
+    }
+    rows
+}
+
+impl Session {
+    // Open, with no rows.
+    pub fn fresh() -> Session
+        ensures { λ r. ⌜ Fresh r ⌝ }
+    {
+        let row = Row::Initial(0);
+        let blank = Slot { row };
+        let rows = [blank; 256];
+        let sets = [0u64; 64];
+        let loop_rounds = [0u8; 64];
+        let mix_rounds = [0u8; 64];
+        let phase = Phase::Open;
+        Session {
+            rows,
+            row_count: 0,
+            sets,
+            set_count: 0,
+            loop_rounds,
+            mix_rounds,
+            phase,
+            rounds: 0,
+        }
+    }
+
+    // The keys of the standing rows.
+    pub(crate) fn keys(self) -> Keys
+        requires { ⌜ self .«row_count» ≤ 256 ⌝ }
+        ensures { λ r. ⌜ Keyed (standing self) (r .high) (r .low) (self .«row_count») ⌝ }
+    {
+        let n = self.row_count;
+        let mut high = [0u64; 256];
+        let mut low = [0u64; 256];
+        let mut i = 0;
+        while i < n {
+            let slot = self.rows[i];
+            let row = slot.row;
+            high[i] = rows::high_of(row);
+            low[i] = rows::low_of(row);
+            i += 1;
+        }
+        Keys { high, low }
+    }
+
+    // The session with another table.
+    pub(crate) fn with_rows(
+        self,
+        rows: [Slot; 256],
+        row_count: usize,
+        sets: [u64; 64],
+        set_count: usize,
+    ) -> Session
+        ensures { λ r. ⌜ r ≡ with-table self rows «row_count» sets «set_count» ⌝ }
+    {
+        Session {
+            rows,
+            row_count,
+            sets,
+            set_count,
+            ..self
+        }
+    }
+}

@@ -1,0 +1,6 @@
+pub mod Places
+pub mod Sets
+pub mod Keys
+pub mod Turns
+pub mod Stages
+pub mod Collected
