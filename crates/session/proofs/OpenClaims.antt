@@ -2,7 +2,7 @@
 use Prim.Native.Nat.{ℕ, zero, suc, _<_, _≤_, _+_, _-_}
 use mathlib.Core.Path.{_≡_, refl, ap, sym, _∙_, subst}
 use mathlib.Core.Bool.{Bool, true, false, cond, _||_}
-use mathlib.Core.Logic.{_⊎_, inl, inr, ⊎-elim, _↔_}
+use mathlib.Core.Logic.{⊎-elim, _↔_}
 use mathlib.Core.List.{List, [], _∷_, map, List·Memᴰ·head, List·Memᴰ·tail, List·Memᴰ·not-nil, List·Memᴰ·cases-cons}
 use lib.ListN.{length, getD, replicate, length-map, List·getD-append}
 use native.Mathlib.Omega.{arith}
@@ -22,7 +22,7 @@ use Rattle.orderings.proofs.Deciding.{same-claim·}
 use Rattle.machine.specs.declared.Phase.{Phase}
 use Rattle.machine.specs.declared.Phase.the-variants.{Open, Running, Settled}
 use Rattle.machine.specs.Machine.{Opening, Machine, open-claims}
-use Rattle.machine.specs.WellFormed.{after, Worked, Made, WellFormed}
+use Rattle.machine.specs.WellFormed.{Worked, Made, WellFormed}
 use Rattle.machine.proofs.Settling.{after-after}
 use Rattle.search.specs.Masked.{Forced}
 use Rattle.table.specs.Arrays.{padded}

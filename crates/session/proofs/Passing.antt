@@ -19,7 +19,6 @@ use Rattle.rows.specs.Rows.{sets}
 use Rattle.rows.proofs.Sets.{sets-sorted, sets-once}
 use Rattle.machine.specs.Machine.{Machine}
 use Rattle.machine.specs.WellFormed.{WellFormed}
-use Rattle.search.specs.Masked.{Masked}
 use Rattle.table.specs.Arrays.{padded}
 use Rattle.session.specs.declared.Slot.{Slot}
 use Rattle.session.specs.declared.Session.{Session}

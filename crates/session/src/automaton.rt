@@ -2,9 +2,7 @@
 use crate::Session;
 use rows::Row;
 use sorted::Place;
-ghost use mathlib.Core.Path.{_≡_};
-ghost use Prim.Native.Nat.{ℕ, _≤_};
-ghost use lib.ListN.{getD};
+ghost use Prim.Native.Nat.{_≤_};
 ghost use Rattle.session.specs.Automaton.{Adds, Puts, Places, OpenPlaces, Marks, Reads};
 
 // For each state the targets of its letter steps; for each set the states that its left-limit rows lead to, and those that its

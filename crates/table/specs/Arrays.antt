@@ -1,7 +1,7 @@
 -- A table of rows in arrays: the keys of its rows in order, and its sets.
 use Prim.Native.Nat.{ℕ, _-_}
 use mathlib.Core.Path.{_≡_}
-use mathlib.Core.List.{List, [], _∷_, _++_, map}
+use mathlib.Core.List.{List, _++_, map}
 use lib.ListN.{length, take, replicate}
 use Rattle.rows.specs.declared.Row.{Row}
 use Rattle.rows.specs.Rows.{sets}

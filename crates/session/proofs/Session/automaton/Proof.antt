@@ -1,7 +1,7 @@
 -- `Session::automaton` meets its contract. The loop's invariant: the masks are those of the rows below i.
-use Prim.Native.Nat.{ℕ, _-_, _≤_, _<_}
+use Prim.Native.Nat.{_-_, _≤_}
 use mathlib.Core.Path.{_≡_, subst}
-use mathlib.Core.Logic.{⊎-elim}
+use mathlib.Core.Logic.{inl, inr}
 use native.Mathlib.Omega.{arith}
 use native.Mathlib.Numerals.{add-one}
 use lib.ListN.{length, take, getD, length-map}
@@ -85,11 +85,13 @@ loop-again c =
     let p = h .loop .inv .1 in (
       omega arith,
       rw (add-one i, take-suc (s .rows) i blank (omega (arith, size, a .pre .0)))
-          (⊎-elim (λ w. rw (w .4, w .5, w .6, w .7, w .8) (pass-initial (s .sets) (s .«set_count») few p x (w .1 .given .1) (w .3 .ensures)))
-          (⊎-elim (λ w. rw (w .4, w .5, w .6, w .7, w .8) (pass-final (s .sets) (s .«set_count») few p x (w .1 .given .1) (w .3 .ensures)))
-          (⊎-elim (λ w. rw (w .5, w .6, w .7, w .8, w .9) (pass-step (s .sets) (s .«set_count») few p x (w .1 .given .1) (w .4 .ensures)))
-          (⊎-elim (λ w. rw (w .7, w .8, w .9, w .10, w .11) (pass-left (s .sets) (s .«set_count») few p x (w .5 .result) (w .1 .given .1) (w .5 .ensures) (w .6 .ensures)))
-          (λ w. rw (w .7, w .8, w .9, w .10, w .11) (pass-right (s .sets) (s .«set_count») few p x (w .5 .result) (w .1 .given .1) (w .5 .ensures) (w .6 .ensures)))))) (c .match .came)),
+          (elim (c .match .came) [
+            | inl w ↦ rw (w .4, w .5, w .6, w .7, w .8) (pass-initial (s .sets) (s .«set_count») few p x (w .1 .given .1) (w .3 .ensures))
+            | inr (inl w) ↦ rw (w .4, w .5, w .6, w .7, w .8) (pass-final (s .sets) (s .«set_count») few p x (w .1 .given .1) (w .3 .ensures))
+            | inr (inr (inl w)) ↦ rw (w .5, w .6, w .7, w .8, w .9) (pass-step (s .sets) (s .«set_count») few p x (w .1 .given .1) (w .4 .ensures))
+            | inr (inr (inr (inl w))) ↦ rw (w .7, w .8, w .9, w .10, w .11) (pass-left (s .sets) (s .«set_count») few p x (w .5 .result) (w .1 .given .1) (w .5 .ensures) (w .6 .ensures))
+            | inr (inr (inr (inr w))) ↦ rw (w .7, w .8, w .9, w .10, w .11) (pass-right (s .sets) (s .«set_count») few p x (w .5 .result) (w .1 .given .1) (w .5 .ensures) (w .6 .ensures))
+          ]),
     )
 
 returns : tie.Need-returns Inv-loop μ-loop

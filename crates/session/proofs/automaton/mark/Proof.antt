@@ -49,7 +49,7 @@ loop-again c =
     ⊎-elim
     (λ w. (
       omega arith,
-      ap length (w .1) ∙ length-set old i (a .k) ∙ h .loop .inv .1,
+      rw (w .1) (simp length-set (h .loop .inv .1)),
       rw (w .1) (below-more _ i
           (λ j l. getD-set-other old i j (a .k) 0 (λ e. omega arith) ∙ h .loop .inv .2 j l)
           (getD-set-same old i (a .k) 0 (omega arith) ∙ ap (λ (b : Bool). cond b (a .k) (getD (a .t1) i 0)) (sym (w .0 .taken) ∙ is))),
