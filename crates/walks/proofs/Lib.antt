@@ -1,0 +1,8 @@
+-- The laws that the proofs of `walks` share.
+pub mod Layers
+pub mod Letters
+pub mod Choices
+pub mod Following
+pub mod Standing
+pub mod Best
+pub mod Answers

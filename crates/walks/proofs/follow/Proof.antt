@@ -1,0 +1,118 @@
+-- `walks::follow` meets its contract. The loop's invariant is `Taking`.
+use Prim.Native.Nat.{_-_}
+use mathlib.Core.Path.{refl, sym}
+use mathlib.Core.Logic.{inl, inr}
+use native.Mathlib.Omega.{arith}
+use denote.Ref.{now}
+use borrow.Author.Needs.{needs}
+use Rattle.walks.specs.Choices.{Way, InOrder}
+use Rattle.walks.proofs.Following.{Taking, take-more}
+use Rattle.walks.proofs.follow.Statement.{statement}
+use Rattle.walks.proofs.follow.Tie as tie
+
+abbrev Inv-loop : tie.InvT-loop
+Inv-loop high low n words lefts rights loops mixes layers start d kinds₀ values₀ targets₀ a₀ i₀ kinds values targets a i =
+    Taking (Way high n words lefts rights loops mixes) (InOrder high low n words loops mixes) layers start d kinds values targets a i
+
+abbrev μ-loop : tie.MeasureT-loop
+μ-loop high low n words lefts rights loops mixes layers start d kinds₀ values₀ targets₀ a₀ i₀ kinds values targets a i =
+    d - i
+
+loop-holds : tie.Need-loop-holds Inv-loop μ-loop
+loop-holds c = record {
+  within = omega arith;
+  long-kinds = refl;
+  long-values = refl;
+  long-targets = refl;
+  low = search needs;
+  state = refl;
+  chosen = λ j h. absurd (omega arith);
+}
+
+sub-layer : tie.Need-sub-layer Inv-loop μ-loop
+sub-layer c = search needs
+
+sub-layer-2 : tie.Need-sub-layer-2 Inv-loop μ-loop
+sub-layer-2 c = search needs
+
+mul-layer : tie.Need-mul-layer Inv-loop μ-loop
+mul-layer c = search needs
+
+element-copy-out-layer : tie.Need-element-copy-out-layer Inv-loop μ-loop
+element-copy-out-layer c = search needs
+
+first-step-requires : tie.Need-first-step-requires Inv-loop μ-loop
+first-step-requires c κs = search needs
+
+enum-known-step : tie.Need-enum-known-step Inv-loop μ-loop
+enum-known-step c = search needs
+
+enum-told : tie.Need-enum-told Inv-loop μ-loop
+enum-told c = search needs
+
+array-write-kinds : tie.Need-array-write-kinds Inv-loop μ-loop
+array-write-kinds c = search needs
+
+mul-values : tie.Need-mul-values Inv-loop μ-loop
+mul-values c = search needs
+
+array-write-values : tie.Need-array-write-values Inv-loop μ-loop
+array-write-values c = search needs
+
+array-write-targets : tie.Need-array-write-targets Inv-loop μ-loop
+array-write-targets c = search needs
+
+add-i : tie.Need-add-i Inv-loop μ-loop
+add-i c = search needs
+
+loop-less : tie.Need-loop-less Inv-loop μ-loop
+loop-less c = search needs
+
+loop-again : tie.Need-loop-again Inv-loop μ-loop
+loop-again c =
+    let p = c .before .before .before .before .before .before in
+    let a = p .before .args in
+    let at = p .loop in
+    let x = c .before .step .given in
+    take-more (Way (now (a .high)) (a .n) (now (a .words)) (now (a .lefts)) (now (a .rights)) (a .loops) (a .mixes)) (InOrder (now (a .high)) (now (a .low)) (a .n) (now (a .words)) (a .loops) (a .mixes)) (now (a .layers)) (a .start) (a .d)
+    (at .kinds) (at .values) (at .targets) (at .a) (at .i) (x .0 .0) (x .0 .1 .0) (x .0 .1 .1 .0) (c .before .before .before .before .before .loop-test .taken) (p .before .pre .2) (at .inv) (rw (x .1) at (c .before .before .before .first-step .ensures))
+
+returns : tie.Need-returns Inv-loop μ-loop
+returns c =
+    let at = c .before .loop in
+    record { found = refl; begins = refl; within = at .inv .within; chosen = at .inv .chosen; stopped = inl (omega (arith, at .inv .within, c .loop-test .left)) }
+
+returns-2 : tie.Need-returns-2 Inv-loop μ-loop
+returns-2 c =
+    let at = c .before .before .before .before .before .loop in
+    record {
+      found = refl;
+      begins = refl;
+      within = at .inv .within;
+      chosen = at .inv .chosen;
+      stopped = inr (c .before .before .before .before .loop-test .taken, rw (sym (at .inv .state)) (rw (c .enum-told .given .1) at (c .before .before .first-step .ensures)));
+    }
+
+pub follow-spec : {M : Type 1} → statement M
+follow-spec =
+    tie.close
+    (tie.spec
+    Inv-loop
+    μ-loop
+    loop-holds
+    sub-layer
+    sub-layer-2
+    mul-layer
+    element-copy-out-layer
+    first-step-requires
+    enum-known-step
+    enum-told
+    array-write-kinds
+    mul-values
+    array-write-values
+    array-write-targets
+    add-i
+    loop-less
+    loop-again
+    returns
+    returns-2)

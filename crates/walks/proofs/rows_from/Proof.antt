@@ -1,0 +1,31 @@
+-- `walks::rows_from` meets its contract.
+use denote.Ref.{now}
+use borrow.Author.Needs.{needs}
+use Rattle.walks.proofs.Letters.{rows-at, rows-gap}
+use denote.Ref.{now}
+use borrow.Author.Needs.{needs}
+use Rattle.walks.proofs.rows_from.Statement.{statement}
+use Rattle.walks.proofs.rows_from.Tie as tie
+
+find-key-requires : tie.Need-find-key-requires
+find-key-requires c κs = search needs
+
+enum-known-i : tie.Need-enum-known-i
+enum-known-i c = search needs
+
+enum-known-i-2 : tie.Need-enum-known-i-2
+enum-known-i-2 c = search needs
+
+returns : tie.Need-returns
+returns c =
+    let a = c .before .before .before .before .before .before .args in
+    rows-at (now (a .high)) (now (a .low)) (a .n) (a .h) (c .before .i .given .0 .0) (rw (c .before .i .given .1) at (c .before .before .before .find-key .ensures))
+
+returns-2 : tie.Need-returns-2
+returns-2 c =
+    let a = c .before .before .before .before .before .before .args in
+    rows-gap (now (a .high)) (now (a .low)) (a .n) (a .h) (c .before .i2 .given .0 .0) (rw (c .before .i2 .given .1) at (c .before .before .before .find-key .ensures))
+
+pub rows-from-spec : {M : Type 1} → statement M
+rows-from-spec =
+    tie.close (tie.spec find-key-requires enum-known-i enum-known-i-2 returns returns-2)

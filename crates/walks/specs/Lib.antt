@@ -1,0 +1,4 @@
+-- The definitions that the contracts of `walks` cite.
+pub mod Layers
+pub mod Choices
+pub mod Walks

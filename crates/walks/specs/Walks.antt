@@ -1,0 +1,68 @@
+-- A walk as arrays, and what is promised of it.
+use Prim.Native.Nat.{ℕ, zero, suc, _-_, _≤_, _<_}
+use mathlib.Core.Path.{_≡_}
+use mathlib.Core.Bool.{true, false}
+use mathlib.Core.Logic.{_⊎_, _↔_}
+use mathlib.Core.List.{List, [], _∷_}
+use lib.ListN.{length, getD}
+use Rattle.lists.specs.Tests.{_among_}
+use Rattle.masks.specs.Graph.{Turned}
+use Rattle.masks.specs.Mask.{_∈_}
+use Rattle.rows.specs.declared.Row.{Row}
+use Rattle.rows.specs.declared.Row.the-variants.{Initial, Final}
+use Rattle.rows.specs.Rows.{sets}
+use Rattle.orderings.specs.Steps.{Claim, Label, Step}
+use Rattle.machine.specs.Order.{Found, Candidate, Best}
+use Rattle.machine.specs.WellFormed.{Table}
+use Rattle.search.specs.Promises.{Stands}
+use Rattle.table.specs.Arrays.{Keyed}
+use Rattle.walks.specs.declared.Choice.the-variants.{Taken, Nothing}
+use Rattle.walks.specs.declared.Walk.{Walk}
+use Rattle.walks.specs.Choices.{named, Chooses}
+
+-- the state before the step at place i: the start, or the target of the step before
+abbrev pub state-at : ℕ → List ℕ → ℕ → ℕ
+state-at start targets zero = start
+state-at start targets (suc i) = getD targets i 0
+
+-- the k steps from place i on
+unfoldable pub steps-from : ℕ → List ℕ → List ℕ → List ℕ → ℕ → ℕ → List Step
+steps-from start kinds values targets i zero = []
+steps-from start kinds values targets i (suc k) = record {
+  from = state-at start targets i;
+  label = named (getD kinds i 0) (getD values i 0);
+  to = getD targets i 0;
+} ∷ steps-from start kinds values targets (suc i) k
+
+-- the walk with its start
+abbrev pub walk-of : Walk → Found
+walk-of w = record { start = w .start; walk = steps-from (w .start) (w .kinds) (w .values) (w .targets) 0 (w .count) }
+
+-- the walk fits its arrays, its states are states, and its letters are bytes
+pub record Bounded (w : Walk) : Type 0 where
+  pub few : w .count < 64
+  pub low-start : w .start < 64
+  pub low-target : (j : ℕ) → j < w .count → getD (w .targets) j 0 < 64
+  pub low-letter : (j : ℕ) → j < w .count → getD (w .kinds) j 0 ≡ 0 → getD (w .values) j 0 < 256
+
+-- each step is the first into its layer, one layer down; where the walk stops early there is none
+pub record Follows (W : ℕ → Label → ℕ → Type 0) (Ordered : Type 0) (layers : List ℕ) (start d : ℕ) (w : Walk) : Type 0 where
+  pub found : w .found ≡ true
+  pub begins : w .start ≡ start
+  pub within : w .count ≤ d
+  pub chosen : (j : ℕ) → j < w .count → Chooses (getD layers (d - 1 - j) 0) (W (state-at start (w .targets) j)) Ordered
+      (Taken (getD (w .kinds) j 0) (getD (w .values) j 0) (getD (w .targets) j 0))
+  pub stopped : (w .count ≡ d) ⊎ ((w .count < d) × Chooses (getD layers (d - 1 - w .count) 0) (W (state-at start (w .targets) (w .count))) Ordered Nothing)
+
+-- the walk is the first of the shortest, or it is said that there is none
+pub record Answers (rows : List Row) (claims : List Claim) (w : Walk) : Type 0 where
+  pub best : w .found ≡ true → Best rows claims (walk-of w)
+  pub none : w .found ≡ false → (g : Found) → ¬ Candidate rows claims g
+
+-- for all rows and claims that the arrays stand for
+abbrev pub FirstWalk : List ℕ → List ℕ → ℕ → List ℕ → List ℕ → List ℕ → List ℕ → ℕ → ℕ → ℕ → ℕ → Walk → Type 0
+FirstWalk high low n back words lefts rights loop-mask mix-mask initials finals w =
+    (letters : List ℕ) (rows : List Row) (claims : List Claim) (k : ℕ) → Turned letters back
+    → Stands letters words lefts rights loop-mask mix-mask rows claims k → length (sets rows) ≡ k → Keyed rows high low n → Table rows
+    → ((s : ℕ) → (s ∈ initials) ↔ Initial s among rows) → ((s : ℕ) → (s ∈ finals) ↔ Final s among rows)
+    → Answers rows claims w
