@@ -68,7 +68,7 @@ unfolding opened-next
 next-once m = keep-once _ (claims (m .rows)) (claims-once (m .rows))
 
 -- the claims of the openings, old and new
-claims-append : (l : List Opening) (k : ℕ) (new : List Claim) → map (λ (o : Opening). o .claim) (l ++ openings-of k new) ≡ map (λ (o : Opening). o .claim) l ++ new
+pub claims-append : (l : List Opening) (k : ℕ) (new : List Claim) → map (λ (o : Opening). o .claim) (l ++ openings-of k new) ≡ map (λ (o : Opening). o .claim) l ++ new
 claims-append [] k [] = refl
 claims-append [] k (c ∷ new) = ap (λ (m : List Claim). c ∷ m) (claims-append [] k new)
 claims-append (o ∷ l) k new = ap (λ (m : List Claim). o .claim ∷ m) (claims-append l k new)

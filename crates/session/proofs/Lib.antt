@@ -6,3 +6,6 @@ pub mod Adding
 pub mod Passing
 pub mod OpenClaims
 pub mod Batches
+pub mod Marking
+pub mod Rounded
+pub mod Phases

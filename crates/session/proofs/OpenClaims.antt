@@ -95,23 +95,24 @@ map-at f (x ∷ l) zero h = refl
 map-at f (x ∷ l) (suc i) h = map-at f l i (omega arith)
 
 -- what an array holds below the length of the list that it is filled up from
-filled-at : (l : List ℕ) (i : ℕ) → i < length l → getD (padded 64 0 l) i 0 ≡ getD l i 0
+pub filled-at : (l : List ℕ) (i : ℕ) → i < length l → getD (padded 64 0 l) i 0 ≡ getD l i 0
 filled-at l i h = List·getD-append l (replicate (64 - length l) 0) 0 i h
 
-module _ (m : Machine) (w : WellFormed m) (claim : ℕ → Claim) where
-  abbrev P : ℕ → ℕ
-  P i = getD (padded 64 0 (sets (m .rows))) i 0
+-- the set at a place
+abbrev pub set-at : Machine → ℕ → ℕ
+set-at m i = getD (padded 64 0 (sets (m .rows))) i 0
 
-  -- at the place of a set stands the round of its claim
-  round-at : (i : ℕ) → i < length (sets (m .rows)) → getD (rounds-of m claim) i 0 ≡ round-of (m .openings) (claim (P i))
-  round-at i h = let f : ℕ → ℕ = λ P. round-of (m .openings) (claim P) in let l = sets (m .rows) in
-      filled-at (map f l) i (omega (arith, length-map l f)) ∙ map-at f l i h ∙ ap f (sym (filled-at l i h))
+-- at the place of a set stands the round of its claim
+pub round-at : (m : Machine) (claim : ℕ → Claim) (i : ℕ) → i < length (sets (m .rows)) → getD (rounds-of m claim) i 0 ≡ round-of (m .openings) (claim (set-at m i))
+round-at m claim i h = let f : ℕ → ℕ = λ P. round-of (m .openings) (claim P) in let l = sets (m .rows) in
+    filled-at (map f l) i (omega (arith, length-map l f)) ∙ map-at f l i h ∙ ap f (sym (filled-at l i h))
 
-  open-iff : (mask : ℕ) → OpenPlaces (rounds-of m claim) (length (sets (m .rows))) mask → (i : ℕ) → (i ∈ mask) ↔ ((i < length (sets (m .rows))) × claim (P i) among open-claims m)
-  open-iff mask is i = let q = round-iff (claim (P i)) (m .openings) (counted m w) in (
-    (λ k. let p = is i .0 k in (p .0, q .0 (subst (λ n. 0 < n) (round-at i (p .0)) (p .1)))),
-    λ p. is i .1 (p .0, subst (λ n. 0 < n) (sym (round-at i (p .0))) (q .1 (p .1))),
-  )
+open-iff : (m : Machine) → WellFormed m → (claim : ℕ → Claim) (mask : ℕ) → OpenPlaces (rounds-of m claim) (length (sets (m .rows))) mask
+    → (i : ℕ) → (i ∈ mask) ↔ ((i < length (sets (m .rows))) × claim (set-at m i) among open-claims m)
+open-iff m w claim mask is i = let q = round-iff (claim (set-at m i)) (m .openings) (counted m w) in (
+  (λ k. let p = is i .0 k in (p .0, q .0 (subst (λ n. 0 < n) (round-at m claim i (p .0)) (p .1)))),
+  λ p. is i .1 (p .0, subst (λ n. 0 < n) (sym (round-at m claim i (p .0))) (q .1 (p .1))),
+)
 
 -- the masks of the places with a round are those of the claims that are open
 pub forced : (m : Machine) (s : Session) (loop-mask mix-mask : ℕ) → Represents m s

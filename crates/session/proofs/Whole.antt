@@ -87,7 +87,7 @@ zeros l h =
     ∙ replicate-append-replicate (length l) (64 - length l) 0
     ∙ ap (λ (n : ℕ). replicate n 0) e
 
-no-rounds : (rows : List Row) (claim : ℕ → Claim) → length (sets rows) ≤ 64 → rounds-of (open-with rows) claim ≡ replicate 64 0
+pub no-rounds : (rows : List Row) (claim : ℕ → Claim) → length (sets rows) ≤ 64 → rounds-of (open-with rows) claim ≡ replicate 64 0
 no-rounds rows claim h = zeros (sets rows) h
 
 module _ (m : Machine) (s : Session) (p : Represents m s) (o : m .phase ≡ Open) where

@@ -9,8 +9,12 @@ use Rattle.lists.specs.Tests.{_among_}
 use Rattle.masks.specs.Mask.{member, _∈_}
 use Rattle.sorted.specs.Keys.{Rising}
 use Rattle.rows.specs.declared.Row.the-variants.{Initial, Final}
+use Rattle.rows.specs.Rows.{sets}
+use Rattle.orderings.specs.Steps.{Claim, loops, mixes}
 use Rattle.machine.specs.Machine.{Machine}
+use Rattle.search.specs.declared.Opened.{Opened}
 use Rattle.search.specs.Masked.{Masked}
+use Rattle.search.specs.Promises.{Stands, Opens}
 use Rattle.session.specs.declared.Session.{Session}
 use Rattle.session.specs.declared.automaton.Automaton.{Automaton}
 use Rattle.session.specs.Record.{Represents}
@@ -45,3 +49,10 @@ OpenPlaces rounds n r = (i : ℕ) → (i ∈ r) ↔ ((i < n) × (0 < getD rounds
 pub record Marks (old : List ℕ) (opened k : ℕ) (new : List ℕ) : Type 0 where
   pub length-is : length new ≡ 64
   pub rounds-are : (i : ℕ) → i < 64 → getD new i 0 ≡ cond (member i opened) k (getD old i 0)
+
+-- the places of the claims that are opened next
+abbrev pub OpensNext : Automaton → List ℕ → ℕ → ℕ → ℕ → Opened → Type 0
+OpensNext a words loop-mask mix-mask n r =
+    (rows : List Row) (claims : List Claim) → Stands (a .letters) words (a .lefts) (a .rights) loop-mask mix-mask rows claims n → length (sets rows) ≡ n
+    → ((i : ℕ) → (i ∈ r .loops) ↔ ((i < n) × Opens rows claims (loops (getD words i 0))))
+    × ((i : ℕ) → (i ∈ r .mixes) ↔ ((i < n) × Opens rows claims (mixes (getD words i 0))))

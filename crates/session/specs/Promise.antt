@@ -4,10 +4,11 @@ use mathlib.Core.Path.{_≡_}
 use mathlib.Core.List.{List}
 use lib.ListN.{length}
 use Prim.Native.Nat.{ℕ}
-use Rattle.machine.specs.declared.Phase.the-variants.{Open}
+use Rattle.machine.specs.declared.Phase.the-variants.{Open, Running}
 use Rattle.machine.specs.Machine.{Machine, fresh}
 use Rattle.machine.specs.Calls.{Call, Next, call, done, wrote, refused, buffer-after}
 use Rattle.machine.specs.Calls.{Answer as Told}
+use Rattle.machine.specs.Causes.{NotOpen}
 use Rattle.session.specs.declared.Session.{Session}
 use Rattle.session.specs.declared.Answer.{Answer}
 use Rattle.session.specs.declared.Answer.the-variants.{Done, Wrote, Refused}
@@ -35,6 +36,14 @@ Keeps s c r = (m : Machine) → Represents m s → r ≡ reply-of (call m c)
 -- the same of an open machine
 abbrev pub KeepsOpen : Session → Call → Reply → Type 0
 KeepsOpen s c r = (m : Machine) → Represents m s → m .phase ≡ Open → r ≡ reply-of (call m c)
+
+-- the same of a running machine
+abbrev pub KeepsRunning : Session → Call → Reply → Type 0
+KeepsRunning s c r = (m : Machine) → Represents m s → m .phase ≡ Running → r ≡ reply-of (call m c)
+
+-- the same of a machine that is not open
+abbrev pub KeepsClosed : Session → Call → Reply → Type 0
+KeepsClosed s c r = (m : Machine) → Represents m s → NotOpen (m .phase) → r ≡ reply-of (call m c)
 
 -- the same of a call that writes: and the buffer holds the text, and beyond it the bytes that it had
 abbrev pub Writes : Session → (ℕ → Call) → List ℕ → List ℕ → Reply → Type 0

@@ -7,6 +7,7 @@ use lib.Dec.{leb}
 use lib.ListN.{length, take, drop}
 use Rattle.rows.specs.declared.Row.{Row}
 use Rattle.rows.specs.Rows.{AllFit}
+use Rattle.machine.specs.declared.Phase.{Phase}
 use Rattle.table.specs.Arrays.{padded, Keyed}
 use Rattle.session.specs.declared.Slot.{Slot}
 use Rattle.session.specs.declared.Session.{Session}
@@ -41,6 +42,20 @@ with-table s rows n sets k =
       «mix_rounds» = s .«mix_rounds»;
       phase = s .phase;
       rounds = s .rounds;
+    }
+
+-- the record with other rounds of the claims, another phase and another count of rounds
+abbrev pub with-rounds : Session → List ℕ → List ℕ → Phase → ℕ → Session
+with-rounds s loop-rounds mix-rounds phase rounds =
+    record {
+      rows = s .rows;
+      «row_count» = s .«row_count»;
+      sets = s .sets;
+      «set_count» = s .«set_count»;
+      «loop_rounds» = loop-rounds;
+      «mix_rounds» = mix-rounds;
+      phase = phase;
+      rounds = rounds;
     }
 
 -- the array of the rows that have the first n keys

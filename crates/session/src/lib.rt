@@ -2,6 +2,7 @@
 mod automaton;
 mod loading;
 mod replies;
+mod rounds;
 mod saving;
 mod tables;
 

@@ -1,0 +1,14 @@
+-- `reopen_closed` meets its contract.
+use Rattle.session.proofs.Phases.{reopen-done}
+use borrow.Author.Needs.{needs}
+use Rattle.session.proofs.Session.reopen_closed.Statement.{statement}
+use Rattle.session.proofs.Session.reopen_closed.Tie as tie
+
+with-rounds-requires : tie.Need-with-rounds-requires
+with-rounds-requires c κs = search needs
+
+returns : tie.Need-returns
+returns c = reopen-done (c .before .args .self) (c .with-rounds .result) (c .with-rounds .ensures)
+
+pub reopen-closed-spec : {M : Type 1} → statement M
+reopen-closed-spec = tie.close (tie.spec with-rounds-requires returns)
