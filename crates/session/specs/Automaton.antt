@@ -8,6 +8,7 @@ use lib.ListN.{length, getD}
 use Rattle.lists.specs.Tests.{_among_}
 use Rattle.masks.specs.Mask.{member, _∈_}
 use Rattle.sorted.specs.Keys.{Rising}
+use Rattle.rows.specs.declared.Row.{Row}
 use Rattle.rows.specs.declared.Row.the-variants.{Initial, Final}
 use Rattle.rows.specs.Rows.{sets}
 use Rattle.orderings.specs.Steps.{Claim, loops, mixes}
