@@ -3,3 +3,4 @@ pub mod Count
 pub mod Digit
 pub mod Member
 pub mod Walks
+pub mod Turning

@@ -1,8 +1,10 @@
 -- Graphs on the 64 states, and walks inside a set of states. A graph is 64 masks: `succ` has at i the set of the targets of state i.
 use Prim.Native.Nat.{ℕ, _<_}
+use mathlib.Core.Bool.{_&&_, _||_}
+use lib.Dec.{eqb}
 use mathlib.Core.List.{List}
 use mathlib.Core.Path.{_≡_}
-use lib.ListN.{getD}
+use lib.ListN.{getD, length}
 use Rattle.masks.specs.Mask.{member, _∈_}
 
 -- an edge from a to b, both in p
@@ -31,6 +33,11 @@ pub record Targets (succ : List ℕ) (m r : ℕ) : Type 0 where
 pub record Reaches (succ : List ℕ) (p s r : ℕ) : Type 0 where
   pub sound : (t : ℕ) → t ∈ r → Walk succ p s t
   pub complete : (t : ℕ) → Walk succ p s t → t ∈ r
+
+-- i is added to each mask at a place of m; the other masks stay
+pub record SourceAdded (old : List ℕ) (m i : ℕ) (new : List ℕ) : Type 0 where
+  pub length-is : length new ≡ length old
+  pub masks-are : length old ≡ 64 → (j a : ℕ) → j < 64 → member a (getD new j 0) ≡ (member a (getD old j 0) || (member j m && eqb a i))
 
 -- back is the graph succ with every edge turned round
 abbrev pub Turned : List ℕ → List ℕ → Type 0

@@ -7,7 +7,7 @@ ghost use lib.Dec.{eqb};
 ghost use lib.Count.{ones};
 ghost use lib.ListN.{getD};
 ghost use Rattle.lists.specs.Tests.{Decides};
-ghost use Rattle.masks.specs.Graph.{Targets, Reaches, Turned, StronglyConnected};
+ghost use Rattle.masks.specs.Graph.{Targets, Reaches, SourceAdded, Turned, StronglyConnected};
 ghost use Rattle.masks.specs.Mask.{member, _∈_, _⊆_};
 
 // Is state `s` in the set `m`?
@@ -102,20 +102,18 @@ pub fn reach(succ: &[u64; 64], p: u64, s: u8) -> u64
     }
 }
 
-// The states that have an edge to `j`.
-pub fn sources(succ: &[u64; 64], j: u8) -> u64
-    requires { ⌜ j < 64 ⌝ }
-    ensures { λ r. ⌜ ((i : ℕ) → i < 64 → member i r ≡ member j (getD (now (succ .entry)) i 0)) ⌝ }
+// Adds `i` to the masks at the places of `m`.
+fn add_source(back: &mut [u64; 64], m: u64, i: u8)
+    requires { ⌜ i < 64 ⌝ }
+    ensures { λ _. ⌜ SourceAdded (now (back .entry)) m i (now (back .exit)) ⌝ }
 {
-    let mut r: u64 = 0;
-    let mut i: u8 = 0;
-    while i < 64 {
-        if has(succ[i as usize], j) {
-            r = with(r, i);
-        }
-        i += 1;
+    let mut rest = m;
+    while rest != 0 {
+        let j = lowest(rest);
+        let at = j as usize;
+        back[at] = with(back[at], i);
+        rest = difference(rest, with(0, j));
     }
-    r
 }
 
 // The graph with every edge turned round.
@@ -123,10 +121,10 @@ pub fn transpose(succ: &[u64; 64]) -> [u64; 64]
     ensures { λ r. ⌜ Turned (now (succ .entry)) r ⌝ }
 {
     let mut back = [0u64; 64];
-    let mut j: u8 = 0;
-    while j < 64 {
-        back[j as usize] = sources(succ, j);
-        j += 1;
+    let mut i: u8 = 0;
+    while i < 64 {
+        add_source(&mut back, succ[i as usize], i);
+        i += 1;
     }
     back
 }

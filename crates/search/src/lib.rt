@@ -154,6 +154,12 @@ fn covered(
 ) -> bool
     ensures { λ r. ⌜ (Turned (now (letters .entry)) (now (back .entry)) → Decides r (Covered (Hop (now (letters .entry)) (now (words .entry)) (now (lefts .entry)) (now (rights .entry)) loops mixes p) m n p)) ⌝ }
 {
+    if m == 0 {
+        return p == 0;
+    }
+    if n == 0 {
+        return p == 0;
+    }
     let after = reach(letters, words, lefts, rights, loops, mixes, p, m);
     let before = reach(back, words, rights, lefts, loops, mixes, p, n);
     let first = intersection(m, before);

@@ -1,60 +1,52 @@
--- `masks::transpose` meets its contract. The loop's invariant: each row below j is turned round.
-use Prim.Native.Nat.{ℕ, _-_, _≤_, _<_}
-use mathlib.Core.Path.{_≡_, refl, ap, _∙_}
-use native.Mathlib.Nat.{lt-of-lt-of-le}
+-- `masks::transpose` meets its contract. The loop's invariant: the edges from the states below i are turned round.
+use Prim.Native.Nat.{_-_, _≤_}
+use mathlib.Core.Path.{_≡_, refl, _∙_}
 use native.Mathlib.Omega.{arith}
-use lib.ListN.{getD, length, length-set}
-use lib.Seq.{getD-set-same, getD-set-other}
+use lib.ListN.{length}
 use borrow.Author.Needs.{needs}
-use borrow.Author.Count.{below-more}
-use Rattle.masks.specs.Mask.{member}
+use Rattle.masks.proofs.Turning.{Sources, sources-start, sources-more, sources-end}
 use Rattle.masks.proofs.transpose.Statement.{statement}
 use Rattle.masks.proofs.transpose.Tie as tie
 
 abbrev Inv-loop : tie.InvT-loop
-Inv-loop succ back₀ j₀ back j =
-    (j ≤ 64) × (length back ≡ 64)
-    × ((b : ℕ) → b < j → (i : ℕ) → i < 64 → member i (getD back b 0) ≡ member b (getD succ i 0))
+Inv-loop succ back₀ i₀ back i = (i ≤ 64) × (length back ≡ 64) × Sources succ back i
 
 abbrev μ-loop : tie.MeasureT-loop
-μ-loop succ back₀ j₀ back j = 64 - j
+μ-loop succ back₀ i₀ back i = 64 - i
 
 loop-holds : tie.Need-loop-holds Inv-loop μ-loop
-loop-holds c = (omega arith, refl, λ b l. absurd (omega arith))
+loop-holds c = (omega arith, refl, sources-start (c .args .succ .now))
 
-sources-requires : tie.Need-sources-requires Inv-loop μ-loop
-sources-requires c κs = search needs
+cast-add-source : tie.Need-cast-add-source Inv-loop μ-loop
+cast-add-source c = search needs
 
-cast-back : tie.Need-cast-back Inv-loop μ-loop
-cast-back c = search needs
+mul-add-source : tie.Need-mul-add-source Inv-loop μ-loop
+mul-add-source c = search needs
 
-mul-back : tie.Need-mul-back Inv-loop μ-loop
-mul-back c = search needs
+element-copy-out-add-source : tie.Need-element-copy-out-add-source Inv-loop μ-loop
+element-copy-out-add-source c = search needs
 
-array-write-back : tie.Need-array-write-back Inv-loop μ-loop
-array-write-back c = search needs
+add-source-requires : tie.Need-add-source-requires Inv-loop μ-loop
+add-source-requires c κs = search needs
 
-add-j : tie.Need-add-j Inv-loop μ-loop
-add-j c = search needs
+add-i : tie.Need-add-i Inv-loop μ-loop
+add-i c = search needs
 
 loop-less : tie.Need-loop-less Inv-loop μ-loop
 loop-less c = search needs
 
 loop-again : tie.Need-loop-again Inv-loop μ-loop
 loop-again c =
-    let h = c .before .before in
-    let back = h .loop .back in
-    let j = h .loop .j in
-    let v = c .sources .result in (
+    let at = c .before .before .before .before in
+    let inv = at .loop .inv in
+    let e = c .add-source .ensures in (
       omega arith,
-      length-set back j v ∙ h .loop .inv .1,
-      below-more _ j
-          (λ b l i k. ap (member i) (getD-set-other back j b v 0 (λ e. omega arith)) ∙ h .loop .inv .2 b l i k)
-          (λ i k. ap (member i) (getD-set-same back j v 0 (omega arith)) ∙ c .sources .ensures i k),
+      e .length-is ∙ inv .1,
+      sources-more (at .before .args .succ .now) (at .loop .back) (c .add-source .last .0) (at .loop .i) (inv .2) (e .masks-are (inv .1)),
     )
 
 returns : tie.Need-returns Inv-loop μ-loop
-returns c = λ i j hi hj. c .before .loop .inv .2 j (lt-of-lt-of-le hj (c .loop-test .left)) i hi
+returns c = sources-end (c .before .before .args .succ .now) (c .before .loop .back) (c .before .loop .i) (c .before .loop .inv .2) (omega arith)
 
 pub transpose-spec : {M : Type 1} → statement M
 transpose-spec =
@@ -63,11 +55,11 @@ transpose-spec =
     Inv-loop
     μ-loop
     loop-holds
-    sources-requires
-    cast-back
-    mul-back
-    array-write-back
-    add-j
+    cast-add-source
+    mul-add-source
+    element-copy-out-add-source
+    add-source-requires
+    add-i
     loop-less
     loop-again
     returns)
