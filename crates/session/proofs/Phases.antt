@@ -2,7 +2,6 @@
 use Prim.Native.Nat.{ℕ, _<_, _≤_}
 use mathlib.Core.Path.{_≡_, refl, ap, sym, _∙_, subst}
 use mathlib.Core.Bool.{Bool, true, false, cond}
-use mathlib.Core.List.{List}
 use lib.Dec.{ltb}
 use lib.ListN.{replicate}
 use native.Mathlib.Omega.{arith}
@@ -11,7 +10,7 @@ use Rattle.machine.specs.declared.Verdict.{Verdict}
 use Rattle.machine.specs.declared.Phase.{Phase}
 use Rattle.machine.specs.declared.Phase.the-variants.{Open, Running, Settled}
 use Rattle.machine.specs.Machine.{Machine, judged, closed, next-round, reopened}
-use Rattle.machine.specs.Calls.{Call, close, round, reopen, print, Next, accept, refuse, call-in, call}
+use Rattle.machine.specs.Calls.{Call, close, round, reopen, Next, accept, refuse, call-in, call}
 use Rattle.machine.specs.Causes.{NotOpen, running, settled, NeedsClosed, reopening, rounding, printing}
 use Rattle.search.specs.Promises.{AcceptsRight}
 use Rattle.session.specs.declared.Session.{Session}

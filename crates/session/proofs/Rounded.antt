@@ -1,30 +1,29 @@
 -- Close, a round and reopen on the record: what the masks and the arrays come to is what the machine comes to.
 use Prim.Native.Nat.{ℕ, zero, suc, _+_, _<_, _≤_}
 use mathlib.Core.Path.{_≡_, refl, ap, sym, _∙_, subst}
-use mathlib.Core.Bool.{Bool, true, false, cond, _||_}
-use mathlib.Core.Logic.{_⊎_, inl, inr, ⊎-elim, _↔_}
-use mathlib.Core.List.{List, [], _∷_, _++_, map, List·Memᴰ·head, List·Memᴰ·tail, List·Memᴰ·not-nil, List·Memᴰ·cases-cons, List·Memᴰ·append-cases, Memᴰ·append-left, Memᴰ·append-right}
+use mathlib.Core.Bool.{Bool, true, false, _||_}
+use mathlib.Core.Logic.{⊎-elim, _↔_}
+use mathlib.Core.List.{List, [], _∷_, _++_, map, List·Memᴰ·head, List·Memᴰ·not-nil, List·Memᴰ·cases-cons, List·Memᴰ·append-cases, Memᴰ·append-left, Memᴰ·append-right}
 use lib.ListN.{length, getD, replicate}
 use native.Mathlib.Omega.{arith}
 use Rattle.lists.specs.Tests.{Decides, _among_}
 use Rattle.lists.proofs.Deciding.{yes·, no·, not-so, iff·}
 use Rattle.masks.specs.Mask.{member, _∈_}
 use Rattle.masks.proofs.Member.{in-none, union-left, union-right, union-cases}
-use Rattle.rows.specs.declared.Row.{Row}
 use Rattle.rows.specs.Rows.{sets}
 use Rattle.rows.proofs.Sets.{sets-iff}
 use Rattle.orderings.specs.Steps.{Claim, loops, mixes}
 use Rattle.orderings.specs.Decide.{accepts?}
 use Rattle.orderings.proofs.Deciding.{accepts·}
 use Rattle.machine.specs.declared.Phase.{Phase}
-use Rattle.machine.specs.declared.Phase.the-variants.{Open, Running}
-use Rattle.machine.specs.Machine.{Opening, Machine, judged, closed, open-claims, opened-next, nothing?, openings-of, with-openings, next-round, reopened}
+use Rattle.machine.specs.declared.Phase.the-variants.{Open}
+use Rattle.machine.specs.Machine.{Opening, Machine, judged, closed, open-claims, opened-next, nothing?, openings-of, next-round, reopened}
 use Rattle.machine.specs.WellFormed.{WellFormed}
 use Rattle.machine.proofs.Rounding.{opened-next-iff}
 use Rattle.machine.proofs.Openings.{claims-append}
 use Rattle.search.specs.declared.Opened.{Opened}
 use Rattle.search.specs.Masked.{Forced}
-use Rattle.search.specs.Promises.{Stands, AcceptsRight}
+use Rattle.search.specs.Promises.{AcceptsRight}
 use Rattle.session.specs.declared.Session.{Session}
 use Rattle.session.specs.declared.automaton.Automaton.{Automaton}
 use Rattle.session.specs.Record.{rounds-of, record-of, Represents}

@@ -149,10 +149,10 @@ impl Session {
     fn reopen_closed(self) -> Reply
         ensures { λ r. ⌜ KeepsClosed self reopen r ⌝ }
     {
-        let phase = Phase::Open;
+        let open = Phase::Open;
         let loop_rounds = [0u8; 64];
         let mix_rounds = [0u8; 64];
-        let session = self.with_rounds(loop_rounds, mix_rounds, phase, 0);
+        let session = self.with_rounds(loop_rounds, mix_rounds, open, 0);
         let answer = Answer::Done;
         Reply { session, answer }
     }

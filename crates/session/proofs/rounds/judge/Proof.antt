@@ -1,5 +1,4 @@
 -- `judge` meets its contract.
-use mathlib.Core.Path.{refl}
 use borrow.Author.Needs.{needs}
 use Rattle.session.proofs.rounds.judge.Statement.{statement}
 use Rattle.session.proofs.rounds.judge.Tie as tie

@@ -1,0 +1,58 @@
+-- Demand 3, at one print and at every one.
+use Prim.Native.Nat.{ℕ, _≤_}
+use mathlib.Core.Path.{_≡_, refl, ap, _∙_}
+use mathlib.Core.List.{List, _++_}
+use lib.ListN.{length, drop}
+use native.Mathlib.Omega.{arith}
+use Rattle.machine.specs.declared.Verdict.{Verdict}
+use Rattle.machine.specs.declared.Phase.the-variants.{Settled}
+use Rattle.machine.specs.Machine.{Machine}
+use Rattle.machine.specs.Sheet.{sheet}
+use Rattle.machine.specs.Calls.{print, done, wrote, refused, call, second, buffer-after}
+use Rattle.machine.specs.Calls.{Answer as Said}
+use Rattle.machine.specs.WellFormed.{WellFormed}
+use Rattle.machine.proofs.Outcomes.{Done, comes}
+use Rattle.machine.proofs.Demands.{second-is, print-accepts, prints}
+use Rattle.session.specs.declared.Answer.{Answer}
+use Rattle.session.specs.declared.Reply.{Reply}
+use Rattle.session.specs.Promise.{answer-of}
+use Rattle.demands.specs.Trace.{printed, fed}
+use Rattle.demands.specs.Demands.{Printed, Demand3}
+use Rattle.demands.proofs.Reached.{reached}
+
+-- a print is never just done
+never-done : (m : Machine) {m′ : Machine} {size : ℕ} → Done m (print size) m′ → ⊥
+never-done m = elim [ ]
+
+module _ (m : Machine) (w : WellFormed m) where
+  -- the second machine prints its sheet
+  second-prints : (v : Verdict) (size : ℕ) → m .phase ≡ Settled v → length (sheet v (second (m .rows))) ≤ size
+      → call (second (m .rows)) (print size) .answer ≡ wrote (sheet v (second (m .rows)))
+  second-prints v size e = rw (second-is m w v e) (print-accepts m w size v e)
+
+  at-print : (old new : List ℕ) (a : Said) (b : Answer) → call m (print (length old)) .answer ≡ a → b ≡ answer-of a → new ≡ buffer-after a old → Printed m old new b
+  at-print old new done b e i j = absurd (never-done m (comes m (print (length old)) done e))
+  at-print old new (wrote l) b e i j = let p = prints m w (length old) in let h = p .accepted l .0 e in
+      record {
+        accepted = ((λ x. (h .0, h .1, omega (arith, h .3, ap length (h .2)))), λ x. (length l, i));
+        exact = λ n v x y. let f : v ≡ h .0 = cc (h .1) in let g : n ≡ length l = cc in let k : l ≡ sheet v (second (m .rows)) = rw f (h .2) in
+            (g ∙ ap length k, rw g (j ∙ ap (λ (t : List ℕ). t ++ drop (length l) old) k));
+        sheet-is = second-prints;
+        kept = λ x. absurd (x (length l, i));
+        numbered = p .numbered;
+      }
+  at-print old new (refused n place) b e i j = let p = prints m w (length old) in
+      record {
+        accepted = (
+          (λ x. let k = x .1 in let z : _≡_ {A = ℕ} 0 1 = cc in absurd (omega arith)),
+          λ x. let k = p .accepted (sheet (x .0) (second (m .rows))) .1 (x .0, x .1, refl, x .2) in let z : _≡_ {A = ℕ} 0 1 = cc in absurd (omega arith),
+        );
+        exact = λ k v x y. let z : _≡_ {A = ℕ} 0 1 = cc in absurd (omega arith);
+        sheet-is = second-prints;
+        kept = λ x. j;
+        numbered = p .numbered;
+      }
+
+pub demand-3 : Demand3
+demand-3 s f es t before later old new r i = let m = fed before in let h = reached s f es t before later (printed old new r) i in let k = h .promise m (h .record-is) in
+    at-print m (h .record-is .formed) old new (call m (print (length old)) .answer) (r .answer) refl (ap (λ (x : Reply). x .answer) (k .0)) (k .1)

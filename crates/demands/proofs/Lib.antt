@@ -1,0 +1,5 @@
+-- The demands, proved.
+pub mod Reached
+pub mod Demand1
+pub mod Demand2
+pub mod Demand3

@@ -1,0 +1,72 @@
+-- The sheet of a settled machine, as the arrays and the walk that was found give it.
+use Prim.Native.Nat.{ℕ, _<_}
+use mathlib.Core.Path.{_≡_, refl, ap, sym, _∙_, subst}
+use mathlib.Core.Bool.{Bool, true, false}
+use mathlib.Core.Option.{Option, none, some}
+use mathlib.Core.List.{List, _++_, map, append-nil}
+use lib.ListN.{length, getD, replicate, length-map, List·getD-append}
+use native.Mathlib.Omega.{arith}
+use Rattle.lists.specs.Tests.{gather}
+use Rattle.rows.specs.Rows.{sets}
+use Rattle.orderings.specs.Steps.{Claim, loops, mixes}
+use Rattle.machine.specs.declared.Verdict.{Verdict}
+use Rattle.machine.specs.declared.Verdict.the-variants.{NonEmpty, Empty}
+use Rattle.machine.specs.declared.Phase.the-variants.{Settled}
+use Rattle.machine.specs.Machine.{Machine, open-claims}
+use Rattle.machine.specs.WellFormed.{Worked, Made, WellFormed}
+use Rattle.machine.specs.Order.{Found}
+use Rattle.machine.specs.Search.{shortest}
+use Rattle.machine.specs.Sheet.{verdict-line, opening-line, walk-lines, last-lines, sheet}
+use Rattle.machine.proofs.Demands.{printed-walk}
+use Rattle.table.specs.Arrays.{padded}
+use Rattle.table.proofs.Places.{map-at}
+use Rattle.walks.specs.declared.Walk.{Walk}
+use Rattle.walks.specs.Walks.{walk-of, Answers}
+use Rattle.walks.proofs.Answers.{answers-some, answers-none}
+use Rattle.sheets.specs.Openings.{openings-in, Noted, Recorded}
+use Rattle.sheets.proofs.Openings.{openings-are}
+
+-- lists of the sets and of the rounds of their claims, filled up, hold a machine's rounds
+module _ (m : Machine) (round : Claim → ℕ) (is : (c : Claim) → Noted m c (round c)) where
+  word-at : (size i : ℕ) → i < length (sets (m .rows)) → getD (padded size 0 (sets (m .rows))) i 0 ≡ getD (sets (m .rows)) i 0
+  word-at size i h = List·getD-append (sets (m .rows)) _ 0 i h
+
+  round-at : (claim : ℕ → Claim) (size i : ℕ) → i < length (sets (m .rows))
+      → getD (padded size 0 (map (λ P. round (claim P)) (sets (m .rows)))) i 0 ≡ round (claim (getD (padded size 0 (sets (m .rows))) i 0))
+  round-at claim size i h = List·getD-append (map (λ P. round (claim P)) (sets (m .rows))) _ 0 i (rw length-map h)
+      ∙ map-at (λ P. round (claim P)) (sets (m .rows)) i 0 h ∙ ap (λ P. round (claim P)) (sym (word-at size i h))
+
+  pub recorded : (size : ℕ) → Recorded m (padded size 0 (map (λ P. round (loops P)) (sets (m .rows)))) (padded size 0 (map (λ P. round (mixes P)) (sets (m .rows)))) (padded size 0 (sets (m .rows))) (length (sets (m .rows)))
+  recorded size = record {
+    count = refl;
+    words-are = word-at size;
+    loops-are = λ i h. rw (round-at loops size i h) (is (loops (getD (padded size 0 (sets (m .rows))) i 0)));
+    mixes-are = λ i h. rw (round-at mixes size i h) (is (mixes (getD (padded size 0 (sets (m .rows))) i 0)));
+  }
+
+module _ (m : Machine) (w : WellFormed m) (loop-rounds mix-rounds words : List ℕ) (n : ℕ) (a : Recorded m loop-rounds mix-rounds words n) where
+  settled-openings : (v : Verdict) → m .phase ≡ Settled v → openings-in loop-rounds mix-rounds words n (m .rounds) ≡ m .openings
+  settled-openings v e = openings-are m w (subst (Made m) e (w .made)) loop-rounds mix-rounds words n a
+
+  settled-sheet : (v : Verdict) → m .phase ≡ Settled v → sheet v m ≡ verdict-line v (m .rounds) ++ (gather opening-line (openings-in loop-rounds mix-rounds words n (m .rounds)) ++ last-lines v m)
+  unfolding sheet
+  settled-sheet v e = rw (settled-openings v e)
+
+  -- the verdict and the openings
+  pub sheet-empty : m .phase ≡ Settled Empty → sheet Empty m ≡ verdict-line Empty (m .rounds) ++ gather opening-line (openings-in loop-rounds mix-rounds words n (m .rounds))
+  sheet-empty e = settled-sheet Empty e ∙ ap (λ (l : List ℕ). verdict-line Empty (m .rounds) ++ l) (append-nil _)
+
+  -- some walk was found
+  pub walk-found : m .phase ≡ Settled NonEmpty → (walk : Walk) → Answers (m .rows) (open-claims m) walk → walk .found ≡ true
+  walk-found e walk r = go (walk .found) refl
+    where
+      go : (b : Bool) → walk .found ≡ b → walk .found ≡ true
+      go true f = f
+      go false f = let p = printed-walk m w e .1 in let q = answers-none (m .rows) (open-claims m) walk r f in let z : _≡_ {A = ℕ} 0 1 = cc in absurd (omega arith)
+
+  -- the verdict, the openings and the walk that was found
+  pub sheet-nonempty : m .phase ≡ Settled NonEmpty → (walk : Walk) → Answers (m .rows) (open-claims m) walk
+      → sheet NonEmpty m ≡ verdict-line NonEmpty (m .rounds) ++ (gather opening-line (openings-in loop-rounds mix-rounds words n (m .rounds)) ++ walk-lines (some (walk-of walk)))
+  sheet-nonempty e walk r = settled-sheet NonEmpty e
+      ∙ ap (λ (o : Option Found). verdict-line NonEmpty (m .rounds) ++ (gather opening-line (openings-in loop-rounds mix-rounds words n (m .rounds)) ++ walk-lines o))
+      (answers-some (m .rows) (open-claims m) walk r (walk-found e walk r))
