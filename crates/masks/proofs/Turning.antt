@@ -47,10 +47,10 @@ module _ (old : List ℕ) (m i : ℕ) where
     where
       go : Dec (j ≡ k) → member a (getD (set back k w) j 0) ≡ added (member a (getD old j 0)) (member j m) (member j less) (eqb a i)
       go (yes e) = rw e (
-        ap (member a) (getD-set-same back k w 0 h) ∙ is a
-        ∙ one-added (member a (getD old k 0)) (eqb a i) (member a (getD back k 0)) (t k a (rw (← e) l) ∙ rw (in-m, in-rest))
-        ∙ rw (in-m, out)
-      )
+          ap (member a) (getD-set-same back k w 0 h) ∙ is a
+          ∙ one-added (member a (getD old k 0)) (eqb a i) (member a (getD back k 0)) (t k a (rw (← e) l) ∙ rw (in-m, in-rest))
+          ∙ rw (in-m, out)
+          )
       go (no n) = ap (member a) (getD-set-other back k j w 0 n) ∙ t j a l ∙ ap (λ (b : Bool). added (member a (getD old j 0)) (member j m) b (eqb a i)) (sym (same j n))
 
 -- a set without one state

@@ -47,7 +47,6 @@ returns-3 c turned =
     (x .result) (y .result) (z .result) (u .result) (after .ensures) (before .ensures) (x .ensures) (y .ensures) (z .ensures) (u .ensures) in
     iff· (λ f s h. all s .0 (f s h)) (λ f s h. all s .1 (f s h)) (c .is-subset .ensures)
 
-
 pub covered-spec : {M : Type 1} → statement M
 covered-spec =
     tie.close
