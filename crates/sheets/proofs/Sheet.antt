@@ -2,9 +2,9 @@
 use Prim.Native.Nat.{ℕ, _<_}
 use mathlib.Core.Path.{_≡_, refl, ap, sym, _∙_, subst}
 use mathlib.Core.Bool.{Bool, true, false}
-use mathlib.Core.Option.{Option, none, some}
+use mathlib.Core.Option.{Option, some}
 use mathlib.Core.List.{List, _++_, map, append-nil}
-use lib.ListN.{length, getD, replicate, length-map, List·getD-append}
+use lib.ListN.{length, getD, length-map, List·getD-append}
 use native.Mathlib.Omega.{arith}
 use Rattle.lists.specs.Tests.{gather}
 use Rattle.rows.specs.Rows.{sets}
@@ -13,9 +13,8 @@ use Rattle.machine.specs.declared.Verdict.{Verdict}
 use Rattle.machine.specs.declared.Verdict.the-variants.{NonEmpty, Empty}
 use Rattle.machine.specs.declared.Phase.the-variants.{Settled}
 use Rattle.machine.specs.Machine.{Machine, open-claims}
-use Rattle.machine.specs.WellFormed.{Worked, Made, WellFormed}
+use Rattle.machine.specs.WellFormed.{Made, WellFormed}
 use Rattle.machine.specs.Order.{Found}
-use Rattle.machine.specs.Search.{shortest}
 use Rattle.machine.specs.Sheet.{verdict-line, opening-line, walk-lines, last-lines, sheet}
 use Rattle.machine.proofs.Demands.{printed-walk}
 use Rattle.table.specs.Arrays.{padded}
