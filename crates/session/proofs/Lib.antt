@@ -9,3 +9,4 @@ pub mod Batches
 pub mod Marking
 pub mod Rounded
 pub mod Phases
+pub mod Printed

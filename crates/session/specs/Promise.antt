@@ -4,7 +4,8 @@ use mathlib.Core.Path.{_≡_}
 use mathlib.Core.List.{List}
 use lib.ListN.{length}
 use Prim.Native.Nat.{ℕ}
-use Rattle.machine.specs.declared.Phase.the-variants.{Open, Running}
+use Rattle.machine.specs.declared.Verdict.{Verdict}
+use Rattle.machine.specs.declared.Phase.the-variants.{Open, Running, Settled}
 use Rattle.machine.specs.Machine.{Machine, fresh}
 use Rattle.machine.specs.Calls.{Call, Next, call, done, wrote, refused, buffer-after}
 use Rattle.machine.specs.Calls.{Answer as Told}
@@ -48,3 +49,8 @@ KeepsClosed s c r = (m : Machine) → Represents m s → NotOpen (m .phase) → 
 -- the same of a call that writes: and the buffer holds the text, and beyond it the bytes that it had
 abbrev pub Writes : Session → (ℕ → Call) → List ℕ → List ℕ → Reply → Type 0
 Writes s c old new r = (m : Machine) → Represents m s → (r ≡ reply-of (call m (c (length old)))) × (new ≡ buffer-after (call m (c (length old)) .answer) old)
+
+-- the same of a machine that is settled with a verdict
+abbrev pub WritesSettled : Session → Verdict → (ℕ → Call) → List ℕ → List ℕ → Reply → Type 0
+WritesSettled s v c old new r = (m : Machine) → Represents m s → m .phase ≡ Settled v
+    → (r ≡ reply-of (call m (c (length old)))) × (new ≡ buffer-after (call m (c (length old)) .answer) old)

@@ -1,6 +1,7 @@
 // The session and its calls.
 mod automaton;
 mod loading;
+mod printing;
 mod replies;
 mod rounds;
 mod saving;
