@@ -16,7 +16,7 @@ use Rattle.machine.specs.Search.{walk-of, least, shortest}
 use Rattle.machine.specs.Text.{text, hex, decimal}
 use Rattle.machine.specs.Sheet.{sheet}
 use Rattle.machine.specs.Calls.{Call, load, withdraw, close, round, reopen, print, save, Answer, done, wrote, refused, call-in, call, run}
-use Rattle.machine.specs.Program.{finish, program}
+use Rattle.machine.specs.Program.{outcome, program}
 
 abbrev on-rows : List Row → List ℕ
 on-rows rows = program (batch-of rows)
@@ -24,7 +24,7 @@ on-rows rows = program (batch-of rows)
 -- by round, then set, then loop before mix; sets compare as numbers, with bit 63 too
 pub openings : on-rows (Initial 0 ∷ Final 5 ∷ Successor 0 7 0 ∷ Successor 1 7 1 ∷ Successor 63 7 63 ∷ LeftLimit 9223372036854775808 63 ∷ RightLimit 0 1 ∷ LeftLimit 1 0 ∷ LeftLimit 2 1 ∷ [])
     ≡ text "verdict empty rounds 2\nopen 1 loop 0000000000000001\nopen 1 mix 0000000000000001\nopen 1 loop 0000000000000002\nopen 1 loop 8000000000000000\n"
-unfolding ℕ-discrete member row-bytes sets same-row set-at state-row step-row limit-row kind-row read-row on-turn on-read feed-from feed members reach holds? accepts? load-row closed opened-next next-round walk-of least shortest hex decimal sheet call-in finish program
+unfolding ℕ-discrete member row-bytes sets same-row set-at state-row step-row limit-row kind-row read-row on-turn on-read feed-from feed members reach holds? accepts? load-row closed opened-next next-round walk-of least shortest hex decimal sheet call-in outcome program
 openings = refl
 
 -- what each table below shares: the sets {0}, {1} and {2} loop and mix
@@ -36,7 +36,7 @@ pub kinds : (on-rows (Initial 0 ∷ Final 1 ∷ RightLimit 0 4 ∷ LeftLimit 4 1
     ≡ text "verdict nonempty rounds 1\nopen 1 loop 0000000000000001\nopen 1 loop 0000000000000002\nopen 1 loop 0000000000000004\nopen 1 mix 0000000000000004\nstart 0\nstep omega 0000000000000001 to 1\n")
     × (on-rows (Initial 0 ∷ Final 1 ∷ RightLimit 0 4 ∷ LeftLimit 4 1 ∷ RightLimit 2 4 ∷ LeftLimit 4 2 ∷ RightLimit 0 2 ∷ three)
     ≡ text "verdict nonempty rounds 1\nopen 1 loop 0000000000000002\nopen 1 loop 0000000000000004\nopen 1 mix 0000000000000004\nstart 0\nstep back 0000000000000002 to 1\n")
-unfolding ℕ-discrete member row-bytes sets same-row set-at state-row step-row limit-row kind-row read-row on-turn on-read feed-from feed members reach holds? accepts? load-row closed opened-next next-round walk-of least shortest hex decimal sheet call-in finish program
+unfolding ℕ-discrete member row-bytes sets same-row set-at state-row step-row limit-row kind-row read-row on-turn on-read feed-from feed members reach holds? accepts? load-row closed opened-next next-round walk-of least shortest hex decimal sheet call-in outcome program
 kinds = (refl, refl)
 
 -- lower start; letter before omega, lower letter, lower target, lower set
@@ -45,7 +45,7 @@ pub ties : (on-rows (Initial 1 ∷ Initial 0 ∷ Final 2 ∷ Successor 0 7 0 ∷
     ≡ text "verdict nonempty rounds 1\nopen 1 loop 0000000000000001\nopen 1 loop 0000000000000002\nopen 1 loop 0000000000000004\nstart 0\nstep letter 4 to 1\nstep omega 0000000000000002 to 3\n")
     × (on-rows (Initial 0 ∷ Final 3 ∷ Successor 0 7 0 ∷ Successor 0 7 1 ∷ Successor 1 7 0 ∷ LeftLimit 3 3 ∷ LeftLimit 1 3 ∷ [])
     ≡ text "verdict nonempty rounds 1\nopen 1 loop 0000000000000001\nopen 1 loop 0000000000000003\nstart 0\nstep omega 0000000000000001 to 3\n")
-unfolding ℕ-discrete member row-bytes sets same-row set-at state-row step-row limit-row kind-row read-row on-turn on-read feed-from feed members reach holds? accepts? load-row closed opened-next next-round walk-of least shortest hex decimal sheet call-in finish program
+unfolding ℕ-discrete member row-bytes sets same-row set-at state-row step-row limit-row kind-row read-row on-turn on-read feed-from feed members reach holds? accepts? load-row closed opened-next next-round walk-of least shortest hex decimal sheet call-in outcome program
 ties = (refl, refl, refl)
 
 -- causes 2 to 5 at the place of the row, the lowest number of the first row that fails
@@ -54,7 +54,7 @@ pub refusals : (program (1 ∷ 0 ∷ 6 ∷ 0 ∷ []) ≡ text "refused 2 at 2\n"
     × (program (1 ∷ 64 ∷ 0 ∷ []) ≡ text "refused 4 at 0\n")
     × (program (4 ∷ 0 ∷ 0 ∷ 0 ∷ 0 ∷ 0 ∷ 0 ∷ 0 ∷ 0 ∷ 64 ∷ []) ≡ text "refused 4 at 0\n")
     × (program (5 ∷ 63 ∷ 0 ∷ 0 ∷ 0 ∷ 0 ∷ 0 ∷ 0 ∷ 0 ∷ 0 ∷ []) ≡ text "refused 5 at 0\n")
-unfolding ℕ-discrete member row-bytes sets same-row set-at state-row step-row limit-row kind-row read-row on-turn on-read feed-from feed members reach holds? accepts? load-row closed opened-next next-round walk-of least shortest hex decimal sheet call-in finish program
+unfolding ℕ-discrete member row-bytes sets same-row set-at state-row step-row limit-row kind-row read-row on-turn on-read feed-from feed members reach holds? accepts? load-row closed opened-next next-round walk-of least shortest hex decimal sheet call-in outcome program
 refusals = (refl, refl, refl, refl, refl)
 
 abbrev answer-after : List Call → Call → Answer

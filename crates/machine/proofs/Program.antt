@@ -16,7 +16,7 @@ use Rattle.machine.specs.Machine.{Machine, open-with, fresh}
 use Rattle.machine.specs.Text.{text}
 use Rattle.machine.specs.Sheet.{line, sheet}
 use Rattle.machine.specs.Calls.{Call, load, close, round, print, Answer, done, wrote, refused, Next, call, run, settle, second, Brings}
-use Rattle.machine.specs.Program.{refusal-line, shown, finish, program, Shows, too-long, refusal, sheet-of}
+use Rattle.machine.specs.Program.{refusal-line, shown, ending, outcome, program, Shows, too-long, refusal, sheet-of}
 use Rattle.machine.specs.Causes.{Writes}
 use Rattle.machine.specs.WellFormed.{Table, Made, WellFormed}
 use Rattle.machine.proofs.Settling.{Settles, settles}
@@ -52,12 +52,10 @@ module _ (rows : List Row) (t : Table rows) where
   unfolding m second
   is-second = ap (λ x. run x settle) (load-sorted rows t)
 
-  prints-sheet : call m (print 6400) .answer ≡ wrote (sheet (s .verdict) m)
-  prints-sheet = print-accepts m formed 6400 (s .verdict) phase (sheet-fits m formed (s .verdict) phase)
-
-  settled-sheet : shown (call (run (open-with rows) settle) (print 6400) .answer) ≡ sheet (s .verdict) (second rows)
+  -- a buffer of 6,400 bytes or more is long enough
+  prints-sheet : (size : ℕ) → 6400 ≤ size → call (run (open-with rows) settle) (print size) .answer ≡ wrote (sheet (s .verdict) (second rows))
   unfolding m
-  settled-sheet = ap shown prints-sheet ∙ ap (sheet (s .verdict)) (sym is-second)
+  prints-sheet size h = print-accepts m formed size (s .verdict) phase (omega (arith, sheet-fits m formed (s .verdict) phase)) ∙ ap (λ x. wrote (sheet (s .verdict) x)) (sym is-second)
 
   settled-second : second rows .phase ≡ Settled (s .verdict)
   settled-second = ap (λ (x : Machine). x .phase) is-second ∙ phase
@@ -66,27 +64,46 @@ module _ (rows : List Row) (t : Table rows) where
 loaded-is : {l : List ℕ} {m : Machine} → Done fresh (load l) m → m ≡ open-with (m .rows)
 loaded-is (load-done l rows e f) = refl
 
-finish-table : (m : Machine) (t : Table (m .rows)) → m ≡ open-with (m .rows) → finish m done ≡ sheet (s (m .rows) t .verdict) (second (m .rows))
-unfolding finish
-finish-table m t e = ap (λ x. shown (call (run x settle) (print 6400) .answer)) e ∙ settled-sheet (m .rows) t
+settled-sheet : (m : Machine) (t : Table (m .rows)) → m ≡ open-with (m .rows) → (size : ℕ) → 6400 ≤ size
+    → call (run m settle) (print size) .answer ≡ wrote (sheet (s (m .rows) t .verdict) (second (m .rows)))
+settled-sheet m t e size h = ap (λ x. call (run x settle) (print size) .answer) e ∙ prints-sheet (m .rows) t size h
 
-module _ (l : List ℕ) (b : Bytes l) (h : length l ≤ 65536) where
-  on-answer : (m : Machine) (a : Answer) → call fresh (load l) ≡ record { machine = m; answer = a } → Comes fresh (load l) m a → WellFormed m → Shows l (finish m a)
-  unfolding finish
-  on-answer m done e d w = subst (Shows l) (sym (finish-table m (w .table) (loaded-is d))) (sheet-of m (s (m .rows) (w .table) .verdict) h e (settled-second (m .rows) (w .table)))
-  on-answer m (wrote k) e d w = absurd (load-writes (d .2))
+-- a load writes nothing
+load-writes : {l k : List ℕ} {size : ℕ} → Writes fresh (load l) k size → ⊥
+load-writes = elim [ ]
+
+module _ (l : List ℕ) (b : Bytes l) where
+  on-answer : (m : Machine) (a : Answer) → length l ≤ 65536 → call fresh (load l) ≡ record { machine = m; answer = a } → Comes fresh (load l) m a → WellFormed m → Shows l (shown (ending m 6400 a))
+  on-answer m done h e d w =
+      subst (λ x. Shows l (shown x)) (sym (settled-sheet m (w .table) (loaded-is d) 6400 (omega arith))) (sheet-of m (s (m .rows) (w .table) .verdict) h e (settled-second (m .rows) (w .table)))
+  on-answer m (wrote k) h e d w = absurd (load-writes (d .2))
+  on-answer m (refused n place) h e d w = refusal n place h (d .1 b)
+
+  same-ending : (m : Machine) (a : Answer) (size : ℕ) → 6400 ≤ size → Comes fresh (load l) m a → WellFormed m → ending m size a ≡ ending m 6400 a
+  same-ending m done size h d w = settled-sheet m (w .table) (loaded-is d) size h ∙ sym (settled-sheet m (w .table) (loaded-is d) 6400 (omega arith))
+  same-ending m (wrote k) size h d w = refl
+  same-ending m (refused n place) size h d w = refl
+
+  n : Next
+  n = call fresh (load l)
+
+  came : Comes fresh (load l) (n .machine) (n .answer)
+  unfolding n
+  came = comes fresh (load l) (n .answer) refl
+
+  formed-then : WellFormed (n .machine)
+  unfolding n
+  formed-then = call-formed fresh (load l) b (opened-formed [] no-rows)
+
+  -- a longer buffer changes nothing
+  pub outcome-size : (size : ℕ) → 6400 ≤ size → outcome l size ≡ outcome l 6400
+  unfolding outcome n
+  outcome-size size h = same-ending (n .machine) (n .answer) size h came formed-then
+
+  pub program-shows : Shows l (program l)
+  unfolding program outcome n
+  program-shows = by (ltb 65536 (length l)) (ltb· 65536 (length l))
     where
-      load-writes : {k : List ℕ} {size : ℕ} → Writes fresh (load l) k size → ⊥
-      load-writes = elim [ ]
-  on-answer m (refused n place) e d w = refusal n place h (d .1 b)
-
-pub program-shows : (l : List ℕ) → Bytes l → Shows l (program l)
-unfolding program
-program-shows l b = by (ltb 65536 (length l)) (ltb· 65536 (length l))
-  where
-    n : Next
-    n = call fresh (load l)
-
-    by : (x : Bool) → Decides x (65536 < length l) → Shows l (elim x [ true ↦ line (text "too long") | false ↦ finish (n .machine) (n .answer) ])
-    by true d = too-long (yes· d)
-    by false d = let h = no· d in on-answer l b (omega arith) (n .machine) (n .answer) refl (comes fresh (load l) (n .answer) refl) (call-formed fresh (load l) b (opened-formed [] no-rows))
+      by : (x : Bool) → Decides x (65536 < length l) → Shows l (elim x [ true ↦ line (text "too long") | false ↦ shown (ending (n .machine) 6400 (n .answer)) ])
+      by true d = too-long (yes· d)
+      by false d = let h = no· d in on-answer (n .machine) (n .answer) (omega arith) refl came formed-then

@@ -22,15 +22,19 @@ shown done = []
 shown (wrote l) = l
 shown (refused n place) = refusal-line n place
 
--- after an accepted load: closes, does rounds until settled and prints the sheet
-unfoldable pub finish : Machine → Answer → List ℕ
-finish m done = shown (call (run m settle) (print 6400) .answer)
-finish m (wrote l) = l
-finish m (refused n place) = refusal-line n place
+-- after an accepted load: closes, does rounds until settled and prints into a buffer of that size
+abbrev pub ending : Machine → ℕ → Answer → Answer
+ending m size done = call (run m settle) (print size) .answer
+ending m size (wrote l) = wrote l
+ending m size (refused n place) = refused n place
+
+-- what one batch comes to, from a fresh machine: the refusal of its load, or what print answers
+unfoldable pub outcome : List ℕ → ℕ → Answer
+outcome l size = ending (call fresh (load l) .machine) size (call fresh (load l) .answer)
 
 -- one batch of at most 65,536 bytes; longer input prints the line `too long`
 unfoldable pub program : List ℕ → List ℕ
-program l = elim (ltb 65536 (length l)) [ true ↦ line (text "too long") | false ↦ finish (call fresh (load l) .machine) (call fresh (load l) .answer) ]
+program l = elim (ltb 65536 (length l)) [ true ↦ line (text "too long") | false ↦ shown (outcome l 6400) ]
 
 -- what the program writes for each input: `too long`, the line of the cause that refuses the batch, or the sheet of its rows
 pub data Shows (l : List ℕ) : List ℕ → Type 0 where

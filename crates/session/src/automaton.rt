@@ -47,7 +47,7 @@ fn place(words: &[u64; 64], n: usize, x: u64) -> usize
 
 impl Session {
     // The automaton of the rows: each row adds one state to one mask.
-    pub fn automaton(self) -> Automaton
+    pub(crate) fn automaton(self) -> Automaton
         requires { ⌜ (self .«row_count» ≤ 256) × (self .«set_count» ≤ 64) ⌝ }
         ensures { λ r. ⌜ Reads self r ⌝ }
     {
@@ -83,7 +83,7 @@ impl Session {
 }
 
 // The places below `n` whose round is not 0.
-pub fn open_mask(rounds: &[u8; 64], n: usize) -> u64
+pub(crate) fn open_mask(rounds: &[u8; 64], n: usize) -> u64
     requires { ⌜ n ≤ 64 ⌝ }
     ensures { λ r. ⌜ OpenPlaces (now (rounds .entry)) n r ⌝ }
 {
@@ -99,7 +99,7 @@ pub fn open_mask(rounds: &[u8; 64], n: usize) -> u64
 }
 
 // Round `k` at the places of `opened`, and at the others what `rounds` had.
-pub fn mark(mut rounds: [u8; 64], opened: u64, k: u8) -> [u8; 64]
+pub(crate) fn mark(mut rounds: [u8; 64], opened: u64, k: u8) -> [u8; 64]
     ensures { λ r. ⌜ Marks rounds opened k r ⌝ }
 {
     let mut i: u8 = 0;

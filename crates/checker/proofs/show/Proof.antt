@@ -1,0 +1,120 @@
+-- `show` meets its contract: by the length of the input, and by the answer of the check.
+use Prim.Native.Nat.{_<_, _≤_}
+use native.Mathlib.Omega.{arith}
+use mathlib.Core.Path.{_≡_, ap, subst}
+use lib.ListN.{length}
+use Rattle.machine.specs.Program.{refusal-line}
+use Rattle.checker.specs.Promise.{Checks}
+use Rattle.checker.proofs.Outcomes.{bytes, refusal-short, kept-buffer, shows-short, shows-long, shows-done, shows-wrote, shows-refused}
+use borrow.Author.Needs.{needs}
+use Rattle.checker.proofs.show.Statement.{statement}
+use Rattle.checker.proofs.show.Tie as tie
+
+returns : tie.Need-returns
+returns c =
+    let a = c .before .before .before .args in
+    shows-short (a .input .now) (a .out .now) (omega arith)
+
+slice-aggregate-put-text : tie.Need-slice-aggregate-put-text
+slice-aggregate-put-text c = search needs
+
+put-text-requires : tie.Need-put-text-requires
+put-text-requires c κs = search needs
+
+same-length : tie.Need-same-length
+same-length c = search needs
+
+returns-2 : tie.Need-returns-2
+returns-2 c =
+    let t = c .before .before in
+    let a = t .before .before .before .before .before .before .before .args in
+    shows-long (a .input .now) (a .out .now) _ _ (omega arith) (omega arith) (t .put-text .ensures)
+
+check-requires : tie.Need-check-requires
+check-requires c κs = search needs
+
+enum-told : tie.Need-enum-told
+enum-told c = search needs
+
+enum-known-n : tie.Need-enum-known-n
+enum-known-n c = search needs
+
+enum-known-n-2 : tie.Need-enum-known-n-2
+enum-known-n-2 c = search needs
+
+cast-put-refusal-line : tie.Need-cast-put-refusal-line
+cast-put-refusal-line c = search needs
+
+put-refusal-line-requires : tie.Need-put-refusal-line-requires
+put-refusal-line-requires c κs =
+    let o = c .before .before in
+    let k = o .before .before .before .before in
+    let known = k .before .before .before .before .before in
+    let a = known .before .args in
+    let n = o .n2 .given .0 .0 in
+    let place = o .n2 .given .0 .1 .0 in
+    let h : 6400 ≤ length (a .out .now) = omega arith in
+    let mid = k .check .last .1 .0 in
+    let e : length mid ≡ length (a .out .now) = ap length (kept-buffer (a .input .now) (a .out .now) mid n place (subst (λ r. Checks (a .input .now) (a .out .now) mid r) (o .n2 .given .1) (k .check .ensures))) in
+    let l = refusal-short n place (omega arith) (omega arith) in
+    let g : length (refusal-line n place) ≤ length mid = omega arith in
+    g
+
+same-length-2 : tie.Need-same-length-2
+same-length-2 c = search needs
+
+returns-3 : tie.Need-returns-3
+returns-3 c =
+    let k = c .before .before .before .before in
+    let known = k .before .before .before .before .before in
+    let a = known .before .args in
+    shows-done (a .input .now) (a .out .now) (bytes (a .input .now) (λ i. omega (arith, known .shared-slice-known .given i))) (omega arith) (omega arith) _
+    (subst (λ r. Checks (a .input .now) (a .out .now) (k .check .last .1 .0) r) (c .enum-told .given .1) (k .check .ensures))
+
+same-length-3 : tie.Need-same-length-3
+same-length-3 c = search needs
+
+returns-4 : tie.Need-returns-4
+returns-4 c =
+    let o = c .before in
+    let k = o .before .before .before .before in
+    let known = k .before .before .before .before .before in
+    let a = known .before .args in
+    shows-wrote (a .input .now) (a .out .now) (bytes (a .input .now) (λ i. omega (arith, known .shared-slice-known .given i))) (omega arith) (omega arith) _ _
+    (subst (λ r. Checks (a .input .now) (a .out .now) (k .check .last .1 .0) r) (o .n .given .1) (k .check .ensures))
+
+same-length-4 : tie.Need-same-length-4
+same-length-4 c = search needs
+
+returns-5 : tie.Need-returns-5
+returns-5 c =
+    let w = c .before .before in
+    let o = w .before .before .before in
+    let k = o .before .before .before .before in
+    let known = k .before .before .before .before .before in
+    let a = known .before .args in
+    shows-refused (a .input .now) (a .out .now) (bytes (a .input .now) (λ i. omega (arith, known .shared-slice-known .given i))) (omega arith) (omega arith)
+    (o .n2 .given .0 .0) (o .n2 .given .0 .1 .0) (k .check .last .1 .0) _ _
+    (subst (λ r. Checks (a .input .now) (a .out .now) (k .check .last .1 .0) r) (o .n2 .given .1) (k .check .ensures)) (w .put-refusal-line .ensures)
+
+pub show-spec : {M : Type 1} → statement M
+show-spec =
+    tie.close
+    (tie.spec
+    returns
+    slice-aggregate-put-text
+    put-text-requires
+    same-length
+    returns-2
+    check-requires
+    enum-told
+    enum-known-n
+    enum-known-n-2
+    cast-put-refusal-line
+    put-refusal-line-requires
+    same-length-2
+    returns-3
+    same-length-3
+    returns-4
+    same-length-4
+    returns-5)

@@ -1,0 +1,2 @@
+-- The promises of the checker.
+pub mod Promise
