@@ -45,17 +45,17 @@ fresh-represents s f = record { formed = opened-formed [] no-rows; whole = f }
 abbrev loaded : List ℕ → Told
 loaded l = call fresh (load l) .answer
 
-done-by : (a : Told) → answer-of a ≡ Done → a ≡ done
+pub done-by : (a : Told) → answer-of a ≡ Done → a ≡ done
 done-by done e = refl
 done-by (wrote l) e = let z : _≡_ {A = ℕ} 0 1 = cc in absurd (omega arith)
 done-by (refused n place) e = let z : _≡_ {A = ℕ} 0 1 = cc in absurd (omega arith)
 
-refused-by : (a : Told) (n place : ℕ) → answer-of a ≡ Refused n place → a ≡ refused n place
+pub refused-by : (a : Told) (n place : ℕ) → answer-of a ≡ Refused n place → a ≡ refused n place
 refused-by done n place e = let z : _≡_ {A = ℕ} 0 1 = cc in absurd (omega arith)
 refused-by (wrote l) n place e = let z : _≡_ {A = ℕ} 0 1 = cc in absurd (omega arith)
 refused-by (refused k at) n place e = let i : k ≡ n = cc in let j : at ≡ place = cc in cc
 
-wrote-by : (a : Told) (n : ℕ) → answer-of a ≡ WroteN n → (l : List ℕ) × (a ≡ wrote l) × (n ≡ length l)
+pub wrote-by : (a : Told) (n : ℕ) → answer-of a ≡ WroteN n → (l : List ℕ) × (a ≡ wrote l) × (n ≡ length l)
 wrote-by done n e = let z : _≡_ {A = ℕ} 0 1 = cc in absurd (omega arith)
 wrote-by (wrote l) n e = (l, refl, cc)
 wrote-by (refused k place) n e = let z : _≡_ {A = ℕ} 0 1 = cc in absurd (omega arith)

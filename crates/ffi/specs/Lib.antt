@@ -1,0 +1,2 @@
+-- What a caller from C or Rust is promised.
+pub mod Promise

@@ -1,0 +1,25 @@
+-- The outcome of one batch as a number, a place and a buffer.
+use Prim.Native.Nat.{ℕ, _*_}
+use mathlib.Core.Path.{_≡_}
+use mathlib.Core.List.{List}
+use lib.ListN.{length}
+use Rattle.machine.specs.Calls.{Answer, done, wrote, refused, buffer-after}
+use Rattle.machine.specs.Program.{outcome}
+
+-- the length of the sheet, or 2 to the power 32 times the number of the refusal
+abbrev pub code-of : Answer → ℕ
+code-of done = 0
+code-of (wrote l) = length l
+code-of (refused n place) = n * 4294967296
+
+-- the place of the refusal; without one, what stood there
+abbrev pub place-after : Answer → ℕ → ℕ
+place-after done old = old
+place-after (wrote l) old = old
+place-after (refused n place) old = place
+
+-- what one call leaves, of the plain machine's outcome for that batch and that length of buffer
+pub record Called (batch old new : List ℕ) (before after r : ℕ) : Type 0 where
+  pub code-is : r ≡ code-of (outcome batch (length old))
+  pub sheet-is : new ≡ buffer-after (outcome batch (length old)) old
+  pub place-is : after ≡ place-after (outcome batch (length old)) before
