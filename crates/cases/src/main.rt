@@ -1,29 +1,17 @@
 // Runs the checker on stored batches, and compares each sheet with the stored one, byte by byte.
 // Its arguments are pairs of file names: a batch, and the sheet that it must give.
+use output::same;
+use output::say;
+use output::say_number;
 ghost use Prim.Native.Nat.{_≤_};
 ghost use Rattle.io.specs.Counts.{Counts};
-
-// Are the two texts the same?
-fn same(a: &[u8], b: &[u8]) -> bool {
-    if a.len() != b.len() {
-        return false;
-    }
-    let mut i = 0;
-    while i < a.len() && i < b.len() {
-        if a[i] != b[i] {
-            return false;
-        }
-        i += 1;
-    }
-    true
-}
 
 // Opens the file that an argument names, and writes its name out.
 fn open_named(index: usize) -> i32 {
     let mut path = io::buffer();
     let length = os::arg(index, &mut path);
-    io::write_all(libc::STDOUT_FILENO, &path[..length]);
-    io::write_all(libc::STDOUT_FILENO, b" ");
+    say(&path[..length]);
+    say(b" ");
     os::open_read(&path[..length])
 }
 
@@ -57,10 +45,10 @@ fn run_case(batch_index: usize, sheet_index: usize) -> u64
     let batch_file = open_named(batch_index);
     let sheet_file = open_named(sheet_index);
     if gives(batch_file, sheet_file) {
-        io::write_all(libc::STDOUT_FILENO, b"same\n");
+        say(b"same\n");
         return 0;
     }
-    io::write_all(libc::STDOUT_FILENO, b"different\n");
+    say(b"different\n");
     1
 }
 
@@ -74,9 +62,9 @@ fn main() {
         cases += 1;
         index += 2;
     }
-    io::write_all(libc::STDOUT_FILENO, b"cases ");
-    io::print_decimal(libc::STDOUT_FILENO, cases);
-    io::write_all(libc::STDOUT_FILENO, b" different ");
-    io::print_decimal(libc::STDOUT_FILENO, different);
-    io::write_all(libc::STDOUT_FILENO, b"\n");
+    say(b"cases ");
+    say_number(cases);
+    say(b" different ");
+    say_number(different);
+    say(b"\n");
 }
