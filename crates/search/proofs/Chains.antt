@@ -39,6 +39,10 @@ search-start = record {
   followed = λ k t g e. ⊎-elim inl (λ h. absurd (in-none k h)) g;
 }
 
+-- a search that has found all states in which steps end
+pub search-full : {E : ℕ → ℕ → Type 0} {m found last : ℕ} (p : ℕ) → ((a b : ℕ) → E a b → b ∈ p) → found ≡ p → Search E m found last → Onward (Chain E) m found
+search-full p f full now t = (now .sound t, λ x. subst (λ (y : ℕ). t ∈ y) (sym full) (chain-end p f (x .2)))
+
 -- a pass follows the steps from `last` to the states `next` that are new
 module _ {E : ℕ → ℕ → Type 0} {m found last : ℕ} (tg next : ℕ) (now : Search E m found last) (is-tg : Onward E last tg)
     (is-next : (t : ℕ) → member t next ≡ (member t tg && not (member t found))) where

@@ -22,6 +22,13 @@ onward-or m a b r f g is t = (
   λ p. ⊎-elim (λ e. union-left a b r is t (f t .1 (p .0, p .1, e))) (λ e. union-right a b r is t (g t .1 (p .0, p .1, e))) (p .2),
 )
 
+-- steps of three kinds, of which the first two are taken together
+pub onward-three : {E F G : ℕ → ℕ → Type 0} (m r : ℕ) → Onward (λ s t. (E s t ⊎ F s t) ⊎ G s t) m r → Onward (λ s t. E s t ⊎ (F s t ⊎ G s t)) m r
+onward-three m r f t = (
+  (λ h. let x = f t .0 h in (x .0, x .1, ⊎-elim (⊎-elim inl (λ e. inr (inl e))) (λ e. inr (inr e)) (x .2))),
+  λ x. f t .1 (x .0, x .1, ⊎-elim (λ e. inl (inl e)) (⊎-elim (λ e. inl (inr e)) inr) (x .2)),
+)
+
 module _ {letters words lefts rights : List ℕ} {loops mixes p : ℕ} where
   -- from the states of m that are in p, to those that are in p
   pub onward-hop : (m near u r : ℕ) → ((t : ℕ) → member t near ≡ (member t m && member t p))

@@ -2,13 +2,11 @@
 use Prim.Native.Nat.{ℕ, _^_, _<_}
 use mathlib.Core.Path.{_≡_, refl, subst, sym}
 use mathlib.Core.Bool.{_&&_, _||_}
-use mathlib.Core.Logic.{_⊎_, inl, inr, ⊎-elim, _↔_}
+use mathlib.Core.Logic.{inl, inr, ⊎-elim, _↔_}
 use lib.Dec.{eqb}
-use Rattle.lists.specs.Tests.{Decides}
-use Rattle.lists.proofs.Deciding.{eqb·, iff·}
 use Rattle.masks.specs.Mask.{member, _∈_}
-use Rattle.masks.proofs.Member.{with-same, with-none, union-left, union-right, union-cases, intersection-left, intersection-right, intersection-both, in-none, none as empty, same}
-use Rattle.search.specs.Hops.{Chain, Onward, Joined, Between, Covered}
+use Rattle.masks.proofs.Member.{with-same, with-none, union-left, union-right, union-cases, intersection-left, intersection-right, intersection-both, same}
+use Rattle.search.specs.Hops.{Chain, Onward, Joined, Between}
 use Rattle.search.proofs.Chains.{chain-append, chain-back, chain-end}
 
 -- a search inside p from one state s
@@ -57,10 +55,3 @@ module _ {E F : ℕ → ℕ → Type 0} (back : (a b : ℕ) → F a b → E b a)
           (⊎-elim (λ e. union-left n before y is-y s (subst (λ (j : ℕ). j ∈ n) (sym e) (o .3))) (λ e. union-right n before y is-y s (leads s b (o .3) e)) (k .1))))
           (o .4),
     )
-
--- no chain starts, or none ends: only a set without states is covered
-pub uncovered : {E : ℕ → ℕ → Type 0} (m n p : ℕ) → p < 2 ^ 64 → (m ≡ 0) ⊎ (n ≡ 0) → Decides (eqb p 0) (Covered E m n p)
-uncovered {E} m n p h none = iff· (λ e s i. absurd (in-none s (subst (λ (x : ℕ). s ∈ x) e i))) (λ f. empty p h (λ s i. never (f s i))) (eqb· p 0)
-  where
-    never : {s : ℕ} → (a : ℕ) × (b : ℕ) × (a ∈ m) × (b ∈ n) × Between E a b s → ⊥
-    never o = ⊎-elim (λ e. in-none (o .0) (subst (λ (x : ℕ). o .0 ∈ x) e (o .2))) (λ e. in-none (o .1) (subst (λ (x : ℕ). o .1 ∈ x) e (o .3))) none

@@ -1,4 +1,5 @@
 -- The laws that the proofs of `search` share.
+pub mod Lowest
 pub mod Gathering
 pub mod Chains
 pub mod Hops
@@ -7,4 +8,5 @@ pub mod Joining
 pub mod Walks
 pub mod Claims
 pub mod Accepting
+pub mod Filtering
 pub mod Opening

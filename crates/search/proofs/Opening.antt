@@ -27,17 +27,23 @@ set-at {rows} {words = words} {n = n} is count i l =
     let e : getD words i 0 ≡ getD (sets rows) i 0 = sym (getD-take n words i 0 l) ∙ ap (λ (x : List ℕ). getD x i 0) (is .sets-are) in
     sets-iff rows (getD words i 0) .0 (rw e (at-place (sets rows) i (omega arith)))
 
--- a claim C that the mask m has at place i where it is in force; `found` tests that it is not, and that it holds
-pub opens-iff : {found taken : Bool} {A B C : Type 0} {n : ℕ} (i m r : ℕ) → i < n → A ↔ B → (i ∈ m) ↔ ((i < n) × C) → taken ≡ member i m
-    → Decides found ((taken ≡ false) × A) → ((t : ℕ) → (t ∈ r) ↔ ((t ≡ i) × (found ≡ true))) → (t : ℕ) → (t ∈ r) ↔ ((t ≡ i) × (B × ¬ C))
-opens-iff i m r l says force is-taken d is t = (
-  (λ h. let x = is t .0 h in let y = d .to (x .1) in (x .0, (says .0 (y .1), λ f. not-both (force .1 (l, f)) (sym is-taken ∙ y .0)))),
-  λ h. is t .1 (h .0, d .of (⊎-elim (λ e. absurd (h .1 .1 (force .0 e .1))) (λ e. is-taken ∙ e) (true-or-false (member i m)), says .1 (h .1 .0))),
-)
+-- a claim C that the mask m has at place i where it is in force; it is tried where it is not, and where F is so, which B, what it says, shows
+module _ {taken tried : Bool} {B C F : Type 0} {n : ℕ} (i m : ℕ) (l : i < n) (force : (i ∈ m) ↔ ((i < n) × C)) (is-taken : taken ≡ member i m)
+    (d : Decides tried ((taken ≡ false) × F)) (shows : B → F) where
+  to-try : B → ¬ C → tried ≡ true
+  to-try b not-in = d .of (⊎-elim (λ e. absurd (not-in (force .0 e .1))) (λ e. is-taken ∙ e) (true-or-false (member i m)), shows b)
 
--- a claim in force is not opened
-pub opens-not : {B C : Type 0} {n : ℕ} (i m : ℕ) → i ∈ m → (i ∈ m) ↔ ((i < n) × C) → (t : ℕ) → (t ∈ 0) ↔ ((t ≡ i) × (B × ¬ C))
-opens-not i m h force t = ((λ x. absurd (in-none t x)), λ x. absurd (x .1 .1 (force .0 h .1)))
+  -- a claim that is not tried is not opened
+  pub opens-not : tried ≡ false → (t : ℕ) → (t ∈ 0) ↔ ((t ≡ i) × (B × ¬ C))
+  opens-not e t = ((λ x. absurd (in-none t x)), λ x. absurd (not-both (to-try (x .1 .0) (x .1 .1)) e))
+
+  -- `found` tests that it is tried, and that it holds
+  pub opens-iff : {found : Bool} {A : Type 0} (r : ℕ) → A ↔ B → Decides found ((tried ≡ true) × A)
+      → ((t : ℕ) → (t ∈ r) ↔ ((t ≡ i) × (found ≡ true))) → (t : ℕ) → (t ∈ r) ↔ ((t ≡ i) × (B × ¬ C))
+  opens-iff r says f is t = (
+    (λ h. let x = is t .0 h in let y = f .to (x .1) in (x .0, (says .0 (y .1), λ k. not-both (force .1 (l, k)) (sym is-taken ∙ d .to (y .0) .0)))),
+    λ h. is t .1 (h .0, f .of (to-try (h .1 .0) (h .1 .1), says .1 (h .1 .0))),
+  )
 
 -- the places below k, and k
 pub below-next : {Q : ℕ → Type 0} (k r g r′ : ℕ) → ((t : ℕ) → (t ∈ r) ↔ ((t < k) × Q t)) → ((t : ℕ) → (t ∈ g) ↔ ((t ≡ k) × Q k))

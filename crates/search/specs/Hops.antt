@@ -1,7 +1,7 @@
 -- Steps as the masks have them, chains of steps, and the states that chains join.
 use Prim.Native.Nat.{ℕ}
 use mathlib.Core.Path.{_≡_}
-use mathlib.Core.Logic.{_⊎_, _↔_}
+use mathlib.Core.Logic.{_⊎_, _↔_, _≢_}
 use mathlib.Core.List.{List}
 use lib.ListN.{getD}
 use Rattle.masks.specs.Mask.{_∈_, _⊆_}
@@ -40,3 +40,11 @@ Between E a b s = ((s ≡ a) × Chain E s b) ⊎ (Chain E a s × ((s ≡ b) ⊎ 
 -- every state of p lies on a chain from one of the states m to one of the states n
 abbrev pub Covered : (ℕ → ℕ → Type 0) → ℕ → ℕ → ℕ → Type 0
 Covered E m n p = (s : ℕ) → s ∈ p → (a : ℕ) × (b : ℕ) × (a ∈ m) × (b ∈ n) × Between E a b s
+
+-- r has the end of every step inside any set
+abbrev pub Ends : List ℕ → List ℕ → List ℕ → List ℕ → ℕ → ℕ → ℕ → Type 0
+Ends letters words lefts rights loops mixes r = (p a b : ℕ) → Hop letters words lefts rights loops mixes p a b → b ∈ r
+
+-- where p has a state, m and n have one; each state of p is in m or a step ends in it, and it is in n or a step starts from it
+abbrev pub Threaded : ℕ → ℕ → ℕ → ℕ → ℕ → Type 0
+Threaded p m n to from = (s : ℕ) → s ∈ p → (m ≢ 0) × (n ≢ 0) × ((s ∈ m) ⊎ (s ∈ to)) × ((s ∈ n) ⊎ (s ∈ from))

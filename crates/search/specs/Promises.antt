@@ -12,7 +12,6 @@ use Rattle.rows.specs.declared.Row.{Row}
 use Rattle.rows.specs.declared.Row.the-variants.{Initial, Final}
 use Rattle.rows.specs.Rows.{sets, AllFit}
 use Rattle.orderings.specs.Steps.{Claim, loops, mixes, Walk}
-use Rattle.orderings.specs.Claims.{Loops, Mixes}
 use Rattle.orderings.specs.Systems.{Allowed, AtHand, Holds}
 use Rattle.orderings.specs.Timelines.{timelines, Accepting}
 use Rattle.search.specs.Masked.{Masked, Forced}
@@ -25,18 +24,6 @@ pub record Stands (letters words lefts rights : List ℕ) (loop-mask mix-mask : 
 -- the walks of the rows with the claims in force
 abbrev pub Hand : List Row → List Claim → Walk → Type 0
 Hand rows claims w = AtHand (timelines rows) (λ c. c among claims) w
-
--- r says whether p loops
-abbrev pub LoopsRight : List ℕ → List ℕ → List ℕ → List ℕ → List ℕ → ℕ → ℕ → ℕ → Bool → Type 0
-LoopsRight letters back words lefts rights loop-mask mix-mask p r = Turned letters back
-    → (rows : List Row) (claims : List Claim) (n : ℕ) → Stands letters words lefts rights loop-mask mix-mask rows claims n
-    → Decides r (Loops (Hand rows claims) p)
-
--- r says whether the set at place i mixes
-abbrev pub MixesRight : List ℕ → List ℕ → List ℕ → List ℕ → List ℕ → ℕ → ℕ → ℕ → Bool → Type 0
-MixesRight letters back words lefts rights loop-mask mix-mask i r = Turned letters back
-    → (rows : List Row) (claims : List Claim) (n : ℕ) → Stands letters words lefts rights loop-mask mix-mask rows claims n
-    → i < n → Decides r (Mixes rows (Hand rows claims) (getD words i 0))
 
 -- r says whether a walk of zero or more steps leads from an initial to a final state
 abbrev pub AcceptsRight : List ℕ → List ℕ → List ℕ → List ℕ → ℕ → ℕ → ℕ → ℕ → Bool → Type 0

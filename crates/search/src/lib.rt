@@ -1,14 +1,14 @@
 // The search: does a set loop, does it mix, does a walk lead from an initial to a final state.
 
 ghost use mathlib.Core.Path.{_≡_};
-ghost use mathlib.Core.Logic.{_↔_};
+ghost use mathlib.Core.Logic.{_⊎_, _↔_, _≢_};
 ghost use mathlib.Core.Bool.{true, false};
 ghost use Prim.Native.Nat.{ℕ, _≤_, _<_};
 ghost use Rattle.lists.specs.Tests.{Decides};
 ghost use Rattle.masks.specs.Graph.{Turned};
-ghost use Rattle.masks.specs.Mask.{_∈_};
-ghost use Rattle.search.specs.Hops.{Passes, Hop, Chain, Onward, Inner, Joined, Covered};
-ghost use Rattle.search.specs.Promises.{LoopsRight, MixesRight, AcceptsRight, OpensAt, OpensBelow};
+ghost use Rattle.masks.specs.Mask.{_∈_, _⊆_};
+ghost use Rattle.search.specs.Hops.{Passes, Hop, Chain, Onward, Inner, Joined, Covered, Ends, Threaded};
+ghost use Rattle.search.specs.Promises.{AcceptsRight, OpensAt, OpensBelow};
 use masks::difference;
 use masks::has;
 use masks::intersection;
@@ -32,6 +32,14 @@ fn marked(b: bool, i: u8) -> u64
     if b { with(0, i) } else { 0 }
 }
 
+// The places of `m` but the lowest.
+fn without_lowest(m: u64) -> u64
+    requires { ⌜ 0 < m ⌝ }
+    ensures { λ r. ⌜ ((i : ℕ) → i ∈ m → ((t : ℕ) → t ∈ m → i ≤ t) → (t : ℕ) → (t ∈ r) ↔ ((t ∈ m) × (t ≢ i))) ⌝ }
+{
+    intersection(m, m - 1)
+}
+
 // The places whose words are parts of `p`.
 pub fn inside(words: &[u64; 64], places: u64, p: u64) -> u64
     ensures { λ r. ⌜ Inner (now (words .entry)) places p r ⌝ }
@@ -41,7 +49,7 @@ pub fn inside(words: &[u64; 64], places: u64, p: u64) -> u64
     while rest != 0 {
         let i = lowest(rest);
         r = union(r, marked(is_subset(words[i as usize], p), i));
-        rest = difference(rest, with(0, i));
+        rest = without_lowest(rest);
     }
     r
 }
@@ -62,7 +70,25 @@ fn passing(here: &[u64; 64], there: &[u64; 64], places: u64, m: u64) -> u64
     while rest != 0 {
         let i = lowest(rest);
         r = union(r, passed(here[i as usize], there[i as usize], m));
-        rest = difference(rest, with(0, i));
+        rest = without_lowest(rest);
+    }
+    r
+}
+
+// The states to which an omega or a back step by one of the places leads from the states `m`. One pass for both kinds.
+fn looping(words: &[u64; 64], lefts: &[u64; 64], rights: &[u64; 64], places: u64, m: u64) -> u64
+    ensures { λ r. ⌜ Onward (λ s t. Passes (now (words .entry)) (now (lefts .entry)) places s t ⊎ Passes (now (rights .entry)) (now (words .entry)) places s t) m r ⌝ }
+{
+    let mut r: u64 = 0;
+    let mut rest = places;
+    while rest != 0 {
+        let i = lowest(rest);
+        let at = i as usize;
+        let p = words[at];
+        let omega = passed(p, lefts[at], m);
+        let back = passed(rights[at], p, m);
+        r = union(r, union(omega, back));
+        rest = without_lowest(rest);
     }
     r
 }
@@ -82,10 +108,9 @@ pub fn targets(
 {
     let from = intersection(m, p);
     let letter = masks::targets(letters, from);
-    let omega = passing(words, lefts, loops, from);
-    let back = passing(rights, words, loops, from);
+    let omega_or_back = looping(words, lefts, rights, loops, from);
     let mix = passing(rights, lefts, mixes, from);
-    intersection(union(letter, union(omega, union(back, mix))), p)
+    intersection(union(letter, union(omega_or_back, mix)), p)
 }
 
 // The states to which a walk of one or more steps inside `p` leads from the states `m`.
@@ -112,6 +137,10 @@ pub fn reach(
             return found;
         }
         found = union(found, next);
+        // Every step inside `p` leads to a state of `p`, so nothing more is to be found.
+        if found == p {
+            return found;
+        }
         last = next;
     }
 }
@@ -154,57 +183,11 @@ fn covered(
 ) -> bool
     ensures { λ r. ⌜ (Turned (now (letters .entry)) (now (back .entry)) → Decides r (Covered (Hop (now (letters .entry)) (now (words .entry)) (now (lefts .entry)) (now (rights .entry)) loops mixes p) m n p)) ⌝ }
 {
-    if m == 0 {
-        return p == 0;
-    }
-    if n == 0 {
-        return p == 0;
-    }
     let after = reach(letters, words, lefts, rights, loops, mixes, p, m);
     let before = reach(back, words, rights, lefts, loops, mixes, p, n);
     let first = intersection(m, before);
     let later = intersection(after, union(n, before));
     is_subset(p, union(first, later))
-}
-
-// Does `p` loop with the claims in force, whose places are `loop_mask` and `mix_mask`?
-pub fn loops(
-    letters: &[u64; 64],
-    back: &[u64; 64],
-    words: &[u64; 64],
-    lefts: &[u64; 64],
-    rights: &[u64; 64],
-    loop_mask: u64,
-    mix_mask: u64,
-    p: u64,
-) -> bool
-    ensures { λ r. ⌜ LoopsRight (now (letters .entry)) (now (back .entry)) (now (words .entry)) (now (lefts .entry)) (now (rights .entry)) «loop_mask» «mix_mask» p r ⌝ }
-{
-    let a = inside(words, loop_mask, p);
-    let b = inside(words, mix_mask, p);
-    joined(letters, back, words, lefts, rights, a, b, p)
-}
-
-// Does the set at place `i` mix with the claims in force?
-pub fn mixes(
-    letters: &[u64; 64],
-    back: &[u64; 64],
-    words: &[u64; 64],
-    lefts: &[u64; 64],
-    rights: &[u64; 64],
-    loop_mask: u64,
-    mix_mask: u64,
-    i: usize,
-) -> bool
-    requires { ⌜ i < 64 ⌝ }
-    ensures { λ r. ⌜ MixesRight (now (letters .entry)) (now (back .entry)) (now (words .entry)) (now (lefts .entry)) (now (rights .entry)) «loop_mask» «mix_mask» i r ⌝ }
-{
-    let p = words[i];
-    let a = inside(words, loop_mask, p);
-    let b = inside(words, mix_mask, p);
-    let m = intersection(lefts[i], p);
-    let n = intersection(rights[i], p);
-    covered(letters, back, words, lefts, rights, a, b, p, m, n)
 }
 
 // The set of all states.
@@ -250,7 +233,61 @@ pub struct Opened {
     pub mixes: u64,
 }
 
-// Is the loop of `p` not in force yet, and do walks inside `p` join its states?
+// The ends of all steps with the claims in force.
+fn ends(
+    letters: &[u64; 64],
+    words: &[u64; 64],
+    lefts: &[u64; 64],
+    rights: &[u64; 64],
+    loop_mask: u64,
+    mix_mask: u64,
+) -> u64
+    ensures { λ r. ⌜ Ends (now (letters .entry)) (now (words .entry)) (now (lefts .entry)) (now (rights .entry)) «loop_mask» «mix_mask» r ⌝ }
+{
+    let all = all_states();
+    targets(letters, words, lefts, rights, loop_mask, mix_mask, all, all)
+}
+
+// Is the loop of `p` to be tried? Not where it is in force already, and not where no step leads to a state of `p`, or none from one.
+fn may_loop(taken: bool, p: u64, to: u64, from: u64) -> bool
+    ensures { λ r. ⌜ Decides r ((taken ≡ false) × ((p ⊆ to) × (p ⊆ from))) ⌝ }
+{
+    if taken {
+        return false;
+    }
+    is_subset(p, intersection(to, from))
+}
+
+// Is the mix of `p`, with entrances `m` and exits `n`, to be tried? As for a loop, but an entrance needs no step to it, and an
+// exit none from it.
+fn may_mix(taken: bool, p: u64, m: u64, n: u64, to: u64, from: u64) -> bool
+    ensures { λ r. ⌜ Decides r ((taken ≡ false) × Threaded p m n to from) ⌝ }
+{
+    if taken {
+        return false;
+    }
+    if m == 0 {
+        return p == 0;
+    }
+    if n == 0 {
+        return p == 0;
+    }
+    let after = union(m, to);
+    let before = union(n, from);
+    is_subset(p, intersection(after, before))
+}
+
+// Are both false?
+fn neither(a: bool, b: bool) -> bool
+    ensures { λ r. ⌜ Decides r ((a ≡ false) × (b ≡ false)) ⌝ }
+{
+    if a {
+        return false;
+    }
+    !b
+}
+
+// Is the loop of `p` to be tried, and do walks inside `p` join its states?
 fn loop_opens(
     letters: &[u64; 64],
     back: &[u64; 64],
@@ -260,17 +297,17 @@ fn loop_opens(
     loops: u64,
     mixes: u64,
     p: u64,
-    taken: bool,
+    tried: bool,
 ) -> bool
-    ensures { λ r. ⌜ (Turned (now (letters .entry)) (now (back .entry)) → Decides r ((taken ≡ false) × Joined (Hop (now (letters .entry)) (now (words .entry)) (now (lefts .entry)) (now (rights .entry)) loops mixes p) p)) ⌝ }
+    ensures { λ r. ⌜ (Turned (now (letters .entry)) (now (back .entry)) → Decides r ((tried ≡ true) × Joined (Hop (now (letters .entry)) (now (words .entry)) (now (lefts .entry)) (now (rights .entry)) loops mixes p) p)) ⌝ }
 {
-    if taken {
-        return false;
+    if tried {
+        return joined(letters, back, words, lefts, rights, loops, mixes, p);
     }
-    joined(letters, back, words, lefts, rights, loops, mixes, p)
+    false
 }
 
-// Is the mix of `p` not in force yet, and do walks inside `p` from `m` to `n` cover it?
+// Is the mix of `p` to be tried, and do walks inside `p` from `m` to `n` cover it?
 fn mix_opens(
     letters: &[u64; 64],
     back: &[u64; 64],
@@ -282,17 +319,18 @@ fn mix_opens(
     p: u64,
     m: u64,
     n: u64,
-    taken: bool,
+    tried: bool,
 ) -> bool
-    ensures { λ r. ⌜ (Turned (now (letters .entry)) (now (back .entry)) → Decides r ((taken ≡ false) × Covered (Hop (now (letters .entry)) (now (words .entry)) (now (lefts .entry)) (now (rights .entry)) loops mixes p) m n p)) ⌝ }
+    ensures { λ r. ⌜ (Turned (now (letters .entry)) (now (back .entry)) → Decides r ((tried ≡ true) × Covered (Hop (now (letters .entry)) (now (words .entry)) (now (lefts .entry)) (now (rights .entry)) loops mixes p) m n p)) ⌝ }
 {
-    if taken {
-        return false;
+    if tried {
+        return covered(letters, back, words, lefts, rights, loops, mixes, p, m, n);
     }
-    covered(letters, back, words, lefts, rights, loops, mixes, p, m, n)
+    false
 }
 
-// The claims of the set at place `i` that hold with the claims in force and are not in force yet.
+// The claims of the set at place `i` that hold with the claims in force and are not in force yet. All steps lead from states of
+// `from` to states of `to`.
 fn opened_at(
     letters: &[u64; 64],
     back: &[u64; 64],
@@ -301,27 +339,29 @@ fn opened_at(
     rights: &[u64; 64],
     loop_mask: u64,
     mix_mask: u64,
+    to: u64,
+    from: u64,
     i: u8,
 ) -> Opened
-    requires { ⌜ i < 64 ⌝ }
+    requires { ⌜ (i < 64) × Ends (now letters) (now words) (now lefts) (now rights) «loop_mask» «mix_mask» to × Ends (now back) (now words) (now rights) (now lefts) «loop_mask» «mix_mask» from ⌝ }
     ensures { λ r. ⌜ OpensAt (now (letters .entry)) (now (back .entry)) (now (words .entry)) (now (lefts .entry)) (now (rights .entry)) «loop_mask» «mix_mask» i (r .loops) (r .mixes) ⌝ }
 {
-    if has(intersection(loop_mask, mix_mask), i) {
-        return Opened { loops: 0, mixes: 0 };
-    }
     let at = i as usize;
     let p = words[at];
-    let a = inside(words, loop_mask, p);
-    let b = inside(words, mix_mask, p);
-    let held = has(loop_mask, i);
-    let looping = loop_opens(letters, back, words, lefts, rights, a, b, p, held);
     let m = intersection(lefts[at], p);
     let n = intersection(rights[at], p);
-    let held = has(mix_mask, i);
-    let mixing = mix_opens(letters, back, words, lefts, rights, a, b, p, m, n, held);
+    let try_loop = may_loop(has(loop_mask, i), p, to, from);
+    let try_mix = may_mix(has(mix_mask, i), p, m, n, to, from);
+    if neither(try_loop, try_mix) {
+        return Opened { loops: 0, mixes: 0 };
+    }
+    let a = inside(words, loop_mask, p);
+    let b = inside(words, mix_mask, p);
+    let loops = loop_opens(letters, back, words, lefts, rights, a, b, p, try_loop);
+    let mixes = mix_opens(letters, back, words, lefts, rights, a, b, p, m, n, try_mix);
     Opened {
-        loops: marked(looping, i),
-        mixes: marked(mixing, i),
+        loops: marked(loops, i),
+        mixes: marked(mixes, i),
     }
 }
 
@@ -339,17 +379,27 @@ pub fn open_next(
     requires { ⌜ n ≤ 64 ⌝ }
     ensures { λ r. ⌜ OpensBelow (now (letters .entry)) (now (back .entry)) (now (words .entry)) (now (lefts .entry)) (now (rights .entry)) «loop_mask» «mix_mask» n n (r .loops) (r .mixes) ⌝ }
 {
-    let mut new_loops: u64 = 0;
-    let mut new_mixes: u64 = 0;
+    let to = ends(letters, words, lefts, rights, loop_mask, mix_mask);
+    let from = ends(back, words, rights, lefts, loop_mask, mix_mask);
+    let mut loops: u64 = 0;
+    let mut mixes: u64 = 0;
     let mut i: u8 = 0;
     while i < n {
-        let opened = opened_at(letters, back, words, lefts, rights, loop_mask, mix_mask, i);
-        new_loops = union(new_loops, opened.loops);
-        new_mixes = union(new_mixes, opened.mixes);
+        let opened = opened_at(
+            letters,
+            back,
+            words,
+            lefts,
+            rights,
+            loop_mask,
+            mix_mask,
+            to,
+            from,
+            i,
+        );
+        loops = union(loops, opened.loops);
+        mixes = union(mixes, opened.mixes);
         i += 1;
     }
-    Opened {
-        loops: new_loops,
-        mixes: new_mixes,
-    }
+    Opened { loops, mixes }
 }

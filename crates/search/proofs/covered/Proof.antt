@@ -1,17 +1,10 @@
 -- `search::covered` meets its contract: forward from m, backward from n.
-use mathlib.Core.Logic.{inl, inr}
 use borrow.Author.Needs.{needs}
 use Rattle.lists.proofs.Deciding.{iff·}
 use Rattle.search.proofs.Hops.{hop-back, hop-turn}
-use Rattle.search.proofs.Joining.{covered-iff, uncovered}
+use Rattle.search.proofs.Joining.{covered-iff}
 use Rattle.search.proofs.covered.Statement.{statement}
 use Rattle.search.proofs.covered.Tie as tie
-
-returns : tie.Need-returns
-returns c turned = let a = c .before .args in uncovered (a .m) (a .n) (a .p) (search needs) (inl (c .if1 .taken))
-
-returns-2 : tie.Need-returns-2
-returns-2 c turned = let a = c .before .before .args in uncovered (a .m) (a .n) (a .p) (search needs) (inr (c .if2 .taken))
 
 reach-requires : tie.Need-reach-requires
 reach-requires c κs = search needs
@@ -34,15 +27,15 @@ union-requires-2 c κs = search needs
 is-subset-requires : tie.Need-is-subset-requires
 is-subset-requires c κs = search needs
 
-returns-3 : tie.Need-returns-3
-returns-3 c turned =
+returns : tie.Need-returns
+returns c turned =
     let u = c .before .union2 in
     let z = c .before .before .intersection2 in
     let y = c .before .before .before .union in
     let x = c .before .before .before .before .intersection in
     let before = c .before .before .before .before .before .reach2 in
     let after = c .before .before .before .before .before .before .reach in
-    let args = c .before .before .before .before .before .before .before .before .before .args in
+    let args = c .before .before .before .before .before .before .before .args in
     let all = covered-iff (hop-back turned) (hop-turn turned) (args .m) (args .n) (after .result) (before .result)
     (x .result) (y .result) (z .result) (u .result) (after .ensures) (before .ensures) (x .ensures) (y .ensures) (z .ensures) (u .ensures) in
     iff· (λ f s h. all s .0 (f s h)) (λ f s h. all s .1 (f s h)) (c .is-subset .ensures)
@@ -51,8 +44,6 @@ pub covered-spec : {M : Type 1} → statement M
 covered-spec =
     tie.close
     (tie.spec
-    returns
-    returns-2
     reach-requires
     reach-requires-2
     intersection-requires
@@ -60,4 +51,4 @@ covered-spec =
     intersection-requires-2
     union-requires-2
     is-subset-requires
-    returns-3)
+    returns)

@@ -6,7 +6,7 @@ use lib.ListN.{getD}
 use borrow.Author.Needs.{needs}
 use Rattle.masks.specs.Mask.{_∈_}
 use Rattle.masks.proofs.Member.{member-lt}
-use Rattle.search.proofs.Gathering.{Gathered, gather-start, gather-end, gather-less, gather-more}
+use Rattle.search.proofs.Gathering.{Gathered, gather-start, gather-end, taken-less, taken-more}
 use Rattle.search.proofs.passing.Statement.{statement}
 use Rattle.search.proofs.passing.Tie as tie
 
@@ -49,28 +49,25 @@ passed-requires c κs = search needs
 union-requires : tie.Need-union-requires Inv-loop μ-loop
 union-requires c κs = search needs
 
-with-requires : tie.Need-with-requires Inv-loop μ-loop
-with-requires c κs = low-lt (c .before .before .before .before)
-
-difference-requires : tie.Need-difference-requires Inv-loop μ-loop
-difference-requires c κs = search needs
+without-lowest-requires : tie.Need-without-lowest-requires Inv-loop μ-loop
+without-lowest-requires c κs = search needs
 
 loop-less : tie.Need-loop-less Inv-loop μ-loop
 loop-less c =
-    let low = c .before .before .before .before .before .before in
+    let low = c .before .before .before .before .before in
     let at = low .before .before .loop in
-    gather-less (low .lowest .result) (at .rest) (c .before .with .result) (c .difference .result) (low .lowest .ensures .0)
-    (c .before .with .ensures) (c .difference .ensures) (at .inv .0) (c .difference .ok)
+    taken-less (low .lowest .result) (at .rest) (c .without-lowest .result) (low .lowest .ensures .0)
+    (c .without-lowest .ensures (low .lowest .result) (low .lowest .ensures .0) (low .lowest .ensures .1)) (at .inv .0) (c .without-lowest .ok)
 
 loop-again : tie.Need-loop-again Inv-loop μ-loop
 loop-again c =
-    let low = c .before .before .before .before .before .before in
+    let low = c .before .before .before .before .before in
     let at = low .before .before .loop in
-    let got = c .before .before .before .passed in (
-      c .difference .ok,
-      gather-more (low .lowest .result) (at .rest) (c .before .with .result) (c .difference .result) (low .lowest .ensures .0)
-          (c .before .with .ensures) (c .difference .ensures) (at .r) (got .result) (c .before .before .union .result) (at .inv .1)
-          (got .ensures) (c .before .before .union .ensures),
+    let got = c .before .before .passed in (
+      c .without-lowest .ok,
+      taken-more (low .lowest .result) (at .rest) (c .without-lowest .result) (low .lowest .ensures .0)
+          (c .without-lowest .ensures (low .lowest .result) (low .lowest .ensures .0) (low .lowest .ensures .1)) (at .r) (got .result) (c .before .union .result) (at .inv .1)
+          (got .ensures) (c .before .union .ensures),
     )
 
 returns : tie.Need-returns Inv-loop μ-loop
@@ -96,8 +93,7 @@ passing-spec =
     element-copy-out-passed-2
     passed-requires
     union-requires
-    with-requires
-    difference-requires
+    without-lowest-requires
     loop-less
     loop-again
     returns)

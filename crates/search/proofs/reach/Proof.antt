@@ -4,7 +4,7 @@ use native.Mathlib.Omega.{arith}
 use lib.Count.{ones, ones-le}
 use borrow.Author.Needs.{needs}
 use Rattle.search.specs.Hops.{Hop}
-use Rattle.search.proofs.Chains.{Search, search-start, search-more, search-end, search-grows}
+use Rattle.search.proofs.Chains.{Search, search-start, search-more, search-end, search-full, search-grows}
 use Rattle.search.proofs.reach.Statement.{statement}
 use Rattle.search.proofs.reach.Tie as tie
 
@@ -33,24 +33,34 @@ returns c =
 union-requires : tie.Need-union-requires Inv-loop μ-loop
 union-requires c κs = search needs
 
+returns-2 : tie.Need-returns-2 Inv-loop μ-loop
+returns-2 c =
+    let u = c .before in
+    let d = u .before .before in
+    search-full (d .before .before .before .args .p) (λ a b e. e .end) (c .if2 .taken)
+    (search-more (d .before .targets .result) (d .difference .result) (d .before .before .loop .inv .1)
+    (d .before .targets .ensures) (d .difference .ensures) (u .union .result) (u .union .ensures))
+
 loop-less : tie.Need-loop-less Inv-loop μ-loop
 loop-less c =
-    let d = c .before .before in
+    let u = c .before in
+    let d = u .before .before in
     let at = d .before .before in
     omega (
       arith,
-      ones-le 64 (c .union .result) (c .union .ok),
+      ones-le 64 (u .union .result) (u .union .ok),
       search-grows (d .before .targets .result) (d .difference .result) (at .loop .inv .1)
           (d .before .targets .ensures) (d .difference .ensures)
-          (c .union .result) (c .union .ensures) (at .loop .inv .0) (d .difference .ok) (c .union .ok) (c .before .if1 .left),
+          (u .union .result) (u .union .ensures) (at .loop .inv .0) (d .difference .ok) (u .union .ok) (u .before .if1 .left),
     )
 
 loop-again : tie.Need-loop-again Inv-loop μ-loop
 loop-again c =
-    let d = c .before .before in (
-      c .union .ok,
+    let u = c .before in
+    let d = u .before .before in (
+      u .union .ok,
       search-more (d .before .targets .result) (d .difference .result) (d .before .before .loop .inv .1)
-          (d .before .targets .ensures) (d .difference .ensures) (c .union .result) (c .union .ensures),
+          (d .before .targets .ensures) (d .difference .ensures) (u .union .result) (u .union .ensures),
     )
 
 pub reach-spec : {M : Type 1} → statement M
@@ -64,5 +74,6 @@ reach-spec =
     difference-requires
     returns
     union-requires
+    returns-2
     loop-less
     loop-again)

@@ -1,0 +1,212 @@
+//! Batches by seed: random automata, ladders of nested limits, damaged and repeated rows.
+
+/// A small generator of pseudo-random numbers (splitmix64).
+pub struct Random(pub u64);
+
+impl Random {
+    pub fn next(&mut self) -> u64 {
+        self.0 = self.0.wrapping_add(0x9e37_79b9_7f4a_7c15);
+        let mut x = self.0;
+        x = (x ^ x >> 30).wrapping_mul(0xbf58_476d_1ce4_e5b9);
+        x = (x ^ x >> 27).wrapping_mul(0x94d0_49bb_1331_11eb);
+        x ^ x >> 31
+    }
+
+    pub fn below(&mut self, n: u64) -> u64 {
+        self.next() % n
+    }
+
+    fn state(&mut self, states: u64) -> u8 {
+        self.below(states) as u8
+    }
+
+    fn shuffle<T>(&mut self, items: &mut [T]) {
+        for at in (1..items.len()).rev() {
+            items.swap(at, self.below(at as u64 + 1) as usize);
+        }
+    }
+}
+
+pub fn initial(state: u8) -> Vec<u8> {
+    vec![1, state]
+}
+
+pub fn last(state: u8) -> Vec<u8> {
+    vec![2, state]
+}
+
+pub fn letter(from: u8, letter: u8, to: u8) -> Vec<u8> {
+    vec![3, from, letter, to]
+}
+
+/// set → state
+pub fn left(set: u64, state: u8) -> Vec<u8> {
+    [&[4], &set.to_be_bytes()[..], &[state]].concat()
+}
+
+/// state → set
+pub fn right(state: u8, set: u64) -> Vec<u8> {
+    [&[5, state], &set.to_be_bytes()[..]].concat()
+}
+
+/// An automaton with the given number of states and rows: sets grow from one another, so that limits nest.
+pub fn automaton(random: &mut Random, states: u64, rows: usize, letters: u64) -> Vec<Vec<u8>> {
+    let mut sets = vec![1 << random.below(states)];
+    let mut all = vec![initial(random.state(states)), last(random.state(states))];
+    // Many letters join all states at once; few leave more to the limits.
+    let many = 1 + random.below(4);
+    while all.len() < rows {
+        if random.below(3) == 0 && sets.len() < 64 {
+            let base = sets[random.below(sets.len() as u64) as usize];
+            sets.push(match random.below(6) {
+                0 => 1 << random.below(states),
+                1 => base | sets[random.below(sets.len() as u64) as usize],
+                _ => base | 1 << random.below(states),
+            });
+        }
+        let set = sets[random.below(sets.len() as u64) as usize];
+        let state = random.state(states);
+        all.push(match random.below(8) {
+            0 if random.below(4) == 0 => initial(state),
+            1 if random.below(4) == 0 => last(state),
+            at if at < many => letter(state, random.below(letters) as u8, random.state(states)),
+            at if at % 2 == 0 => left(set, state),
+            _ => right(state, set),
+        });
+    }
+    all
+}
+
+/// Few letters and sets that grow from one another, with limits at their own states: much is left to the claims.
+pub fn nested(random: &mut Random) -> Vec<Vec<u8>> {
+    let states = 2 + random.below(7);
+    let base = [0, 0, 63 - states][random.below(3) as usize] as u8;
+    let mut all = vec![initial(base + random.state(states))];
+    // With ties no letter leads to the final state, and several limits do: the order of walks decides.
+    let ties = random.below(3) == 0;
+    let goal = base + if ties { states as u8 } else { random.state(states) };
+    for _ in 0..random.below(states * if ties { 3 } else { 1 } + 2) + 1 {
+        all.push(letter(base + random.state(states), random.below(3) as u8, base + random.state(states)));
+    }
+    let mut sets = vec![1u64 << random.below(states)];
+    for _ in 0..random.below(8) + 1 {
+        let one = sets[random.below(sets.len() as u64) as usize];
+        let other = sets[random.below(sets.len() as u64) as usize];
+        sets.push(if random.below(3) == 0 { one | other } else { one | 1 << random.below(states) });
+    }
+    for set in sets {
+        if ties {
+            let first = all[0][1];
+            all.push(if random.below(3) != 0 { left(set << base, goal) } else { right(first, set << base) });
+        }
+        for _ in 0..random.below(4) {
+            let members: Vec<u8> = (0..64).filter(|s| set >> s & 1 == 1).collect();
+            let state = match random.below(3) {
+                0 => random.state(states),
+                _ => members[random.below(members.len() as u64) as usize],
+            } + base;
+            all.push(if random.below(2) == 0 { left(set << base, state) } else { right(state, set << base) });
+        }
+    }
+    if ties || random.below(2) == 0 {
+        all.push(last(goal));
+    }
+    all
+}
+
+/// A ladder: rung k is the set of the first k states of an order, and rung k leads into rung k + 1. Each rung opens
+/// one round after the one below. `states` 64 gives 64 sets and 64 rounds; `noise` letter rows lead down only.
+pub fn ladder(random: &mut Random, states: usize, noise: usize, mixes: bool) -> Vec<Vec<u8>> {
+    let mut order: Vec<u8> = (0..64).collect();
+    random.shuffle(&mut order);
+    let mut all = vec![initial(order[0]), letter(order[0], 7, order[0])];
+    let mut set = 0;
+    for rung in 0..states {
+        set |= 1 << order[rung];
+        if rung + 1 < states {
+            all.push(left(set, order[rung + 1]));
+            all.push(letter(order[rung + 1], random.below(256) as u8, order[rung]));
+        }
+        if mixes && all.len() < 250 {
+            all.push(right(order[rung], set));
+        }
+    }
+    all.push(left(set, order[0]));
+    for _ in 0..noise {
+        let high = random.below(states as u64) as usize;
+        let low = random.below(high as u64 + 1) as usize;
+        if all.len() < 255 {
+            all.push(letter(order[high], random.below(256) as u8, order[low]));
+        }
+    }
+    random.shuffle(&mut all);
+    all
+}
+
+/// The rows, some more than once, in one batch.
+pub fn repeated(random: &mut Random, rows: &[Vec<u8>], bytes: usize) -> Vec<u8> {
+    let mut batch = rows.concat();
+    while batch.len() < bytes {
+        batch.extend_from_slice(&rows[random.below(rows.len() as u64) as usize]);
+    }
+    batch
+}
+
+/// A batch of the mix that the comparison runs on.
+pub fn any(random: &mut Random) -> Vec<u8> {
+    let states = [1, 2, 3, 4, 6, 10, 64][random.below(7) as usize];
+    let letters = [1, 2, 256][random.below(3) as usize];
+    let rows = match random.below(8) {
+        0 => random.below(5),
+        1..=4 => 4 + random.below(20),
+        5 | 6 => 20 + random.below(80),
+        _ => 60 + random.below(220),
+    } as usize;
+    let mut all = match random.below(10) {
+        0 => {
+            let rungs = 2 + random.below(63) as usize;
+            let noise = random.below(100) as usize;
+            let mixes = random.below(2) == 0;
+            ladder(random, rungs, noise, mixes)
+        }
+        1..=5 => nested(random),
+        _ => automaton(random, states, rows, letters),
+    };
+    if random.below(2) == 0 {
+        random.shuffle(&mut all);
+    }
+    match random.below(4) {
+        0 => spoil(random, all),
+        _ => all.concat(),
+    }
+}
+
+/// Damages a batch so that each cause of refusal is met often.
+fn spoil(random: &mut Random, mut rows: Vec<Vec<u8>>) -> Vec<u8> {
+    let at = random.below(rows.len() as u64 + 1) as usize;
+    let state = random.below(256) as u8;
+    match random.below(10) {
+        0 => rows.insert(at, left(random.below(2) * 5, state)),
+        1 => rows.insert(at, right(state & 63, random.below(2) << 40)),
+        2 => rows.insert(at, letter(random.below(70) as u8, state, random.below(70) as u8)),
+        3 => rows.insert(at, vec![[0, 6, 255, state][random.below(4) as usize]]),
+        4 => rows.extend((0..70).map(|_| left(random.next() | 1, state & 63))),
+        5 => rows.extend((0..300).map(|_| letter(random.state(64), random.below(256) as u8, random.state(64)))),
+        6 => rows.insert(at, vec![1 + random.below(2) as u8, 60 + random.below(8) as u8]),
+        _ => (),
+    }
+    let mut batch = rows.concat();
+    if batch.is_empty() {
+        return batch;
+    }
+    let place = random.below(batch.len() as u64) as usize;
+    match random.below(6) {
+        0 => batch.truncate(place),
+        1 => batch[place] = state,
+        2 => batch[place] ^= 1 << random.below(8),
+        3 => (0..20).for_each(|_| batch.push(random.below(256) as u8)),
+        4 => batch = (0..place).map(|_| random.below(256) as u8).collect(),
+        _ => (),
+    }
+    batch
+}

@@ -1,0 +1,63 @@
+//! A plain, unproved implementation of document 01, written for speed: the yardstick of the proved engine.
+
+mod load;
+mod print;
+mod search;
+mod walk;
+
+use load::Automaton;
+use search::{Search, Work};
+use std::cell::RefCell;
+
+/// No sheet is longer (document 01, "The sheet").
+pub const LONGEST_SHEET: usize = 6400;
+
+/// A refusal: its number and its place.
+pub type Refusal = (u8, usize);
+
+/// Room that a call uses and the next uses again; nothing in it is read before it is written.
+struct Scratch {
+    rows: Automaton,
+    work: Work,
+    text: [u8; ROOM],
+}
+
+/// The longest sheet, and what a writer of whole words may put beyond its end.
+const ROOM: usize = LONGEST_SHEET + 64;
+
+thread_local! {
+    static SCRATCH: RefCell<Scratch> =
+        const { RefCell::new(Scratch { rows: Automaton::EMPTY, work: Work::EMPTY, text: [0; ROOM] }) };
+}
+
+/// Loads the batch, closes, does rounds until settled and prints into `out`; the length of the sheet, or a refusal
+/// that leaves `out` as it was.
+pub fn plain_sheet(batch: &[u8], out: &mut [u8]) -> Result<usize, Refusal> {
+    SCRATCH.with_borrow_mut(|Scratch { rows, work, text }| {
+        rows.load(batch)?;
+        let mut search = Search::new(rows, work);
+        let verdict = search.settle();
+        let length = print::sheet(&search, verdict, text);
+        if length > out.len() {
+            return Err((12, 0));
+        }
+        out[..length].copy_from_slice(&text[..length]);
+        Ok(length)
+    })
+}
+
+/// The members of a mask, rising.
+pub(crate) struct Bits(pub u64);
+
+impl Iterator for Bits {
+    type Item = usize;
+    #[inline(always)]
+    fn next(&mut self) -> Option<usize> {
+        if self.0 == 0 {
+            return None;
+        }
+        let lowest = self.0.trailing_zeros() as usize & 63;
+        self.0 &= self.0 - 1;
+        Some(lowest)
+    }
+}

@@ -1,0 +1,220 @@
+//! Plain Rust against document 01 read word for word: steps as a list, walks by closure, nothing kept between rounds.
+
+#[allow(dead_code)]
+#[path = "../src/batches.rs"]
+mod batches;
+
+use std::collections::{BTreeMap, BTreeSet};
+
+#[derive(Clone, Copy, PartialEq, Eq, PartialOrd, Ord)]
+enum Row {
+    Initial(u8),
+    Final(u8),
+    Letter(u8, u8, u8),
+    Left(u64, u8),
+    Right(u8, u64),
+}
+use Row::*;
+
+/// A step: from, then what the order of walks compares (kind, letter or set, target), then its content.
+type Step = (u8, (u8, u64, u8), u64);
+
+fn word(bytes: &[u8]) -> u64 {
+    bytes.iter().fold(0, |n, &byte| n << 8 | byte as u64)
+}
+
+fn set_of(row: &Row) -> Option<u64> {
+    match *row {
+        Left(set, _) | Right(_, set) => Some(set),
+        _ => None,
+    }
+}
+
+fn read(rest: &[u8]) -> Result<(Row, usize), u8> {
+    let length = match rest[0] {
+        1 | 2 => 2,
+        3 => 4,
+        4 | 5 => 10,
+        _ => return Err(2),
+    };
+    if rest.len() < length {
+        return Err(3);
+    }
+    let row = match rest[0] {
+        1 => Initial(rest[1]),
+        2 => Final(rest[1]),
+        3 => Letter(rest[1], rest[2], rest[3]),
+        4 => Left(word(&rest[1..9]), rest[9]),
+        _ => Right(rest[1], word(&rest[2..10])),
+    };
+    let states = match row {
+        Initial(s) | Final(s) | Left(_, s) | Right(s, _) => vec![s],
+        Letter(p, _, q) => vec![p, q],
+    };
+    if states.iter().any(|&state| state > 63) {
+        return Err(4);
+    }
+    match set_of(&row) {
+        Some(0) => Err(5),
+        _ => Ok((row, length)),
+    }
+}
+
+fn load(batch: &[u8]) -> Result<BTreeSet<Row>, (u8, usize)> {
+    let mut rows = BTreeSet::new();
+    let mut at = 0;
+    while at < batch.len() {
+        let (row, length) = read(&batch[at..]).map_err(|number| (number, at))?;
+        let mut sets: BTreeSet<u64> = rows.iter().filter_map(set_of).collect();
+        sets.extend(set_of(&row));
+        if !rows.contains(&row) && rows.len() == 256 {
+            return Err((6, at));
+        }
+        if sets.len() > 64 {
+            return Err((7, at));
+        }
+        rows.insert(row);
+        at += length;
+    }
+    Ok(rows)
+}
+
+/// The steps by letters and by the open claims; a claim is its set and whether it is a mix.
+fn steps(rows: &BTreeSet<Row>, open: &BTreeMap<(u64, bool), u8>) -> Vec<Step> {
+    let mut all = vec![];
+    for row in rows {
+        match *row {
+            Letter(p, a, q) => all.push((p, (0, a as u64, q), 1 << p | 1 << q)),
+            Left(set, r) if open.contains_key(&(set, false)) => {
+                all.extend((0..64).filter(|q| set >> q & 1 == 1).map(|q| (q, (1, set, r), set | 1 << r)));
+            }
+            Right(r, set) if open.contains_key(&(set, false)) => {
+                all.extend((0..64).filter(|q| set >> q & 1 == 1).map(|q| (r, (2, set, q), set | 1 << r)));
+            }
+            _ => (),
+        }
+    }
+    for row in rows {
+        let Right(q, set) = *row else { continue };
+        for other in rows {
+            match *other {
+                Left(same, p) if same == set && open.contains_key(&(set, true)) => {
+                    all.push((q, (3, set, p), set | 1 << q | 1 << p));
+                }
+                _ => (),
+            }
+        }
+    }
+    all
+}
+
+/// For each state the states that a walk of one or more steps inside the set leads to.
+fn walks(steps: &[Step], inside: u64) -> [u64; 64] {
+    let mut to = [0u64; 64];
+    for (from, (_, _, target), content) in steps {
+        if content & !inside == 0 {
+            to[*from as usize] |= 1 << target;
+        }
+    }
+    for middle in 0..64 {
+        for from in 0..64 {
+            if to[from] >> middle & 1 == 1 {
+                to[from] |= to[middle];
+            }
+        }
+    }
+    to
+}
+
+fn holds(rows: &BTreeSet<Row>, steps: &[Step], set: u64, mix: bool) -> bool {
+    let to = walks(steps, set);
+    let members: Vec<u8> = (0..64).filter(|s| set >> s & 1 == 1).collect();
+    let leads = |p: u8, q: u8| to[p as usize] >> q & 1 == 1;
+    if !mix {
+        return members.iter().all(|&p| members.iter().all(|&q| leads(p, q)));
+    }
+    let entrances: Vec<u8> = members.iter().copied().filter(|&e| rows.contains(&Left(set, e))).collect();
+    let exits: Vec<u8> = members.iter().copied().filter(|&f| rows.contains(&Right(f, set))).collect();
+    let on_piece = |s: u8, e: u8, f: u8| leads(e, s) && leads(s, f) || e == s && leads(s, f) || leads(e, s) && s == f;
+    members.iter().all(|&s| entrances.iter().any(|&e| exits.iter().any(|&f| on_piece(s, e, f))))
+}
+
+/// The least number of steps from each state to a final one.
+fn distances(rows: &BTreeSet<Row>, steps: &[Step]) -> [usize; 64] {
+    let mut far = [usize::MAX; 64];
+    (0..64).filter(|&s| rows.contains(&Final(s))).for_each(|s| far[s as usize] = 0);
+    for _ in 0..64 {
+        for (from, (_, _, to), _) in steps {
+            let by = far[*to as usize].saturating_add(1);
+            far[*from as usize] = far[*from as usize].min(by);
+        }
+    }
+    far
+}
+
+fn sheet(rows: &BTreeSet<Row>) -> String {
+    let sets: BTreeSet<u64> = rows.iter().filter_map(set_of).collect();
+    let mut open: BTreeMap<(u64, bool), u8> = BTreeMap::new();
+    let mut round = 0;
+    loop {
+        let all = steps(rows, &open);
+        let far = distances(rows, &all);
+        let start = (0..64).filter(|&s| rows.contains(&Initial(s))).min_by_key(|&s| (far[s as usize], s));
+        if let Some(start) = start.filter(|&s| far[s as usize] < usize::MAX) {
+            return format!("verdict nonempty rounds {round}\n{}{}", opened(&open), walk(&all, &far, start));
+        }
+        round += 1;
+        let claims = sets.iter().flat_map(|&set| [(set, false), (set, true)]);
+        let new: Vec<_> =
+            claims.filter(|claim| !open.contains_key(claim) && holds(rows, &all, claim.0, claim.1)).collect();
+        if new.is_empty() {
+            return format!("verdict empty rounds {round}\n{}", opened(&open));
+        }
+        open.extend(new.into_iter().map(|claim| (claim, round)));
+    }
+}
+
+fn opened(open: &BTreeMap<(u64, bool), u8>) -> String {
+    let mut lines: Vec<_> = open.iter().map(|(&(set, mix), &round)| (round, set, mix)).collect();
+    lines.sort();
+    let name = |mix| if mix { "mix" } else { "loop" };
+    lines.iter().map(|&(round, set, mix)| format!("open {round} {} {set:016x}\n", name(mix))).collect()
+}
+
+fn walk(steps: &[Step], far: &[usize; 64], start: u8) -> String {
+    let mut text = format!("start {start}\n");
+    let mut at = start;
+    while far[at as usize] > 0 {
+        let nearer = |step: &&Step| step.0 == at && far[step.1 .2 as usize] + 1 == far[at as usize];
+        let (kind, label, to) = steps.iter().filter(nearer).map(|step| step.1).min().unwrap();
+        text += &match kind {
+            0 => format!("step letter {label} to {to}\n"),
+            _ => format!("step {} {label:016x} to {to}\n", ["omega", "back", "mix"][kind as usize - 1]),
+        };
+        at = to;
+    }
+    text
+}
+
+#[test]
+fn plain_is_the_definition() {
+    let count = std::env::var("NAIVE").map_or(3000, |n| n.parse().unwrap());
+    let mut random = batches::Random(2026);
+    let (mut refused, mut nonempty, mut most) = (0, 0, 0);
+    for _ in 0..count {
+        let batch = batches::any(&mut random);
+        let mut text = [0; plain::LONGEST_SHEET];
+        let got = plain::plain_sheet(&batch, &mut text).map(|n| String::from_utf8(text[..n].to_vec()).unwrap());
+        let want = load(&batch).map(|rows| sheet(&rows));
+        assert_eq!(got, want, "on {batch:02x?}");
+        match want {
+            Err(_) => refused += 1,
+            Ok(text) => {
+                nonempty += text.starts_with("verdict nonempty") as usize;
+                let rounds = text.lines().next().unwrap().rsplit(' ').next().unwrap();
+                most = most.max(rounds.parse().unwrap_or(0));
+            }
+        }
+    }
+    println!("{count} batches, {refused} refused, {nonempty} non-empty, at most {most} rounds");
+}

@@ -1,0 +1,99 @@
+-- What a set that loops or mixes shows before any search: where steps lead to its states, and where steps lead from them.
+use Prim.Native.Nat.{ℕ, _-_, _^_, _<_}
+use mathlib.Core.Path.{_≡_, subst, sym, ap, _∙_}
+use mathlib.Core.Bool.{Bool, not, _&&_, _||_}
+use mathlib.Core.Logic.{_⊎_, inl, inr, ⊎-elim, _↔_, _≢_}
+use mathlib.Core.List.{List}
+use lib.Dec.{eqb, lit<}
+use Rattle.lists.specs.Tests.{Decides}
+use Rattle.lists.proofs.Deciding.{eqb·, iff·}
+use Rattle.masks.specs.Graph.{Turned}
+use Rattle.masks.specs.Mask.{member, _∈_, _⊆_}
+use Rattle.masks.proofs.Digit.{digit-none, digit-not}
+use Rattle.masks.proofs.Member.{in-none, none as empty, member-digit, member-lt, union-left, union-right, union-cases, intersection-left, intersection-right, intersection-both}
+use Rattle.rows.specs.declared.Row.{Row}
+use Rattle.orderings.specs.Steps.{Claim}
+use Rattle.orderings.specs.Claims.{Loops, Mixes, Entrance, Exit}
+use Rattle.orderings.specs.Systems.{AtHand}
+use Rattle.orderings.specs.Timelines.{timelines}
+use Rattle.search.specs.Masked.{Masked, Forced, StepInside}
+use Rattle.search.specs.Hops.{Hop, Chain, one, more, Between, Ends, Threaded}
+use Rattle.search.proofs.Accepting.{all-inner}
+use Rattle.search.proofs.Hops.{hop-turn}
+use Rattle.search.proofs.Steps.{step-hop}
+use Rattle.search.proofs.Walks.{leg-chain, leg-between}
+
+-- a chain begins with a step, and ends with one
+chain-first : {E : ℕ → ℕ → Type 0} {a b : ℕ} → Chain E a b → (k : ℕ) × E a k
+chain-first (one e) = (_, e)
+chain-first (more c e) = chain-first c
+
+chain-last : {E : ℕ → ℕ → Type 0} {a b : ℕ} → Chain E a b → (k : ℕ) × E k b
+chain-last (one e) = (_, e)
+chain-last (more c e) = (_, e)
+
+-- the set of all states
+abbrev all : ℕ
+all = 2 ^ 64 - 1 - 0
+
+pub has-all : (s : ℕ) → s < 64 → s ∈ all
+has-all s h = member-digit s _ h ∙ digit-not s 64 0 h (lit< tt) ∙ ap not (digit-none s)
+
+-- a set with a state
+not-none : (s m : ℕ) → s ∈ m → m ≢ 0
+not-none s m h e = in-none s (subst (λ (x : ℕ). s ∈ x) e h)
+
+-- without an entrance, or without an exit, only a set without a state is to be tried
+pub unthreaded : (p m n to from : ℕ) → p < 2 ^ 64 → (m ≡ 0) ⊎ (n ≡ 0) → Decides (eqb p 0) (Threaded p m n to from)
+unthreaded p m n to from h none = iff· (λ e s i. absurd (in-none s (subst (λ (x : ℕ). s ∈ x) e i)))
+    (λ f. empty p h (λ s i. ⊎-elim (f s i .0) (f s i .1) none)) (eqb· p 0)
+
+-- with some of both, a test against two unions
+pub threaded : {b : Bool} (p m n to from after before both : ℕ) → m ≢ 0 → n ≢ 0
+    → ((t : ℕ) → member t after ≡ (member t m || member t to)) → ((t : ℕ) → member t before ≡ (member t n || member t from))
+    → ((t : ℕ) → member t both ≡ (member t after && member t before)) → Decides b (p ⊆ both) → Decides b (Threaded p m n to from)
+threaded p m n to from after before both some-m some-n is-a is-b is = iff·
+    (λ f s h. (
+      some-m,
+      some-n,
+      union-cases m to after is-a s (intersection-left after before both is s (f s h)),
+      union-cases n from before is-b s (intersection-right after before both is s (f s h)),
+    ))
+    (λ f s h. let x = f s h in intersection-both after before both is s
+    (⊎-elim (union-left m to after is-a s) (union-right m to after is-a s) (x .2))
+    (⊎-elim (union-left n from before is-b s) (union-right n from before is-b s) (x .3)))
+
+module _ {rows : List Row} {letters back words lefts rights : List ℕ} {n : ℕ} (is : Masked rows letters words lefts rights n) (turned : Turned letters back)
+    {In : Claim → Type 0} {loop-mask mix-mask : ℕ} (force : Forced In words n loop-mask mix-mask) (to from : ℕ)
+    (is-to : Ends letters words lefts rights loop-mask mix-mask to) (is-from : Ends back words rights lefts loop-mask mix-mask from) (p : ℕ) where
+  abbrev Step : ℕ → ℕ → Type 0
+  Step a b = StepInside rows In p a b
+
+  -- a step inside p is one inside the set of all states
+  anywhere : (a b : ℕ) → Step a b → Hop letters words lefts rights loop-mask mix-mask all a b
+  anywhere a b (l, can, f, c) =
+      step-hop is force all loop-mask mix-mask (all-inner all has-all words loop-mask) (all-inner all has-all words mix-mask) a b
+      (l, can, f, λ s m. has-all s (member-lt s p (c s m)))
+
+  follows : {a b : ℕ} → Chain Step a b → b ∈ to
+  follows {a} {b} c = let e = chain-last c in is-to all (e .0) b (anywhere (e .0) b (e .1))
+
+  precedes : {a b : ℕ} → Chain Step a b → a ∈ from
+  precedes {a} {b} c = let e = chain-first c in is-from all (e .0) a (hop-turn turned a (e .0) (anywhere a (e .0) (e .1)))
+
+  pub looping-passes : Loops (AtHand (timelines rows) In) p → (p ⊆ to) × (p ⊆ from)
+  looping-passes f = ((λ s h. follows (leg-chain rows In p s s (f s s h h))), λ s h. precedes (leg-chain rows In p s s (f s s h h)))
+
+  pub mixing-passes : (m k : ℕ) → ((e : ℕ) → (e ∈ m) ↔ Entrance rows p e) → ((e : ℕ) → (e ∈ k) ↔ Exit rows p e)
+      → Mixes rows (AtHand (timelines rows) In) p → Threaded p m k to from
+  mixing-passes m k is-m is-k f s h =
+      let o = f s h in
+      let in-m = is-m (o .0) .1 (o .2) in
+      let in-k = is-k (o .1) .1 (o .3) in
+      let on = cut (o .0) (o .1) in-m in-k (leg-between rows In p (o .0) (o .1) s (o .4, o .5)) in
+      (not-none (o .0) m in-m, not-none (o .1) k in-k, on .0, on .1)
+    where
+      cut : (a b : ℕ) → a ∈ m → b ∈ k → Between Step a b s → ((s ∈ m) ⊎ (s ∈ to)) × ((s ∈ k) ⊎ (s ∈ from))
+      cut a b ha hb = ⊎-elim
+          (λ x. (inl (subst (λ (y : ℕ). y ∈ m) (sym (x .0)) ha), inr (precedes (x .1))))
+          (λ x. (inr (follows (x .0)), ⊎-elim (λ e. inl (subst (λ (y : ℕ). y ∈ k) (sym e) hb)) (λ d. inr (precedes d)) (x .1)))

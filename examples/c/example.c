@@ -1,0 +1,26 @@
+/* Case A from C. From the root of the repository:
+   rt staticlib ffi
+   cc -Wall -Wextra examples/c/example.c target/staticlib/libffi.a -o target/example_c && target/example_c */
+#include "gozhmerik.h"
+#include <inttypes.h>
+#include <stdio.h>
+
+static const uint8_t case_a[] = {
+    1, 0,                         /* state 0 is initial */
+    2, 1,                         /* state 1 is final */
+    3, 1, 'a', 0,                 /* 1 to 0 by letter a */
+    4, 0, 0, 0, 0, 0, 0, 0, 3, 1, /* {0, 1} to 1, a left-limit */
+    5, 0, 0, 0, 0, 0, 0, 0, 0, 3, /* 0 to {0, 1}, a right-limit */
+};
+
+int main(void) {
+    uint8_t sheet[GOZHMERIK_LONGEST_SHEET];
+    uint64_t place = 0;
+    uint64_t value = gozhmerik_sheet(case_a, sizeof case_a, sheet, sizeof sheet, &place);
+    if (gozhmerik_refusal(value) != 0) {
+        printf("refused %u at %" PRIu64 "\n", gozhmerik_refusal(value), place);
+        return 1;
+    }
+    fwrite(sheet, 1, (size_t)value, stdout);
+    return 0;
+}

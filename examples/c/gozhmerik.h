@@ -1,0 +1,32 @@
+/* Gozhmerik: does an automaton on linear orderings accept any word? The library is target/staticlib/libffi.a, which
+   `rt staticlib ffi` proves and writes; it is for x86-64. docs/FORMAT.md explains batches, sheets and refusals. */
+#ifndef GOZHMERIK_H
+#define GOZHMERIK_H
+
+#include <stddef.h>
+#include <stdint.h>
+
+#ifdef __cplusplus
+extern "C" {
+#endif
+
+/* No sheet is longer, so a buffer of this length is never too short. */
+#define GOZHMERIK_LONGEST_SHEET 6400
+
+/* Loads the batch into a fresh session, closes it, does rounds until it is settled and prints the sheet.
+
+   Sheet: the value returned is its length, below 2^32; the bytes of `sheet` beyond that length are as they were.
+   Refusal: the value returned is its number times 2^32; its place is in *place, and `sheet` is as it was.
+
+   `batch` has batch_len bytes, any bytes, and is only read; `sheet` has sheet_len bytes. No pointer may be null, even
+   where its length is 0, and the three must not overlap. Nothing is kept between calls. */
+uint64_t gozhmerik_sheet(const uint8_t *batch, size_t batch_len, uint8_t *sheet, size_t sheet_len, uint64_t *place);
+
+/* The number of a refusal, 0 if the value is a sheet's length. */
+static inline unsigned gozhmerik_refusal(uint64_t value) { return (unsigned)(value >> 32); }
+
+#ifdef __cplusplus
+}
+#endif
+
+#endif

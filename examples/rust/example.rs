@@ -1,0 +1,42 @@
+// Case A from Rust. From the root of the repository:
+// rt staticlib ffi
+// rustc --edition 2021 -O examples/rust/example.rs -C link-arg=target/staticlib/libffi.a -o target/example_rust && target/example_rust
+
+use std::io::Write;
+
+extern "C" {
+    // A slice passes as its address, which is never null, and its length.
+    fn gozhmerik_sheet(batch: *const u8, batch_len: usize, sheet: *mut u8, sheet_len: usize, place: *mut u64) -> u64;
+}
+
+/// No sheet is longer.
+const LONGEST_SHEET: usize = 6400;
+
+/// The sheet of a batch, or the number and the place of a refusal.
+fn sheet(batch: &[u8]) -> Result<Vec<u8>, (u64, u64)> {
+    let mut text = vec![0; LONGEST_SHEET];
+    let mut place = 0;
+    // The slices are valid for their lengths and do not overlap, and the function writes only to the last two.
+    let value =
+        unsafe { gozhmerik_sheet(batch.as_ptr(), batch.len(), text.as_mut_ptr(), text.len(), &mut place) };
+    if value >> 32 != 0 {
+        return Err((value >> 32, place));
+    }
+    text.truncate(value as usize);
+    Ok(text)
+}
+
+fn main() -> std::io::Result<()> {
+    let case_a = [
+        &[1, 0][..],                      // state 0 is initial
+        &[2, 1],                          // state 1 is final
+        &[3, 1, b'a', 0],                 // 1 to 0 by letter a
+        &[4, 0, 0, 0, 0, 0, 0, 0, 3, 1],  // {0, 1} to 1, a left-limit
+        &[5, 0, 0, 0, 0, 0, 0, 0, 0, 3],  // 0 to {0, 1}, a right-limit
+    ]
+    .concat();
+    match sheet(&case_a) {
+        Ok(text) => std::io::stdout().write_all(&text),
+        Err((number, place)) => writeln!(std::io::stdout(), "refused {number} at {place}"),
+    }
+}
