@@ -29,6 +29,7 @@ use Rattle.session.specs.declared.Answer.the-variants.{Done, Wrote as WroteN, R
 use Rattle.session.specs.declared.Reply.{Reply}
 use Rattle.session.specs.Record.{record-of, Represents}
 use Rattle.session.specs.Promise.{answer-of, Fresh, Keeps}
+use Rattle.session.proofs.Answers.{done-by, wrote-by, refused-by}
 use Rattle.checker.specs.Promise.{Finishes, Checks, Shows}
 
 -- numbers below 256 at every place are bytes
@@ -44,21 +45,6 @@ fresh-represents s f = record { formed = opened-formed [] no-rows; whole = f }
 -- what the load of a fresh machine answers
 abbrev loaded : List ℕ → Told
 loaded l = call fresh (load l) .answer
-
-pub done-by : (a : Told) → answer-of a ≡ Done → a ≡ done
-done-by done e = refl
-done-by (wrote l) e = let z : _≡_ {A = ℕ} 0 1 = cc in absurd (omega arith)
-done-by (refused n place) e = let z : _≡_ {A = ℕ} 0 1 = cc in absurd (omega arith)
-
-pub refused-by : (a : Told) (n place : ℕ) → answer-of a ≡ Refused n place → a ≡ refused n place
-refused-by done n place e = let z : _≡_ {A = ℕ} 0 1 = cc in absurd (omega arith)
-refused-by (wrote l) n place e = let z : _≡_ {A = ℕ} 0 1 = cc in absurd (omega arith)
-refused-by (refused k at) n place e = let i : k ≡ n = cc in let j : at ≡ place = cc in cc
-
-pub wrote-by : (a : Told) (n : ℕ) → answer-of a ≡ WroteN n → (l : List ℕ) × (a ≡ wrote l) × (n ≡ length l)
-wrote-by done n e = let z : _≡_ {A = ℕ} 0 1 = cc in absurd (omega arith)
-wrote-by (wrote l) n e = (l, refl, cc)
-wrote-by (refused k place) n e = let z : _≡_ {A = ℕ} 0 1 = cc in absurd (omega arith)
 
 -- a load writes nothing
 load-writes : (l : List ℕ) (n : ℕ) → answer-of (loaded l) ≡ WroteN n → ⊥

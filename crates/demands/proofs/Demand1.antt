@@ -13,15 +13,10 @@ use Rattle.session.specs.declared.Answer.the-variants.{Refused}
 use Rattle.session.specs.declared.Reply.{Reply}
 use Rattle.session.specs.Record.{record-of}
 use Rattle.session.specs.Promise.{answer-of}
+use Rattle.session.proofs.Answers.{refused-by}
 use Rattle.demands.specs.Trace.{Exchange, call-of, reply-in, given, fed}
 use Rattle.demands.specs.Demands.{Answered, Demand1}
 use Rattle.demands.proofs.Reached.{replies, keeps-buffer, Stands, reached}
-
--- the engine refuses only where the machine does, with the same number and place
-refused-by : (a : Said) (b : Answer) (n place : ℕ) → b ≡ answer-of a → b ≡ Refused n place → a ≡ refused n place
-refused-by done b n place i j = let z : _≡_ {A = ℕ} 0 1 = cc in absurd (omega arith)
-refused-by (wrote l) b n place i j = let z : _≡_ {A = ℕ} 0 1 = cc in absurd (omega arith)
-refused-by (refused k at) b n place i j = let e : k ≡ n = cc in let f : at ≡ place = cc in cc
 
 answered : (m : Machine) (s : Session) (e : Exchange) → Stands m s e → Answered m s e
 answered m s e h = record {
@@ -37,7 +32,7 @@ answered m s e h = record {
     same = ap (λ (r : Reply). r .answer) (replies m s e (h .record-is) (h .promise))
 
     by : (n place : ℕ) → reply-in e .answer ≡ Refused n place → call m (call-of e) .answer ≡ refused n place
-    by n place i = refused-by (call m (call-of e) .answer) (reply-in e .answer) n place same i
+    by n place i = refused-by (call m (call-of e) .answer) n place (sym same ∙ i)
 
 pub demand-1 : Demand1
 demand-1 s f es t before later e i = answered (fed before) (given s before) e (reached s f es t before later e i)

@@ -33,16 +33,11 @@ use Rattle.session.specs.declared.Answer.{Answer}
 use Rattle.session.specs.declared.Answer.the-variants.{Wrote}
 use Rattle.session.specs.declared.Reply.{Reply}
 use Rattle.session.specs.Promise.{answer-of, reply-of}
+use Rattle.session.proofs.Answers.{wrote-by}
 use Rattle.demands.specs.Trace.{printed, fed}
 use Rattle.demands.specs.Trace.{saved as saved-in}
 use Rattle.demands.specs.Demands.{Walked, Told, PrintTold, SaveTold, Demand2}
 use Rattle.demands.proofs.Reached.{fresh-is, reached}
-
--- the engine writes only where the machine does, and answers with the length
-wrote-by : (a : Said) (b : Answer) (n : ℕ) → b ≡ answer-of a → b ≡ Wrote n → (l : List ℕ) × (a ≡ wrote l) × (n ≡ length l)
-wrote-by done b n i j = let z : _≡_ {A = ℕ} 0 1 = cc in absurd (omega arith)
-wrote-by (wrote l) b n i j = (l, refl, cc)
-wrote-by (refused k place) b n i j = let z : _≡_ {A = ℕ} 0 1 = cc in absurd (omega arith)
 
 -- the text in the buffer
 written : (a : Said) (old new l text : List ℕ) (n : ℕ) → new ≡ buffer-after a old → a ≡ wrote l → n ≡ length l → l ≡ text → new ≡ text ++ drop n old
@@ -87,7 +82,7 @@ module _ (m : Machine) (w : WellFormed m) where
   }
 
   print-told : (old new : List ℕ) (a : Answer) → a ≡ answer-of (call m (print (length old)) .answer) → new ≡ buffer-after (call m (print (length old)) .answer) old → PrintTold m old new a
-  print-told old new a i j n e = let l = wrote-by (call m (print (length old)) .answer) a n i e in let h = prints m w (length old) .accepted (l .0) .0 (l .1) in
+  print-told old new a i j n e = let l = wrote-by (call m (print (length old)) .answer) n (sym i ∙ e) in let h = prints m w (length old) .accepted (l .0) .0 (l .1) in
       let k : l .0 ≡ sheet (h .0) m = h .2 ∙ ap (sheet (h .0)) (second-is m w (h .0) (h .1)) in
       (h .0, written (call m (print (length old)) .answer) old new (l .0) (sheet (h .0) m) n j (l .1) (l .2) k, told (h .0) (h .1))
 
@@ -100,7 +95,7 @@ module _ (m : Machine) (w : WellFormed m) where
   )
     where
       bytes : take n new ≡ saved m
-      bytes = let l = wrote-by (call m (save (length old)) .answer) a n i e in let k = saves m (w .table) (length old) (l .0) (l .1) .sorted in
+      bytes = let l = wrote-by (call m (save (length old)) .answer) n (sym i ∙ e) in let k = saves m (w .table) (length old) (l .0) (l .1) .sorted in
           ap (take n) (written (call m (save (length old)) .answer) old new (l .0) (saved m) n j (l .1) (l .2) k) ∙ take-at (saved m) (drop n old) n (sym (l .2 ∙ ap length k))
 
 pub demand-2 : Demand2

@@ -9,7 +9,7 @@ use Rattle.machine.specs.Program.{outcome}
 use Rattle.session.specs.declared.Answer.{Answer}
 use Rattle.session.specs.declared.Answer.the-variants.{Done, Wrote, Refused}
 use Rattle.checker.specs.Promise.{Checks}
-use Rattle.checker.proofs.Outcomes.{done-by, wrote-by, refused-by}
+use Rattle.session.proofs.Answers.{done-by, wrote-by, refused-by}
 use Rattle.ffi.specs.Promise.{code-of, place-after, Called}
 
 module _ (batch old new : List ℕ) (before : ℕ) (b : Answer) (c : Checks batch old new b) where

@@ -3,3 +3,4 @@ pub mod Counting
 pub mod Sorting
 pub mod Growing
 pub mod Writing
+pub mod Places

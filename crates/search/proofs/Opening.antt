@@ -8,6 +8,7 @@ use native.Mathlib.Omega.{arith}
 use lib.ListN.{length, getD}
 use lib.Seq.{getD-take}
 use Rattle.lists.specs.Tests.{Decides, _among_}
+use Rattle.lists.proofs.Places.{getD-among}
 use Rattle.masks.specs.Mask.{member, _∈_}
 use Rattle.masks.proofs.Member.{in-none, lt-or-le, true-or-false, not-both, union-left, union-right, union-cases}
 use Rattle.rows.specs.declared.Row.{Row}
@@ -15,17 +16,12 @@ use Rattle.rows.specs.Rows.{SetOf, sets}
 use Rattle.rows.proofs.Sets.{sets-iff}
 use Rattle.search.specs.Masked.{Masked}
 
-at-place : (l : List ℕ) (i : ℕ) → i < length l → getD l i 0 among l
-at-place [] i h = absurd (omega arith)
-at-place (x ∷ l) zero h = List·Memᴰ·head refl
-at-place (x ∷ l) (suc i) h = List·Memᴰ·tail (at-place l i (omega arith))
-
 -- at each place below n is a set of the rows
 pub set-at : {rows : List Row} {letters words lefts rights : List ℕ} {n : ℕ} → Masked rows letters words lefts rights n → length (sets rows) ≡ n
     → (i : ℕ) → i < n → SetOf rows (getD words i 0)
 set-at {rows} {words = words} {n = n} is count i l =
     let e : getD words i 0 ≡ getD (sets rows) i 0 = sym (getD-take n words i 0 l) ∙ ap (λ (x : List ℕ). getD x i 0) (is .sets-are) in
-    sets-iff rows (getD words i 0) .0 (rw e (at-place (sets rows) i (omega arith)))
+    sets-iff rows (getD words i 0) .0 (rw e (getD-among (sets rows) i 0 (omega arith)))
 
 -- a claim C that the mask m has at place i where it is in force; it is tried where it is not, and where F is so, which B, what it says, shows
 module _ {taken tried : Bool} {B C F : Type 0} {n : ℕ} (i m : ℕ) (l : i < n) (force : (i ∈ m) ↔ ((i < n) × C)) (is-taken : taken ≡ member i m)

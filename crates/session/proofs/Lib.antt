@@ -10,3 +10,4 @@ pub mod Marking
 pub mod Rounded
 pub mod Phases
 pub mod Printed
+pub mod Answers

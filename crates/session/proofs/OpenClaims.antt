@@ -10,6 +10,7 @@ use native.Mathlib.Nat.{eq-or-lt-of-le}
 use lib.Dec.{eqb}
 use Rattle.lists.specs.Tests.{Decides, _among_}
 use Rattle.lists.proofs.Deciding.{yes·, no·}
+use Rattle.lists.proofs.Places.{getD-map}
 use Rattle.masks.specs.Mask.{member, _∈_}
 use Rattle.masks.proofs.Member.{with-same, with-cases}
 use Rattle.rows.specs.declared.Row.{Row}
@@ -89,11 +90,6 @@ counted m w = go (m .phase) (w .made)
     go Running k o i = worked k o i
     go (Settled v) k o i = worked k o i
 
-map-at : (f : ℕ → ℕ) (l : List ℕ) (i : ℕ) → i < length l → getD (map f l) i 0 ≡ f (getD l i 0)
-map-at f [] i h = absurd (omega arith)
-map-at f (x ∷ l) zero h = refl
-map-at f (x ∷ l) (suc i) h = map-at f l i (omega arith)
-
 -- what an array holds below the length of the list that it is filled up from
 pub filled-at : (l : List ℕ) (i : ℕ) → i < length l → getD (padded 64 0 l) i 0 ≡ getD l i 0
 filled-at l i h = List·getD-append l (replicate (64 - length l) 0) 0 i h
@@ -105,7 +101,7 @@ set-at m i = getD (padded 64 0 (sets (m .rows))) i 0
 -- at the place of a set stands the round of its claim
 pub round-at : (m : Machine) (claim : ℕ → Claim) (i : ℕ) → i < length (sets (m .rows)) → getD (rounds-of m claim) i 0 ≡ round-of (m .openings) (claim (set-at m i))
 round-at m claim i h = let f : ℕ → ℕ = λ P. round-of (m .openings) (claim P) in let l = sets (m .rows) in
-    filled-at (map f l) i (omega (arith, length-map l f)) ∙ map-at f l i h ∙ ap f (sym (filled-at l i h))
+    filled-at (map f l) i (omega (arith, length-map l f)) ∙ getD-map f l i 0 0 h ∙ ap f (sym (filled-at l i h))
 
 open-iff : (m : Machine) → WellFormed m → (claim : ℕ → Claim) (mask : ℕ) → OpenPlaces (rounds-of m claim) (length (sets (m .rows))) mask
     → (i : ℕ) → (i ∈ mask) ↔ ((i < length (sets (m .rows))) × claim (set-at m i) among open-claims m)

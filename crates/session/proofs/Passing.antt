@@ -9,6 +9,7 @@ use native.Mathlib.Omega.{arith}
 use Rattle.lists.specs.Tests.{_among_, Once}
 use Rattle.lists.specs.Order.{Sorted}
 use Rattle.lists.proofs.Deciding.{eqb·, ltb·, dec·, so, map-in, map-out}
+use Rattle.lists.proofs.Places.{rising}
 use Rattle.lists.proofs.Sorting.{before·}
 use Rattle.masks.specs.Mask.{_∈_}
 use Rattle.masks.proofs.Member.{in-none}
@@ -174,30 +175,6 @@ module _ (words : List ℕ) (n : ℕ) (few : n ≤ 64) {l : List Slot} {letters 
   }
 
 -- ---- all rows
-
-getD-among : (l : List ℕ) (j : ℕ) → j < length l → getD l j 0 among l
-getD-among [] j h = absurd (omega arith)
-getD-among (x ∷ l) zero h = List·Memᴰ·head refl
-getD-among (x ∷ l) (suc j) h = List·Memᴰ·tail (getD-among l j (omega arith))
-
--- numbers in order, none twice, rise
-rising : (l : List ℕ) → Sorted (λ (P : ℕ). P ∷ []) l → Once l → Rising l (length l)
-rising [] s o i j p q = absurd (omega arith)
-rising (x ∷ l) s o zero zero p q = absurd (omega arith)
-rising (x ∷ l) s o zero (suc j) p q = go (dec· (eqb· x y)) (dec· (ltb· y x))
-  where
-    y : ℕ
-    y = getD l j 0
-
-    i : y among l
-    i = getD-among l j (omega arith)
-
-    go : Dec (x ≡ y) → Dec (y < x) → x < y
-    go (yes e) f = absurd (o .0 (Memᴰ·cast e i))
-    go (no n) (yes f) = absurd (s .0 y i (so (before· y x [] []) (inl f)))
-    go (no n) (no f) = omega arith
-rising (x ∷ l) s o (suc i) zero p q = absurd (omega arith)
-rising (x ∷ l) s o (suc i) (suc j) p q = rising l (s .1) (o .1) i j (omega arith) (omega arith)
 
 module _ (m : Machine) (w : WellFormed m) where
   abbrev words : List ℕ

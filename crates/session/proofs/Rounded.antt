@@ -8,6 +8,7 @@ use lib.ListN.{length, getD, replicate}
 use native.Mathlib.Omega.{arith}
 use Rattle.lists.specs.Tests.{Decides, _among_}
 use Rattle.lists.proofs.Deciding.{yes·, no·, not-so, iff·}
+use Rattle.lists.proofs.Places.{place-of}
 use Rattle.masks.specs.Mask.{member, _∈_}
 use Rattle.masks.proofs.Member.{in-none, union-left, union-right, union-cases}
 use Rattle.rows.specs.Rows.{sets}
@@ -44,11 +45,6 @@ alike {a} {b} {A} d e = go a d
 none· : {A : Type 0} (l : List A) → Decides (nothing? l) ((x : A) → ¬ (x among l))
 none· [] = record { to = λ e x. List·Memᴰ·not-nil; of = λ h. refl }
 none· (x ∷ l) = record { to = λ e. let z : _≡_ {A = ℕ} 0 1 = cc in absurd (omega arith); of = λ h. absurd (h x (List·Memᴰ·head refl)) }
-
--- the place of an element
-place-in : (x : ℕ) (l : List ℕ) → x among l → (i : ℕ) × (i < length l) × (getD l i 0 ≡ x)
-place-in x [] m = absurd (List·Memᴰ·not-nil m)
-place-in x (y ∷ l) m = ⊎-elim (λ e. (zero, omega arith, sym e)) (λ k. let r = place-in x l k in (suc (r .0), omega (arith, r .1), r .2)) (List·Memᴰ·cases-cons m)
 
 -- ---- claims in force
 
@@ -146,7 +142,7 @@ module _ (m : Machine) (w : WellFormed m) (t : Session) (d : RoundOf (record-of 
       none (none· (opened-next m)))
     where
       set-there : (P : ℕ) → P among sets (m .rows) → (i : ℕ) × (i < n) × (P ≡ set-at m i)
-      set-there P k = let r = place-in P (sets (m .rows)) k in (r .0, r .1, sym (filled-at (sets (m .rows)) (r .0) (r .1) ∙ r .2))
+      set-there P k = let r = place-of (sets (m .rows)) P k in (r .0, r .1, sym (filled-at (sets (m .rows)) (r .0) (r .1) ∙ r .2))
 
       none : ((t : ℕ) → (¬ (t ∈ d .new .loops)) × (¬ (t ∈ d .new .mixes))) → (c : Claim) → ¬ (c among opened-next m)
       none h (loops P) k = let r = set-there P (sets-iff (m .rows) P .1 (opened-next-iff m (loops P) .0 k .0 .0)) in

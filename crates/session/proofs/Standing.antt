@@ -6,6 +6,7 @@ use native.Mathlib.Omega.{arith}
 use lib.ListN.{length, getD, take, drop, set, replicate, length-append, length-map}
 use lib.Seq.{take-suc, take-add, take-suc-set, getD-take, length-take-le, set-at, append-snoc}
 use Rattle.lists.specs.Tests.{_among_, gather}
+use Rattle.lists.proofs.Places.{getD-among, getD-map, gather-append}
 use Rattle.rows.specs.declared.Row.{Row}
 use Rattle.rows.specs.declared.Row.the-variants.{Initial, Final, Successor, LeftLimit, RightLimit}
 use Rattle.rows.specs.Rows.{row-bytes, batch-of, AllFit}
@@ -23,21 +24,6 @@ row-short (Final s) = omega arith
 row-short (Successor p a q) = omega arith
 row-short (LeftLimit P q) = omega arith
 row-short (RightLimit q P) = omega arith
-
-gather-append : {A B : Type 0} (f : A → List B) (l m : List A) → gather f (l ++ m) ≡ gather f l ++ gather f m
-gather-append f [] m = refl
-gather-append {A} {B} f (x ∷ l) m = ap (λ (k : List B). f x ++ k) (gather-append f l m) ∙ sym (append-assoc (f x) (gather f l) (gather f m))
-
--- an element of a list that a function makes
-getD-map-in : {A B : Type 0} (f : A → B) (l : List A) (i : ℕ) (d : A) (e : B) → i < length l → getD (map f l) i e ≡ f (getD l i d)
-getD-map-in f [] i d e h = absurd (omega arith)
-getD-map-in f (x ∷ l) zero d e h = refl
-getD-map-in f (x ∷ l) (suc i) d e h = getD-map-in f l i d e (omega arith)
-
-getD-among : {A : Type 0} (l : List A) (i : ℕ) (d : A) → i < length l → getD l i d among l
-getD-among [] i d h = absurd (omega arith)
-getD-among (x ∷ l) zero d h = List·Memᴰ·head refl
-getD-among (x ∷ l) (suc i) d h = List·Memᴰ·tail (getD-among l i d (omega arith))
 
 module _ (l : List Slot) where
   pub no-row : first-rows 0 l ≡ []
@@ -94,8 +80,8 @@ module _ (rows : List Row) (fit : AllFit rows) (highs lows : List ℕ) (n : ℕ)
   row-there : (i : ℕ) → i < n → row-from (getD highs i 0) (getD lows i 0) ≡ getD rows i (Initial 0)
   row-there i h =
       let k : i < length rows = omega (arith, keyed .count) in
-      let a : getD highs i 0 ≡ high (getD rows i (Initial 0)) = sym (getD-take n highs i 0 h) ∙ ap (λ (l : List ℕ). getD l i 0) (keyed .highs-are) ∙ getD-map-in high rows i (Initial 0) 0 k in
-      let b : getD lows i 0 ≡ low (getD rows i (Initial 0)) = sym (getD-take n lows i 0 h) ∙ ap (λ (l : List ℕ). getD l i 0) (keyed .lows-are) ∙ getD-map-in low rows i (Initial 0) 0 k in
+      let a : getD highs i 0 ≡ high (getD rows i (Initial 0)) = sym (getD-take n highs i 0 h) ∙ ap (λ (l : List ℕ). getD l i 0) (keyed .highs-are) ∙ getD-map high rows i (Initial 0) 0 k in
+      let b : getD lows i 0 ≡ low (getD rows i (Initial 0)) = sym (getD-take n lows i 0 h) ∙ ap (λ (l : List ℕ). getD l i 0) (keyed .lows-are) ∙ getD-map low rows i (Initial 0) 0 k in
       rw (a, b) (key-back (getD rows i (Initial 0)) (fit (getD rows i (Initial 0)) (getD-among rows i (Initial 0) k)))
 
   -- the array with one row more

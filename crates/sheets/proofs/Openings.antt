@@ -11,6 +11,7 @@ use lib.ListN.{length, getD}
 use Rattle.lists.specs.Tests.{Decides, _among_, _part-of_, Once}
 use Rattle.lists.specs.Order.{_≺_, Sorted}
 use Rattle.lists.proofs.Deciding.{eqb·, yes·, no·, map-in}
+use Rattle.lists.proofs.Places.{place-of, rising}
 use Rattle.lists.proofs.Counting.{once-append}
 use Rattle.lists.proofs.Sorting.{before·, ≺-irreflexive, ≺-trans, sorted-append, sorted-same}
 use Rattle.rows.specs.declared.Row.{Row}
@@ -72,28 +73,6 @@ round-less x y h = first-less (set-of (x .claim) ∷ loop-first (x .claim) ∷ [
 
 set-less : (x y : Opening) → x .round ≡ y .round → set-of (x .claim) < set-of (y .claim) → opening-key x ≺ opening-key y
 set-less x y e h = next-less (set-of (x .claim) ∷ loop-first (x .claim) ∷ []) (set-of (y .claim) ∷ loop-first (y .claim) ∷ []) e (first-less (loop-first (x .claim) ∷ []) (loop-first (y .claim) ∷ []) h)
-
--- ---- rising sets
-
-place-of : (l : List ℕ) (x : ℕ) → x among l → (i : ℕ) × (i < length l) × (getD l i 0 ≡ x)
-place-of [] x m = absurd (List·Memᴰ·not-nil m)
-place-of (y ∷ l) x m = ⊎-elim (λ e. (0, omega arith, sym e)) (λ i. let r = place-of l x i in (suc (r .0), omega (arith, r .1), r .2)) (List·Memᴰ·cases-cons m)
-
-at-place : (l : List ℕ) (i : ℕ) → i < length l → getD l i 0 among l
-at-place [] i h = absurd (omega arith)
-at-place (x ∷ l) zero h = List·Memᴰ·head refl
-at-place (x ∷ l) (suc i) h = List·Memᴰ·tail (at-place l i (omega arith))
-
-rising : (l : List ℕ) → Sorted (λ (P : ℕ). P ∷ []) l → Once l → (i j : ℕ) → i < j → j < length l → getD l i 0 < getD l j 0
-rising [] s o i j h k = absurd (omega arith)
-rising (x ∷ l) s o i zero h k = absurd (omega arith)
-rising (x ∷ l) s o zero (suc j) h k = go (at-place l j (omega arith)) (decLt (getD l j 0) x) (decLt x (getD l j 0))
-  where
-    go : getD l j 0 among l → Dec (getD l j 0 < x) → Dec (x < getD l j 0) → x < getD l j 0
-    go m a (yes g) = g
-    go m (yes g) (no b) = absurd (s .0 (getD l j 0) m (first-less [] [] g))
-    go m (no a) (no b) = let e : getD l j 0 ≡ x = omega arith in absurd (o .0 (subst (λ (y : ℕ). y among l) e m))
-rising (x ∷ l) s o (suc i) (suc j) h k = rising l (s .1) (o .1) i j (omega arith) (omega arith)
 
 -- ---- openings
 

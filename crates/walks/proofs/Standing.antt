@@ -9,6 +9,7 @@ use lib.Dec.{lit<}
 use lib.ListN.{length, getD}
 use lib.Seq.{getD-take}
 use Rattle.lists.specs.Tests.{_among_, Once}
+use Rattle.lists.proofs.Places as Places
 use Rattle.lists.specs.Order.{Sorted, before}
 use Rattle.lists.proofs.Sorting.{before·}
 use Rattle.masks.specs.Graph.{Turned}
@@ -59,22 +60,6 @@ keys-ascend (r ∷ rows) s o f zero (suc j) h l = let x = at-place high low rows
 keys-ascend (r ∷ rows) s o f (suc i) zero h l = absurd (omega arith)
 keys-ascend (r ∷ rows) s o f (suc i) (suc j) h l = keys-ascend rows (s .1) (o .1) (λ x m. f x (List·Memᴰ·tail m)) i j (omega arith) (omega arith)
 
--- what stands at a place of a list of numbers
-member-at : (l : List ℕ) (j : ℕ) → j < length l → getD l j 0 among l
-member-at [] j h = absurd (omega arith)
-member-at (x ∷ l) zero h = List·Memᴰ·head refl
-member-at (x ∷ l) (suc j) h = List·Memᴰ·tail (member-at l j (omega arith))
-
-sets-rise : (l : List ℕ) → Sorted (λ (P : ℕ). P ∷ []) l → Once l → (i j : ℕ) → i < j → j < length l → getD l i 0 < getD l j 0
-sets-rise [] s o i j h l = absurd (omega arith)
-sets-rise (x ∷ m) s o zero zero h l = absurd (omega arith)
-sets-rise (x ∷ m) s o zero (suc j) h l = let i = member-at m j (omega arith) in ⊎-elim (λ g. g)
-    (λ (g : getD m j 0 ≤ x). ⊎-elim (λ k. absurd (s .0 (getD m j 0) i (before· (getD m j 0) x [] [] .of (inl k))))
-    (λ k. let e : getD m j 0 ≡ x = omega arith in absurd (o .0 (subst (λ (y : ℕ). y among m) e i))) (lt-or-le (getD m j 0) x))
-    (lt-or-le x (getD m j 0))
-sets-rise (x ∷ m) s o (suc i) zero h l = absurd (omega arith)
-sets-rise (x ∷ m) s o (suc i) (suc j) h l = sets-rise m (s .1) (o .1) i j (omega arith) (omega arith)
-
 -- the row of a key whose first bytes are a letter step's
 letter-row : (r : Row) (a x t : ℕ) → Fits r → a < 64 → x < 256 → t < 256 → high r / 256 ^ 4 ≡ (768 + a) * 65536 + x * 256 + t → r ≡ Successor a x t
 unfolding high
@@ -117,7 +102,7 @@ module _ {letters words lefts rights : List ℕ} {loop-mask mix-mask : ℕ} {row
       rw (high-at i (omega arith), low-at i (omega arith), high-at j l, low-at j l) a
 
   rising : (i j : ℕ) → i < j → j < k → getD words i 0 < getD words j 0
-  rising i j h l = rw (word-at i (omega arith), word-at j l) (sets-rise (sets rows) (sets-sorted rows) (sets-once rows) i j h (omega (arith, count)))
+  rising i j h l = rw (word-at i (omega arith), word-at j l) (Places.rising (sets rows) (sets-sorted rows) (sets-once rows) i j h (omega (arith, count)))
 
   -- the rows stand in order, and so do the sets
   pub in-order : InOrder highs lows n words loop-mask mix-mask
