@@ -86,3 +86,12 @@ module _ {E : ℕ → ℕ → Type 0} {m found last : ℕ} (tg next : ℕ) (now 
         ones-grows found sum hf hs (union-left found next sum is-sum)
         (λ e. n (none next hn (λ t h. difference-not tg found next is-next t h
         (subst (λ (x : ℕ). t ∈ x) (sym e) (union-right found next sum is-sum t h)))))
+
+-- a chain begins with a step, and ends with one
+pub chain-first : {E : ℕ → ℕ → Type 0} {a b : ℕ} → Chain E a b → (k : ℕ) × E a k
+chain-first (one e) = (_, e)
+chain-first (more c e) = chain-first c
+
+pub chain-last : {E : ℕ → ℕ → Type 0} {a b : ℕ} → Chain E a b → (k : ℕ) × E k b
+chain-last (one e) = (_, e)
+chain-last (more c e) = (_, e)

@@ -17,20 +17,12 @@ use Rattle.orderings.specs.Claims.{Loops, Mixes, Entrance, Exit}
 use Rattle.orderings.specs.Systems.{AtHand}
 use Rattle.orderings.specs.Timelines.{timelines}
 use Rattle.search.specs.Masked.{Masked, Forced, StepInside}
-use Rattle.search.specs.Hops.{Hop, Chain, one, more, Between, Ends, Threaded}
+use Rattle.search.specs.Hops.{Hop, Chain, Between, Ends, Threaded}
 use Rattle.search.proofs.Accepting.{all-inner}
+use Rattle.search.proofs.Chains.{chain-first, chain-last}
 use Rattle.search.proofs.Hops.{hop-turn}
 use Rattle.search.proofs.Steps.{step-hop}
 use Rattle.search.proofs.Walks.{leg-chain, leg-between}
-
--- a chain begins with a step, and ends with one
-chain-first : {E : ℕ → ℕ → Type 0} {a b : ℕ} → Chain E a b → (k : ℕ) × E a k
-chain-first (one e) = (_, e)
-chain-first (more c e) = chain-first c
-
-chain-last : {E : ℕ → ℕ → Type 0} {a b : ℕ} → Chain E a b → (k : ℕ) × E k b
-chain-last (one e) = (_, e)
-chain-last (more c e) = (_, e)
 
 -- the set of all states
 abbrev all : ℕ

@@ -48,3 +48,7 @@ Ends letters words lefts rights loops mixes r = (p a b : ℕ) → Hop letters wo
 -- where p has a state, m and n have one; each state of p is in m or a step ends in it, and it is in n or a step starts from it
 abbrev pub Threaded : ℕ → ℕ → ℕ → ℕ → ℕ → Type 0
 Threaded p m n to from = (s : ℕ) → s ∈ p → (m ≢ 0) × (n ≢ 0) × ((s ∈ m) ⊎ (s ∈ to)) × ((s ∈ n) ⊎ (s ∈ from))
+
+-- a step leads to each state of p that is not one of the states m
+abbrev pub Entered : (ℕ → ℕ → Type 0) → ℕ → ℕ → Type 0
+Entered E m p = (s : ℕ) → s ∈ p → (s ∈ m) ⊎ ((t : ℕ) × E t s)

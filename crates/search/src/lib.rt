@@ -7,7 +7,7 @@ ghost use Prim.Native.Nat.{ℕ, _≤_, _<_};
 ghost use Rattle.lists.specs.Tests.{Decides};
 ghost use Rattle.masks.specs.Graph.{Turned};
 ghost use Rattle.masks.specs.Mask.{_∈_, _⊆_};
-ghost use Rattle.search.specs.Hops.{Passes, Hop, Chain, Onward, Inner, Joined, Covered, Ends, Threaded};
+ghost use Rattle.search.specs.Hops.{Passes, Hop, Chain, Onward, Inner, Joined, Covered, Ends, Threaded, Entered};
 ghost use Rattle.search.specs.Promises.{AcceptsRight, OpensAt, OpensBelow};
 use masks::difference;
 use masks::has;
@@ -145,6 +145,23 @@ pub fn reach(
     }
 }
 
+// Does a step inside `p` lead to each state of `p` that is not in `m`? One pass, which spares most searches.
+fn entered(
+    letters: &[u64; 64],
+    words: &[u64; 64],
+    lefts: &[u64; 64],
+    rights: &[u64; 64],
+    loops: u64,
+    mixes: u64,
+    p: u64,
+    m: u64,
+) -> bool
+    ensures { λ r. ⌜ Decides r (Entered (Hop (now (letters .entry)) (now (words .entry)) (now (lefts .entry)) (now (rights .entry)) loops mixes p) m p) ⌝ }
+{
+    let found = targets(letters, words, lefts, rights, loops, mixes, p, p);
+    is_subset(p, union(m, found))
+}
+
 // Does a walk of one or more steps inside `p` lead from each state of `p` to each? `back` is `letters` turned round.
 fn joined(
     letters: &[u64; 64],
@@ -160,6 +177,12 @@ fn joined(
 {
     if p == 0 {
         return true;
+    }
+    if !entered(letters, words, lefts, rights, loops, mixes, p, 0) {
+        return false;
+    }
+    if !entered(back, words, rights, lefts, loops, mixes, p, 0) {
+        return false;
     }
     let s = with(0, lowest(p));
     if reach(letters, words, lefts, rights, loops, mixes, p, s) != p {
@@ -183,6 +206,12 @@ fn covered(
 ) -> bool
     ensures { λ r. ⌜ (Turned (now (letters .entry)) (now (back .entry)) → Decides r (Covered (Hop (now (letters .entry)) (now (words .entry)) (now (lefts .entry)) (now (rights .entry)) loops mixes p) m n p)) ⌝ }
 {
+    if !entered(letters, words, lefts, rights, loops, mixes, p, m) {
+        return false;
+    }
+    if !entered(back, words, rights, lefts, loops, mixes, p, n) {
+        return false;
+    }
     let after = reach(letters, words, lefts, rights, loops, mixes, p, m);
     let before = reach(back, words, rights, lefts, loops, mixes, p, n);
     let first = intersection(m, before);

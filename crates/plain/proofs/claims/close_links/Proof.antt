@@ -1,0 +1,53 @@
+-- `plain::claims::close_links` is safe and ends. The invariant keeps the counter within its bound and the lengths of what is lent; the measure is what is left to count.
+use borrow.Author.Needs.{needs}
+use native.Mathlib.Omega.{arith}
+use Prim.Native.Nat.{_≤_, _-_}
+use lib.ListN.{length}
+use mathlib.Core.Path.{_≡_}
+use Rattle.plain.proofs.claims.close_links.Statement.{statement}
+use Rattle.plain.proofs.claims.close_links.Tie as tie
+
+abbrev Inv-loop : tie.InvT-loop
+Inv-loop links₀ k₀ links k = (k ≤ 144) × (length links ≡ length links₀)
+
+abbrev μ-loop : tie.MeasureT-loop
+μ-loop links₀ k₀ links k = 144 - k
+
+loop-holds : tie.Need-loop-holds Inv-loop μ-loop
+loop-holds c = search needs
+
+middle-added-requires : tie.Need-middle-added-requires Inv-loop μ-loop
+middle-added-requires c κs = tt
+
+put-requires : tie.Need-put-requires Inv-loop μ-loop
+put-requires c κs = tt
+
+add-k : tie.Need-add-k Inv-loop μ-loop
+add-k c = omega arith
+
+loop-less : tie.Need-loop-less Inv-loop μ-loop
+loop-less c = omega arith
+
+loop-again : tie.Need-loop-again Inv-loop μ-loop
+loop-again c = search needs
+
+same-length : tie.Need-same-length Inv-loop μ-loop
+same-length c = search needs
+
+returns : tie.Need-returns Inv-loop μ-loop
+returns c = tt
+
+pub close-links-spec : {M : Type 1} → statement M
+close-links-spec =
+    tie.close
+    (tie.spec
+    Inv-loop
+    μ-loop
+    loop-holds
+    middle-added-requires
+    put-requires
+    add-k
+    loop-less
+    loop-again
+    same-length
+    returns)

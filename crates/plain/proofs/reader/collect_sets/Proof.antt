@@ -1,0 +1,53 @@
+-- `plain::reader::collect_sets` is safe and ends. The invariant keeps the counter within its bound and the lengths of what is lent; the measure is what is left to count.
+use borrow.Author.Needs.{needs}
+use native.Mathlib.Omega.{arith}
+use Prim.Native.Nat.{_≤_, _-_}
+use lib.ListN.{length}
+use mathlib.Core.Path.{_≡_}
+use Rattle.plain.proofs.reader.collect_sets.Statement.{statement}
+use Rattle.plain.proofs.reader.collect_sets.Tie as tie
+
+abbrev Inv-loop : tie.InvT-loop
+Inv-loop table₀ n₀ table n = (n ≤ 40) × (length table ≡ length table₀)
+
+abbrev μ-loop : tie.MeasureT-loop
+μ-loop table₀ n₀ table n = 40 - n
+
+loop-holds : tie.Need-loop-holds Inv-loop μ-loop
+loop-holds c = search needs
+
+row-set-requires : tie.Need-row-set-requires Inv-loop μ-loop
+row-set-requires c κs = tt
+
+keep-set-requires : tie.Need-keep-set-requires Inv-loop μ-loop
+keep-set-requires c κs = tt
+
+add-n : tie.Need-add-n Inv-loop μ-loop
+add-n c = omega arith
+
+loop-less : tie.Need-loop-less Inv-loop μ-loop
+loop-less c = omega arith
+
+loop-again : tie.Need-loop-again Inv-loop μ-loop
+loop-again c = search needs
+
+same-length : tie.Need-same-length Inv-loop μ-loop
+same-length c = search needs
+
+returns : tie.Need-returns Inv-loop μ-loop
+returns c = tt
+
+pub collect-sets-spec : {M : Type 1} → statement M
+collect-sets-spec =
+    tie.close
+    (tie.spec
+    Inv-loop
+    μ-loop
+    loop-holds
+    row-set-requires
+    keep-set-requires
+    add-n
+    loop-less
+    loop-again
+    same-length
+    returns)

@@ -1,0 +1,62 @@
+-- `plain::walk::one_step_more` is safe and ends. The invariant keeps the counter within its bound and the lengths of what is lent; the measure is what is left to count.
+use native.Mathlib.Omega.{arith}
+use Prim.Native.Nat.{_≤_, _-_}
+use Rattle.plain.proofs.walk.one_step_more.Statement.{statement}
+use Rattle.plain.proofs.walk.one_step_more.Tie as tie
+
+abbrev Inv-loop : tie.InvT-loop
+Inv-loop table near found₀ n₀ found n = n ≤ 940
+
+abbrev μ-loop : tie.MeasureT-loop
+μ-loop table near found₀ n₀ found n = 940 - n
+
+loop-holds : tie.Need-loop-holds Inv-loop μ-loop
+loop-holds c = omega arith
+
+cell-requires : tie.Need-cell-requires Inv-loop μ-loop
+cell-requires c κs = tt
+
+cell-requires-2 : tie.Need-cell-requires-2 Inv-loop μ-loop
+cell-requires-2 c κs = tt
+
+has-requires : tie.Need-has-requires Inv-loop μ-loop
+has-requires c κs = tt
+
+cell-requires-3 : tie.Need-cell-requires-3 Inv-loop μ-loop
+cell-requires-3 c κs = tt
+
+with-requires : tie.Need-with-requires Inv-loop μ-loop
+with-requires c κs = tt
+
+add-n : tie.Need-add-n Inv-loop μ-loop
+add-n c = omega arith
+
+loop-less : tie.Need-loop-less Inv-loop μ-loop
+loop-less c = omega arith
+
+loop-again : tie.Need-loop-again Inv-loop μ-loop
+loop-again c = omega arith
+
+returns : tie.Need-returns Inv-loop μ-loop
+returns c = tt
+
+returns-2 : tie.Need-returns-2 Inv-loop μ-loop
+returns-2 c = tt
+
+pub one-step-more-spec : {M : Type 1} → statement M
+one-step-more-spec =
+    tie.close
+    (tie.spec
+    Inv-loop
+    μ-loop
+    loop-holds
+    cell-requires
+    cell-requires-2
+    has-requires
+    cell-requires-3
+    with-requires
+    add-n
+    loop-less
+    loop-again
+    returns
+    returns-2)

@@ -1,0 +1,52 @@
+-- `random::try_all` is safe and ends. The invariant keeps the counter within its bound and the lengths of what is lent; the measure is what is left to count.
+use borrow.Author.Needs.{needs}
+use native.Mathlib.Omega.{arith}
+use lib.ListN.{length}
+use mathlib.Core.Path.{_≡_}
+use Rattle.random.proofs.try_all.Statement.{statement}
+use Rattle.random.proofs.try_all.Tie as tie
+
+abbrev Inv-loop : tie.InvT-loop
+Inv-loop counts₀ seed₀ left₀ counts seed left = length counts ≡ length counts₀
+
+abbrev μ-loop : tie.MeasureT-loop
+μ-loop counts₀ seed₀ left₀ counts seed left = left
+
+loop-holds : tie.Need-loop-holds Inv-loop μ-loop
+loop-holds c = search needs
+
+try-one-requires : tie.Need-try-one-requires Inv-loop μ-loop
+try-one-requires c κs = tt
+
+next-seed-requires : tie.Need-next-seed-requires Inv-loop μ-loop
+next-seed-requires c κs = tt
+
+sub-left : tie.Need-sub-left Inv-loop μ-loop
+sub-left c = omega arith
+
+loop-less : tie.Need-loop-less Inv-loop μ-loop
+loop-less c = omega arith
+
+loop-again : tie.Need-loop-again Inv-loop μ-loop
+loop-again c = search needs
+
+same-length : tie.Need-same-length Inv-loop μ-loop
+same-length c = search needs
+
+returns : tie.Need-returns Inv-loop μ-loop
+returns c = tt
+
+pub try-all-spec : {M : Type 1} → statement M
+try-all-spec =
+    tie.close
+    (tie.spec
+    Inv-loop
+    μ-loop
+    loop-holds
+    try-one-requires
+    next-seed-requires
+    sub-left
+    loop-less
+    loop-again
+    same-length
+    returns)

@@ -1,0 +1,284 @@
+// Random batches. A tower of sets, each with a state more than the one before, and limits between a set and the state that is added
+// next: so a set loops only after the one below it, and it takes rounds.
+use crate::dice::choice;
+use crate::dice::next;
+use std::num::wrapping_add_u64;
+use std::num::wrapping_sub_u64;
+
+// Puts a byte into the batch and answers the place after; what does not fit is dropped.
+fn put(batch: &mut [u8], place: usize, b: u64) -> usize {
+    if place < batch.len() {
+        batch[place] = (b % 256) as u8;
+        return place + 1;
+    }
+    place
+}
+
+// The kinds 1 and 2.
+fn put_mark(batch: &mut [u8], place: usize, kind: u64, s: u64) -> usize {
+    let state = put(batch, place, kind);
+    put(batch, state, s)
+}
+
+fn put_step(batch: &mut [u8], place: usize, p: u64, letter: u64, q: u64) -> usize {
+    let from = put(batch, place, 3);
+    let label = put(batch, from, p);
+    let to = put(batch, label, letter);
+    put(batch, to, q)
+}
+
+fn put_set(batch: &mut [u8], place: usize, set: u64) -> usize {
+    let mut end = place;
+    let mut left = 8u64;
+    while left > 0 {
+        left -= 1;
+        end = put(batch, end, set >> (left * 8));
+    }
+    end
+}
+
+// set → s
+fn put_left(batch: &mut [u8], place: usize, set: u64, s: u64) -> usize {
+    let body = put(batch, place, 4);
+    let state = put_set(batch, body, set);
+    put(batch, state, s)
+}
+
+// s → set
+fn put_right(batch: &mut [u8], place: usize, s: u64, set: u64) -> usize {
+    let state = put(batch, place, 5);
+    let body = put(batch, state, s);
+    put_set(batch, body, set)
+}
+
+fn has(set: u64, s: u64) -> bool {
+    if s < 64 { (set >> s) & 1 == 1 } else { false }
+}
+
+fn with(set: u64, s: u64) -> u64 {
+    if s < 64 { set | (1u64 << s) } else { set }
+}
+
+// A state of the set: the first of it from `s` on, round the ten states.
+fn member(set: u64, s: u64) -> u64 {
+    let mut t = s % 10;
+    let mut left = 10u64;
+    while left > 0 && !has(set, t) {
+        t = wrapping_add_u64(t, 1) % 10;
+        left -= 1;
+    }
+    t
+}
+
+// One of three letters.
+fn letter(word: u64, k: u64) -> u64 {
+    wrapping_add_u64(97, choice(word, k, 3))
+}
+
+// The letter step that makes a set loop with its newest state `s`, seldom left out. The state came by set → s, or by s → set.
+fn put_return(batch: &mut [u8], place: usize, word: u64, set: u64, s: u64, by_left: bool) -> usize {
+    let t = member(set, choice(word, 0, 10));
+    let by = letter(word, 1);
+    if choice(word, 2, 9) == 0 {
+        return place;
+    }
+    if by_left {
+        return put_step(batch, place, s, by, t);
+    }
+    put_step(batch, place, t, by, s)
+}
+
+// The limit that leads from the set to the state `r` or from there to the set.
+fn put_limit(batch: &mut [u8], place: usize, set: u64, r: u64, by_left: bool) -> usize {
+    if by_left {
+        return put_left(batch, place, set, r);
+    }
+    put_right(batch, place, r, set)
+}
+
+// Sometimes an entrance and an exit, so that the set may mix.
+fn put_gates(batch: &mut [u8], place: usize, word: u64, set: u64, s: u64) -> usize {
+    if choice(word, 3, 3) != 0 {
+        return place;
+    }
+    let end = put_left(batch, place, set, s);
+    put_right(batch, end, member(set, choice(word, 4, 10)), set)
+}
+
+// The state above, round the states.
+fn up(states: u64, s: u64) -> u64 {
+    let t = wrapping_add_u64(s, 1);
+    if t < states { t } else { 0 }
+}
+
+// The state below, round the states.
+fn down(states: u64, s: u64) -> u64 {
+    if s > 0 {
+        s - 1
+    } else {
+        wrapping_sub_u64(states, 1)
+    }
+}
+
+// The state to add next: mostly the next in the round of the states, else any.
+fn new_state(word: u64, states: u64, s: u64) -> u64 {
+    if choice(word, 5, 8) == 0 {
+        return choice(word, 6, states);
+    }
+    up(states, s)
+}
+
+// The set with its new state, or seldom a new tower on that state alone.
+fn grown(word: u64, set: u64, s: u64) -> u64 {
+    if choice(word, 0, 8) == 0 {
+        with(0, s)
+    } else {
+        with(set, s)
+    }
+}
+
+// The end of the batch, and the state that was added last.
+struct Built {
+    end: usize,
+    last: u64,
+}
+
+// The rows of towers with this many floors, from the state `first` on; mostly all limits have the same side.
+fn put_towers(
+    batch: &mut [u8],
+    start: u64,
+    states: u64,
+    first: u64,
+    floors: u64,
+    by_left: bool,
+) -> Built {
+    let mut end = 0;
+    let mut word = start;
+    let mut set = with(0, first);
+    let mut s = first;
+    let mut left_side = by_left;
+    let mut left = floors;
+    while left > 0 {
+        end = put_return(batch, end, word, set, s, left_side);
+        end = put_gates(batch, end, word, set, s);
+        s = new_state(word, states, s);
+        left_side = by_left == (choice(word, 7, 8) != 0);
+        end = put_limit(batch, end, set, s, left_side);
+        word = next(word);
+        set = grown(word, set, s);
+        left -= 1;
+    }
+    Built { end, last: s }
+}
+
+// A path of letter steps from the state `first` on, upwards or downwards.
+fn put_path(
+    batch: &mut [u8],
+    place: usize,
+    start: u64,
+    states: u64,
+    first: u64,
+    upwards: bool,
+    steps: u64,
+) -> Built {
+    let mut end = place;
+    let mut word = start;
+    let mut s = first;
+    let mut left = steps;
+    while left > 0 {
+        let t = if upwards {
+            up(states, s)
+        } else {
+            down(states, s)
+        };
+        end = put_step(batch, end, s, letter(word, 2), t);
+        s = t;
+        word = next(word);
+        left -= 1;
+    }
+    Built { end, last: s }
+}
+
+// An initial and a final state, the ends of the construction, and sometimes any two more.
+fn put_marks(batch: &mut [u8], place: usize, word: u64, states: u64, from: u64, to: u64) -> usize {
+    let initial = put_mark(batch, place, 1, from);
+    let end = put_mark(batch, initial, 2, to);
+    if choice(word, 0, 6) != 0 {
+        return end;
+    }
+    let other = put_mark(batch, end, 1, choice(word, 1, states));
+    put_mark(batch, other, 2, choice(word, 2, states))
+}
+
+// A path from `middle` to a final state, and the marks.
+fn put_end(
+    batch: &mut [u8],
+    place: usize,
+    word: u64,
+    states: u64,
+    from: u64,
+    middle: u64,
+    upwards: bool,
+    room: u64,
+) -> usize {
+    let path = put_path(
+        batch,
+        place,
+        next(word ^ 1),
+        states,
+        middle,
+        upwards,
+        choice(word, 4, room),
+    );
+    put_marks(batch, path.end, next(word ^ 2), states, from, path.last)
+}
+
+// How many states: 3 to 10.
+fn states_of(word: u64) -> u64 {
+    wrapping_add_u64(3, choice(word, 0, 8))
+}
+
+// How many floors: 1 to 7, and fewer than states.
+fn floors_of(word: u64, states: u64) -> u64 {
+    let most = if states < 8 {
+        wrapping_sub_u64(states, 1)
+    } else {
+        7
+    };
+    wrapping_add_u64(1, choice(word, 3, most))
+}
+
+// Writes the batch of an automaton and answers its length: at most 7 sets and 28 + 4 + 4 rows.
+pub fn automaton(seed: u64, batch: &mut [u8]) -> usize {
+    let word = next(next(seed));
+    let states = states_of(word);
+    let floors = floors_of(word, states);
+    let first = choice(word, 1, states);
+    let by_left = choice(word, 2, 2) == 0;
+    let built = put_towers(batch, next(word), states, first, floors, by_left);
+    // Few enough steps that the path does not come round to the tower again.
+    let room = wrapping_sub_u64(states, floors);
+    // Limits of the one side lead up the tower, those of the other down.
+    if by_left {
+        return put_end(
+            batch,
+            built.end,
+            word,
+            states,
+            first,
+            built.last,
+            true,
+            room,
+        );
+    }
+    put_end(
+        batch,
+        built.end,
+        word,
+        states,
+        built.last,
+        first,
+        false,
+        room,
+    )
+}
