@@ -1,0 +1,176 @@
+-- Laws of digits, bytes and numbers.
+use Prim.Native.Nat.{ℕ, zero, suc, _+_, _*_, _-_, _/_, _%_, _<_, _≤_}
+use mathlib.Core.Path.{_≡_, refl, ap, sym, _∙_}
+use mathlib.Core.Bool.{Bool, true, false, _&&_}
+use mathlib.Core.List.{List, [], _∷_, _++_, append-assoc, append-nil}
+use mathlib.Core.Logic.{_⊎_, inl, inr, ⊎-elim}
+use lib.Dec.{ltb}
+use lib.ListN.{length, getD, set, take, drop, length-set}
+use lib.Seq.{drop-cons, take-suc-set}
+use native.Mathlib.Numerals.{add-one}
+use native.Mathlib.Omega.{arith}
+use borrow.Author.Tests.{le-leb, lt-leb, lt-ltb, le-ltb, ltb-true, ltb-false}
+use Rattle.machine.specs.Text.{digit}
+use Rattle.commands.specs.Digits.{between, value, digits, bytes, encoded, number-from, at-most}
+
+within : (a e c : ℕ) → a ≤ c → c ≤ e → between a e c ≡ true
+unfolding between
+within a e c h g = simp (le-leb a c h, le-leb c e g)
+
+under : (a e c : ℕ) → c < a → between a e c ≡ false
+unfolding between
+under a e c h = simp (lt-leb a c h)
+
+over : (a e c : ℕ) → a ≤ c → e < c → between a e c ≡ false
+unfolding between
+over a e c h g = simp (le-leb a c h, lt-leb c e g)
+
+pub value-decimal : (c : ℕ) → 48 ≤ c → c ≤ 57 → value c ≡ c - 48
+unfolding value
+value-decimal c h g = simp (within 48 57 c h g)
+
+pub value-lower : (c : ℕ) → 97 ≤ c → c ≤ 102 → value c ≡ c - 87
+unfolding value
+value-lower c h g = simp (over 48 57 c (omega arith) (omega arith), within 97 102 c h g)
+
+pub value-upper : (c : ℕ) → 65 ≤ c → c ≤ 70 → value c ≡ c - 55
+unfolding value
+value-upper c h g = simp (over 48 57 c (omega arith) (omega arith), under 97 102 c (omega arith), within 65 70 c h g)
+
+pub value-low : (c : ℕ) → c < 48 → value c ≡ 16
+unfolding value
+value-low c h = simp (under 48 57 c h, under 97 102 c (omega arith), under 65 70 c (omega arith))
+
+pub value-middle : (c : ℕ) → 57 < c → c < 65 → value c ≡ 16
+unfolding value
+value-middle c h g = simp (over 48 57 c (omega arith) h, under 97 102 c (omega arith), under 65 70 c g)
+
+pub value-between : (c : ℕ) → 70 < c → c < 97 → value c ≡ 16
+unfolding value
+value-between c h g = simp (over 48 57 c (omega arith) (omega arith), under 97 102 c g, over 65 70 c (omega arith) h)
+
+pub value-high : (c : ℕ) → 102 < c → value c ≡ 16
+unfolding value
+value-high c h = simp (over 48 57 c (omega arith) (omega arith), over 97 102 c (omega arith) h, over 65 70 c (omega arith) (omega arith))
+
+pub at-most-over : (n : ℕ) → 6400 < n → at-most n ≡ 6400
+unfolding at-most
+at-most-over n h = simp (lt-ltb 6400 n h)
+
+pub at-most-under : (n : ℕ) → n ≤ 6400 → at-most n ≡ n
+unfolding at-most
+at-most-under n h = simp (le-ltb 6400 n h)
+
+sides : (n : ℕ) → (6400 < n) ⊎ (n ≤ 6400)
+sides n = by-test (ltb 6400 n) refl
+  where
+    by-test : (b : Bool) → ltb 6400 n ≡ b → (6400 < n) ⊎ (n ≤ 6400)
+    by-test true e = inl (ltb-true 6400 n e)
+    by-test false e = inr (ltb-false 6400 n e)
+
+pub at-most-small : (n : ℕ) → at-most n ≤ 6400
+at-most-small n = ⊎-elim (λ h. let e = at-most-over n h in omega arith) (λ h. let e = at-most-under n h in omega arith) (sides n)
+
+pub drop-all : (l : List ℕ) (i : ℕ) → length l ≤ i → drop i l ≡ []
+drop-all [] zero h = refl
+drop-all [] (suc i) h = refl
+drop-all (x ∷ l) zero h = absurd (omega arith)
+drop-all (x ∷ l) (suc i) h = drop-all l i (omega arith)
+
+-- digits up to a place and from it on
+pub digits-more : (base : ℕ) (l : List ℕ) (i : ℕ) → i < length l → value (getD l i 0) < base → digits base (drop i l) ≡ digits base (drop (suc i) l)
+unfolding digits
+digits-more base l i h g = rw (drop-cons l i 0 h, lt-ltb (value (getD l i 0)) base g)
+
+pub digits-fail : (base : ℕ) (l : List ℕ) (i : ℕ) → i < length l → base ≤ value (getD l i 0) → digits base (drop i l) ≡ false
+unfolding digits
+digits-fail base l i h g = rw (drop-cons l i 0 h, le-ltb (value (getD l i 0)) base g)
+
+pub digits-end : (base : ℕ) (l : List ℕ) (i : ℕ) → length l ≤ i → digits base (drop i l) ≡ true
+unfolding digits
+digits-end base l i h = rw (drop-all l i h)
+
+-- each of them is one
+pub digits-at : (base : ℕ) (l : List ℕ) (i : ℕ) → digits base l ≡ true → i < length l → value (getD l i 0) < base
+unfolding digits
+digits-at base [] i e h = absurd (omega arith)
+digits-at base (x ∷ l) zero e h = ltb-true (value x) base (first (ltb (value x) base) _ e)
+  where
+    first : (a b : Bool) → a && b ≡ true → a ≡ true
+    first true b e = refl
+    first false b e = e
+digits-at base (x ∷ l) (suc i) e h = digits-at base l i (second (ltb (value x) base) _ e) (omega arith)
+  where
+    second : (a b : Bool) → a && b ≡ true → b ≡ true
+    second true b e = e
+    second false b e = let z : _≡_ {A = ℕ} 0 1 = cc in absurd (omega arith)
+
+-- a number that is cut on the way is the same in the end
+at-most-step : (n v : ℕ) → at-most (n * 10 + v) ≡ at-most (at-most n * 10 + v)
+at-most-step n v = ⊎-elim more less (sides n)
+  where
+    more : 6400 < n → at-most (n * 10 + v) ≡ at-most (at-most n * 10 + v)
+    more h = rw (at-most-over n h) (at-most-over (n * 10 + v) (omega arith) ∙ sym (at-most-over (6400 * 10 + v) (omega arith)))
+
+    less : n ≤ 6400 → at-most (n * 10 + v) ≡ at-most (at-most n * 10 + v)
+    less h = rw (at-most-under n h)
+
+number-cut : (n : ℕ) (l : List ℕ) → at-most (number-from n l) ≡ at-most (number-from (at-most n) l)
+unfolding number-from
+number-cut n [] = sym (at-most-under (at-most n) (at-most-small n))
+number-cut n (c ∷ l) = number-cut (n * 10 + value c) l ∙ ap (λ k. at-most (number-from k l)) (at-most-step n (value c)) ∙ sym (number-cut (at-most n * 10 + value c) l)
+
+pub number-more : (n : ℕ) (l : List ℕ) (i : ℕ) → i < length l
+    → at-most (number-from n (drop i l)) ≡ at-most (number-from (at-most (n * 10 + value (getD l i 0))) (drop (suc i) l))
+unfolding number-from
+number-more n l i h = rw (drop-cons l i 0 h) (number-cut (n * 10 + value (getD l i 0)) (drop (suc i) l))
+
+pub number-end : (n : ℕ) (l : List ℕ) (i : ℕ) → length l ≤ i → n ≤ 6400 → at-most (number-from n (drop i l)) ≡ n
+unfolding number-from
+number-end n l i h g = rw (drop-all l i h) (at-most-under n g)
+
+-- the bytes from a place on
+pub bytes-more : (l : List ℕ) (i : ℕ) → suc i < length l → bytes (drop i l) ≡ (value (getD l i 0) * 16 + value (getD l (suc i) 0)) ∷ bytes (drop (suc (suc i)) l)
+unfolding bytes
+bytes-more l i h =
+    let g : i < length l = omega arith in
+    rw (drop-cons l i 0 g, drop-cons l (suc i) 0 h)
+
+pub bytes-end : (l : List ℕ) (i : ℕ) → length l ≤ i → bytes (drop i l) ≡ []
+unfolding bytes
+bytes-end l i h = rw (drop-all l i h)
+
+-- one pair more, at the place behind the bytes
+pub bytes-put : (l b : List ℕ) (i at : ℕ) → at + 1 < length l → i < length b → bytes l ≡ take i b ++ bytes (drop at l)
+    → bytes l ≡ take (i + 1) (set b i (value (getD l at 0) * 16 + value (getD l (at + 1) 0))) ++ bytes (drop (at + 2) l)
+bytes-put l b i at h g e =
+    let v = value (getD l at 0) * 16 + value (getD l (at + 1) 0) in
+    let one : suc at ≡ at + 1 = omega arith in
+    let two : suc (suc at) ≡ at + 2 = omega arith in
+    let more : bytes (drop at l) ≡ v ∷ bytes (drop (at + 2) l) =
+    bytes-more l at (omega arith) ∙ ap (λ k. (value (getD l at 0) * 16 + value (getD l k 0)) ∷ bytes (drop (suc (suc at)) l)) one ∙ ap (λ k. v ∷ bytes (drop k l)) two in
+    let put : take (i + 1) (set b i v) ≡ take i b ++ (v ∷ []) = ap (λ k. take k (set b i v)) (add-one i) ∙ take-suc-set b i v g in
+    e ∙ ap (λ (m : List ℕ). take i b ++ m) more ∙ sym (append-assoc (take i b) (v ∷ []) (bytes (drop (at + 2) l))) ∙ ap (λ (m : List ℕ). m ++ bytes (drop (at + 2) l)) (sym put)
+
+pub bytes-done : (l b : List ℕ) (i at : ℕ) → length l ≤ at → bytes l ≡ take i b ++ bytes (drop at l) → take i b ≡ bytes l
+bytes-done l b i at h e = sym (e ∙ ap (λ (m : List ℕ). take i b ++ m) (bytes-end l at h) ∙ append-nil (take i b))
+
+-- one byte more, at the place behind the digits
+pub encoded-put : (l t : List ℕ) (i at : ℕ) → i < length l → at + 1 < length t → encoded l ≡ take at t ++ encoded (drop i l)
+    → encoded l ≡ take (at + 2) (set (set t at (digit (getD l i 0 / 16))) (at + 1) (digit (getD l i 0 % 16))) ++ encoded (drop (i + 1) l)
+unfolding encoded
+encoded-put l t i at h g e =
+    let x = getD l i 0 in
+    let a = digit (x / 16) in
+    let b = digit (x % 16) in
+    let two : at + 2 ≡ suc (at + 1) = omega arith in
+    let cut : i + 1 ≡ suc i = omega arith in
+    let more : encoded (drop i l) ≡ a ∷ b ∷ encoded (drop (i + 1) l) = rw (drop-cons l i 0 h) (ap (λ k. a ∷ b ∷ encoded (drop k l)) (sym cut)) in
+    let one : take (at + 1) (set t at a) ≡ take at t ++ (a ∷ []) = ap (λ k. take k (set t at a)) (add-one at) ∙ take-suc-set t at a (omega arith) in
+    let all : take (at + 2) (set (set t at a) (at + 1) b) ≡ take at t ++ (a ∷ []) ++ (b ∷ []) =
+    ap (λ k. take k (set (set t at a) (at + 1) b)) two ∙ take-suc-set (set t at a) (at + 1) b (simp length-set (omega arith)) ∙ ap (λ (m : List ℕ). m ++ (b ∷ [])) one in
+    e ∙ ap (λ (m : List ℕ). take at t ++ m) more ∙ rw all (simp append-assoc)
+
+pub encoded-done : (l t : List ℕ) (i at : ℕ) → length l ≤ i → encoded l ≡ take at t ++ encoded (drop i l) → take at t ≡ encoded l
+unfolding encoded
+encoded-done l t i at h e = sym (e ∙ ap (λ (m : List ℕ). take at t ++ encoded m) (drop-all l i h) ∙ append-nil (take at t))

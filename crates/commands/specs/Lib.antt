@@ -1,0 +1,4 @@
+-- What a line of a session says.
+pub mod Digits
+pub mod Meaning
+pub mod Promise
