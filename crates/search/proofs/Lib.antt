@@ -8,5 +8,6 @@ pub mod Joining
 pub mod Walks
 pub mod Claims
 pub mod Accepting
+pub mod Reaching
 pub mod Filtering
 pub mod Opening
