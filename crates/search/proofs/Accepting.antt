@@ -22,7 +22,7 @@ use Rattle.search.specs.Hops.{Chain, all, Reached, Inner}
 use Rattle.search.proofs.Chains.{chain-map}
 use Rattle.search.proofs.Steps.{step-hop}
 use Rattle.search.proofs.Walks.{rest-of}
-use Rattle.search.proofs.Claims.{chain-iff}
+use Rattle.search.proofs.Saying.{chain-iff}
 
 -- the set of all states has each
 pub has-all : (s : ℕ) → s < 64 → s ∈ all

@@ -6,7 +6,7 @@ pub mod Hops
 pub mod Steps
 pub mod Joining
 pub mod Walks
-pub mod Claims
+pub mod Saying
 pub mod Accepting
 pub mod Reaching
 pub mod Filtering

@@ -14,6 +14,7 @@ use Rattle.rows.specs.Rows.{sets, AllFit}
 use Rattle.orderings.specs.Steps.{Claim, loops, mixes, Walk}
 use Rattle.orderings.specs.Systems.{Allowed, AtHand, Holds}
 use Rattle.orderings.specs.Timelines.{timelines, Accepting}
+use Rattle.search.specs.declared.Claims.{Claims}
 use Rattle.search.specs.Masked.{Masked, Forced}
 use Rattle.search.specs.Hops.{Reached, Unites, Ends, EndsBelow}
 
@@ -39,12 +40,11 @@ AcceptsSeen starts seen ends r = (letters words lefts rights : List ℕ) (loop-m
     → Reached letters words lefts rights loop-mask mix-mask starts seen → AcceptsRight letters words lefts rights loop-mask mix-mask starts ends r
 
 -- the claims in force are old ones, with which the states seen are reached, and new ones
-pub record SeenBefore (letters words lefts rights : List ℕ) (loop-mask mix-mask new-loops new-mixes starts seen : ℕ) : Type 0 where
-  pub old-loops : ℕ
-  pub old-mixes : ℕ
-  pub loops-are : Unites old-loops new-loops loop-mask
-  pub mixes-are : Unites old-mixes new-mixes mix-mask
-  pub reached : Reached letters words lefts rights old-loops old-mixes starts seen
+pub record SeenBefore (letters words lefts rights : List ℕ) (force new : Claims) (starts seen : ℕ) : Type 0 where
+  pub old : Claims
+  pub loops-are : Unites (old .loops) (new .loops) (force .loops)
+  pub mixes-are : Unites (old .mixes) (new .mixes) (force .mixes)
+  pub reached : Reached letters words lefts rights (old .loops) (old .mixes) starts seen
 
 -- where found has the ends of all steps inside p with old claims, r has those with the new ones too
 abbrev pub MoreEnds : List ℕ → List ℕ → List ℕ → ℕ → ℕ → ℕ → ℕ → ℕ → Type 0

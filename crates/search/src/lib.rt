@@ -18,6 +18,12 @@ use masks::lowest;
 use masks::union;
 use masks::with;
 
+// Claims, as two masks of places among the sets: those that loop and those that mix.
+pub struct Claims {
+    pub loops: u64,
+    pub mixes: u64,
+}
+
 // Do `a` and `b` have a state in common?
 fn meets(a: u64, b: u64) -> bool
     ensures { λ r. ⌜ Decides r ((t : ℕ) × (t ∈ a) × (t ∈ b)) ⌝ }
@@ -256,14 +262,13 @@ pub fn reached(
     words: &[u64; 64],
     lefts: &[u64; 64],
     rights: &[u64; 64],
-    loops: u64,
-    mixes: u64,
+    force: Claims,
     starts: u64,
 ) -> u64
-    ensures { λ r. ⌜ Reached (now (letters .entry)) (now (words .entry)) (now (lefts .entry)) (now (rights .entry)) loops mixes starts r ⌝ }
+    ensures { λ r. ⌜ Reached (now (letters .entry)) (now (words .entry)) (now (lefts .entry)) (now (rights .entry)) (force .loops) (force .mixes) starts r ⌝ }
 {
     let p = all_states();
-    reach(letters, words, lefts, rights, loops, mixes, p, starts)
+    reach(letters, words, lefts, rights, force.loops, force.mixes, p, starts)
 }
 
 // The same where `seen` was reached before the new claims came into force: the search goes on from there.
@@ -272,24 +277,24 @@ pub fn reached_more(
     words: &[u64; 64],
     lefts: &[u64; 64],
     rights: &[u64; 64],
-    loops: u64,
-    mixes: u64,
-    new_loops: u64,
-    new_mixes: u64,
+    force: Claims,
+    new: Claims,
     starts: u64,
     seen: u64,
 ) -> u64
-    requires { ⌜ SeenBefore (now letters) (now words) (now lefts) (now rights) loops mixes «new_loops» «new_mixes» starts seen ⌝ }
-    ensures { λ r. ⌜ Reached (now (letters .entry)) (now (words .entry)) (now (lefts .entry)) (now (rights .entry)) loops mixes starts r ⌝ }
+    requires { ⌜ SeenBefore (now letters) (now words) (now lefts) (now rights) force new starts seen ⌝ }
+    ensures { λ r. ⌜ Reached (now (letters .entry)) (now (words .entry)) (now (lefts .entry)) (now (rights .entry)) (force .loops) (force .mixes) starts r ⌝ }
 {
     let from = union(starts, seen);
-    let near = claimed(words, lefts, rights, new_loops, new_mixes, from);
+    let near = claimed(words, lefts, rights, new.loops, new.mixes, from);
     let next = difference(near, seen);
     let found = union(seen, next);
     if next == 0 {
         return found;
     }
     let p = all_states();
+    let loops = force.loops;
+    let mixes = force.mixes;
     explore(letters, words, lefts, rights, loops, mixes, p, found, next)
 }
 
@@ -306,21 +311,14 @@ pub fn accepts(
     words: &[u64; 64],
     lefts: &[u64; 64],
     rights: &[u64; 64],
-    loop_mask: u64,
-    mix_mask: u64,
+    force: Claims,
     starts: u64,
     ends: u64,
 ) -> bool
-    ensures { λ r. ⌜ AcceptsRight (now (letters .entry)) (now (words .entry)) (now (lefts .entry)) (now (rights .entry)) «loop_mask» «mix_mask» starts ends r ⌝ }
+    ensures { λ r. ⌜ AcceptsRight (now (letters .entry)) (now (words .entry)) (now (lefts .entry)) (now (rights .entry)) (force .loops) (force .mixes) starts ends r ⌝ }
 {
-    let seen = reached(letters, words, lefts, rights, loop_mask, mix_mask, starts);
+    let seen = reached(letters, words, lefts, rights, force, starts);
     accepted(starts, seen, ends)
-}
-
-// The places whose loops are opened, and those whose mixes are.
-pub struct Opened {
-    pub loops: u64,
-    pub mixes: u64,
 }
 
 // The ends of all steps inside `p`.
@@ -363,17 +361,16 @@ pub fn all_ends(
     words: &[u64; 64],
     lefts: &[u64; 64],
     rights: &[u64; 64],
-    loops: u64,
-    mixes: u64,
+    force: Claims,
     n: usize,
 ) -> [u64; 64]
     requires { ⌜ n ≤ 64 ⌝ }
-    ensures { λ r. ⌜ EndsBelow (now (letters .entry)) (now (words .entry)) (now (lefts .entry)) (now (rights .entry)) loops mixes n r ⌝ }
+    ensures { λ r. ⌜ EndsBelow (now (letters .entry)) (now (words .entry)) (now (lefts .entry)) (now (rights .entry)) (force .loops) (force .mixes) n r ⌝ }
 {
     let mut r = [0u64; 64];
     let mut i = 0;
     while i < n {
-        r[i] = ends(letters, words, lefts, rights, loops, mixes, words[i]);
+        r[i] = ends(letters, words, lefts, rights, force.loops, force.mixes, words[i]);
         i += 1;
     }
     r
@@ -385,16 +382,15 @@ pub fn add_ends(
     words: &[u64; 64],
     lefts: &[u64; 64],
     rights: &[u64; 64],
-    new_loops: u64,
-    new_mixes: u64,
+    new: Claims,
     n: usize,
 )
     requires { ⌜ n ≤ 64 ⌝ }
-    ensures { λ _. ⌜ AddsEnds (now (words .entry)) (now (lefts .entry)) (now (rights .entry)) «new_loops» «new_mixes» n (now (found .entry)) (now (found .exit)) ⌝ }
+    ensures { λ _. ⌜ AddsEnds (now (words .entry)) (now (lefts .entry)) (now (rights .entry)) (new .loops) (new .mixes) n (now (found .entry)) (now (found .exit)) ⌝ }
 {
     let mut i = 0;
     while i < n {
-        found[i] = more_ends(words, lefts, rights, new_loops, new_mixes, words[i], found[i]);
+        found[i] = more_ends(words, lefts, rights, new.loops, new.mixes, words[i], found[i]);
         i += 1;
     }
 }
@@ -493,7 +489,7 @@ fn opened_at(
     to: u64,
     from: u64,
     i: u8,
-) -> Opened
+) -> Claims
     requires { ⌜ (i < 64) × Ends (now letters) (now words) (now lefts) (now rights) «loop_mask» «mix_mask» (getD (now words) i 0) to × Ends (now back) (now words) (now rights) (now lefts) «loop_mask» «mix_mask» (getD (now words) i 0) from ⌝ }
     ensures { λ r. ⌜ OpensAt (now (letters .entry)) (now (back .entry)) (now (words .entry)) (now (lefts .entry)) (now (rights .entry)) «loop_mask» «mix_mask» i (r .loops) (r .mixes) ⌝ }
 {
@@ -504,13 +500,13 @@ fn opened_at(
     let try_loop = may_loop(has(loop_mask, i), p, to, from);
     let try_mix = may_mix(has(mix_mask, i), p, m, n, to, from);
     if neither(try_loop, try_mix) {
-        return Opened { loops: 0, mixes: 0 };
+        return Claims { loops: 0, mixes: 0 };
     }
     let a = inside(words, loop_mask, p);
     let b = inside(words, mix_mask, p);
     let loops = loop_opens(letters, back, words, lefts, rights, a, b, p, try_loop);
     let mixes = mix_opens(letters, back, words, lefts, rights, a, b, p, m, n, try_mix);
-    Opened {
+    Claims {
         loops: marked(loops, i),
         mixes: marked(mixes, i),
     }
@@ -524,14 +520,13 @@ pub fn open_next(
     words: &[u64; 64],
     lefts: &[u64; 64],
     rights: &[u64; 64],
-    loop_mask: u64,
-    mix_mask: u64,
+    force: Claims,
     to: &[u64; 64],
     from: &[u64; 64],
     n: usize,
-) -> Opened
-    requires { ⌜ (n ≤ 64) × EndsBelow (now letters) (now words) (now lefts) (now rights) «loop_mask» «mix_mask» n (now to) × EndsBelow (now back) (now words) (now rights) (now lefts) «loop_mask» «mix_mask» n (now from) ⌝ }
-    ensures { λ r. ⌜ OpensBelow (now (letters .entry)) (now (back .entry)) (now (words .entry)) (now (lefts .entry)) (now (rights .entry)) «loop_mask» «mix_mask» n n (r .loops) (r .mixes) ⌝ }
+) -> Claims
+    requires { ⌜ (n ≤ 64) × EndsBelow (now letters) (now words) (now lefts) (now rights) (force .loops) (force .mixes) n (now to) × EndsBelow (now back) (now words) (now rights) (now lefts) (force .loops) (force .mixes) n (now from) ⌝ }
+    ensures { λ r. ⌜ OpensBelow (now (letters .entry)) (now (back .entry)) (now (words .entry)) (now (lefts .entry)) (now (rights .entry)) (force .loops) (force .mixes) n n (r .loops) (r .mixes) ⌝ }
 {
     let mut loops: u64 = 0;
     let mut mixes: u64 = 0;
@@ -543,8 +538,8 @@ pub fn open_next(
             words,
             lefts,
             rights,
-            loop_mask,
-            mix_mask,
+            force.loops,
+            force.mixes,
             to[i],
             from[i],
             i as u8,
@@ -553,5 +548,5 @@ pub fn open_next(
         mixes = union(mixes, opened.mixes);
         i += 1;
     }
-    Opened { loops, mixes }
+    Claims { loops, mixes }
 }

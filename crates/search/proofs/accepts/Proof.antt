@@ -14,7 +14,7 @@ accepted-requires c κs = search needs
 -- src/lib.rt:300:1
 returns : tie.Need-returns
 returns c = let a = c .before .before .args in
-    c .accepted .ensures (a .letters .now) (a .words .now) (a .lefts .now) (a .rights .now) (a .loop-mask) (a .mix-mask) (c .before .reached .ensures)
+    c .accepted .ensures (a .letters .now) (a .words .now) (a .lefts .now) (a .rights .now) (a .force .loops) (a .force .mixes) (c .before .reached .ensures)
 
 pub accepts-spec : {M : Type 1} → statement M
 accepts-spec = tie.close (tie.spec reached-requires accepted-requires returns)

@@ -12,13 +12,13 @@ use Rattle.search.proofs.add_ends.Statement.{statement}
 use Rattle.search.proofs.add_ends.Tie as tie
 
 abbrev Inv-loop : tie.InvT-loop
-Inv-loop found₀ words lefts rights new-loops new-mixes n i₀ found i =
+Inv-loop found₀ words lefts rights new n i₀ found i =
     (i ≤ n) × (length found ≡ length found₀)
-    × (length found₀ ≡ 64 → (j : ℕ) → j < i → MoreEnds words lefts rights new-loops new-mixes (getD words j 0) (getD found₀ j 0) (getD found j 0))
+    × (length found₀ ≡ 64 → (j : ℕ) → j < i → MoreEnds words lefts rights (new .loops) (new .mixes) (getD words j 0) (getD found₀ j 0) (getD found j 0))
     × ((j : ℕ) → i ≤ j → getD found j 0 ≡ getD found₀ j 0)
 
 abbrev μ-loop : tie.MeasureT-loop
-μ-loop found₀ words lefts rights new-loops new-mixes n i₀ found i = n - i
+μ-loop found₀ words lefts rights new n i₀ found i = n - i
 
 -- src/lib.rt:392:5
 loop-holds : tie.Need-loop-holds Inv-loop μ-loop
@@ -72,11 +72,11 @@ loop-again c =
       omega arith,
       simp length-set (at .loop .inv .1),
       λ e. below-more _ i
-          (λ j l. subst (MoreEnds w (a .lefts .now) (a .rights .now) (a .new-loops) (a .new-mixes) (getD w j 0) (getD (a .found .now) j 0))
+          (λ j l. subst (MoreEnds w (a .lefts .now) (a .rights .now) (a .new .loops) (a .new .mixes) (getD w j 0) (getD (a .found .now) j 0))
           (sym (getD-set-other old i j x 0 (λ f. omega arith))) (at .loop .inv .2 e j l))
-          (subst (MoreEnds w (a .lefts .now) (a .rights .now) (a .new-loops) (a .new-mixes) (getD w i 0) (getD (a .found .now) i 0))
+          (subst (MoreEnds w (a .lefts .now) (a .rights .now) (a .new .loops) (a .new .mixes) (getD w i 0) (getD (a .found .now) i 0))
           (sym (getD-set-same old i x 0 (omega (arith, e, at .loop .inv .1, c .before .before .before .loop-test .taken))))
-          (subst (λ y. MoreEnds w (a .lefts .now) (a .rights .now) (a .new-loops) (a .new-mixes) (getD w i 0) y x) (at .loop .inv .3 i (omega arith)) (c .more-ends .ensures))),
+          (subst (λ y. MoreEnds w (a .lefts .now) (a .rights .now) (a .new .loops) (a .new .mixes) (getD w i 0) y x) (at .loop .inv .3 i (omega arith)) (c .more-ends .ensures))),
       λ j l. getD-set-other old i j x 0 (λ f. omega arith) ∙ at .loop .inv .3 j (omega arith),
     )
 

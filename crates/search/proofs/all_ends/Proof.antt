@@ -13,10 +13,10 @@ use Rattle.search.proofs.all_ends.Statement.{statement}
 use Rattle.search.proofs.all_ends.Tie as tie
 
 abbrev Inv-loop : tie.InvT-loop
-Inv-loop letters words lefts rights loops mixes n r₀ i₀ r i = (i ≤ n) × (length r ≡ 64) × EndsBelow letters words lefts rights loops mixes i r
+Inv-loop letters words lefts rights force n r₀ i₀ r i = (i ≤ n) × (length r ≡ 64) × EndsBelow letters words lefts rights (force .loops) (force .mixes) i r
 
 abbrev μ-loop : tie.MeasureT-loop
-μ-loop letters words lefts rights loops mixes n r₀ i₀ r i = n - i
+μ-loop letters words lefts rights force n r₀ i₀ r i = n - i
 
 -- src/lib.rt:371:5
 loop-holds : tie.Need-loop-holds Inv-loop μ-loop
@@ -61,8 +61,8 @@ loop-again c =
       omega arith,
       simp length-set (at .loop .inv .1),
       below-more _ i
-          (λ j l. subst (Ends (a .letters .now) w (a .lefts .now) (a .rights .now) (a .loops) (a .mixes) (getD w j 0)) (sym (getD-set-other r i j (c .ends .result) 0 (λ e. omega arith))) (at .loop .inv .2 j l))
-          (subst (Ends (a .letters .now) w (a .lefts .now) (a .rights .now) (a .loops) (a .mixes) (getD w i 0)) (sym (getD-set-same r i (c .ends .result) 0 (omega (arith, at .loop .inv .1, c .before .before .loop-test .taken)))) (c .ends .ensures)),
+          (λ j l. subst (Ends (a .letters .now) w (a .lefts .now) (a .rights .now) (a .force .loops) (a .force .mixes) (getD w j 0)) (sym (getD-set-other r i j (c .ends .result) 0 (λ e. omega arith))) (at .loop .inv .2 j l))
+          (subst (Ends (a .letters .now) w (a .lefts .now) (a .rights .now) (a .force .loops) (a .force .mixes) (getD w i 0)) (sym (getD-set-same r i (c .ends .result) 0 (omega (arith, at .loop .inv .1, c .before .before .loop-test .taken)))) (c .ends .ensures)),
     )
 
 -- src/lib.rt:357:1

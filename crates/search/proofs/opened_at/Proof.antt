@@ -3,7 +3,7 @@ use lib.ListN.{getD}
 use borrow.Author.Needs.{needs}
 use Rattle.masks.specs.Mask.{_⊆_}
 use Rattle.search.specs.Hops.{Threaded}
-use Rattle.search.proofs.Claims.{entrance-iff, exit-iff, loops-iff, mixes-iff}
+use Rattle.search.proofs.Saying.{entrance-iff, exit-iff, loops-iff, mixes-iff}
 use Rattle.search.proofs.Filtering.{looping-passes, mixing-passes}
 use Rattle.search.proofs.Opening.{set-at, opens-iff, opens-not}
 use Rattle.search.proofs.opened_at.Statement.{statement}

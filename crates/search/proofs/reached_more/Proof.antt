@@ -22,23 +22,23 @@ union-requires-2 c κs = search needs
 -- what was seen and what is new
 module _ (c : tie.After-union2) where
   abbrev Steps : ℕ → ℕ → Type 0
-  Steps = let a = c .before .before .before .before .args in Hop (a .letters .now) (a .words .now) (a .lefts .now) (a .rights .now) (a .loops) (a .mixes) all
+  Steps = let a = c .before .before .before .before .args in Hop (a .letters .now) (a .words .now) (a .lefts .now) (a .rights .now) (a .force .loops) (a .force .mixes) all
 
   followed : Followed Steps (c .union2 .result) (c .before .difference .result)
   followed =
       let d = c .before in
       let cl = d .before in
       let a = cl .before .before .args in
-      followed-now (a .letters .now) (a .words .now) (a .lefts .now) (a .rights .now) (a .loops) (a .mixes) (a .new-loops) (a .new-mixes) (a .starts) (a .seen) (cl .before .before .pre)
+      followed-now (a .letters .now) (a .words .now) (a .lefts .now) (a .rights .now) (a .force) (a .new) (a .starts) (a .seen) (cl .before .before .pre)
       (cl .before .union .result) (cl .claimed .result) (d .difference .result) (c .union2 .result) (cl .before .union .ensures) (cl .claimed .ensures) (d .difference .ensures) (c .union2 .ensures)
 
   ended : (r : ℕ) → Explored Steps (c .union2 .result) (c .before .difference .result) r
-      → let a = c .before .before .before .before .args in Reached (a .letters .now) (a .words .now) (a .lefts .now) (a .rights .now) (a .loops) (a .mixes) (a .starts) r
+      → let a = c .before .before .before .before .args in Reached (a .letters .now) (a .words .now) (a .lefts .now) (a .rights .now) (a .force .loops) (a .force .mixes) (a .starts) r
   ended r x =
       let d = c .before in
       let cl = d .before in
       let a = cl .before .before .args in
-      reached-now (a .letters .now) (a .words .now) (a .lefts .now) (a .rights .now) (a .loops) (a .mixes) (a .new-loops) (a .new-mixes) (a .starts) (a .seen) (cl .before .before .pre)
+      reached-now (a .letters .now) (a .words .now) (a .lefts .now) (a .rights .now) (a .force) (a .new) (a .starts) (a .seen) (cl .before .before .pre)
       (cl .before .union .result) (cl .claimed .result) (d .difference .result) (c .union2 .result) (cl .before .union .ensures) (cl .claimed .ensures) (d .difference .ensures) (c .union2 .ensures) r x
 
 returns : tie.Need-returns
