@@ -7,7 +7,7 @@ ghost use Prim.Native.Nat.{ℕ, _≤_, _<_};
 ghost use Rattle.lists.specs.Tests.{Decides};
 ghost use Rattle.masks.specs.Graph.{Turned};
 ghost use Rattle.masks.specs.Mask.{_∈_, _⊆_};
-ghost use lib.ListN.{getD};
+ghost use lib.ListN.{length, getD};
 ghost use Rattle.search.specs.Hops.{Passes, Claimed, Hop, LetterHop, Chain, Onward, Followed, Explored, all, Reached, Inner, Ends, EndsBelow, Joined, Covered, Threaded};
 ghost use Rattle.search.specs.Promises.{AcceptsRight, AcceptsSeen, SeenBefore, MoreEnds, AddsEnds, OpensAt, OpensBelow};
 use masks::difference;
@@ -268,7 +268,16 @@ pub fn reached(
     ensures { λ r. ⌜ Reached (now (letters .entry)) (now (words .entry)) (now (lefts .entry)) (now (rights .entry)) (force .loops) (force .mixes) starts r ⌝ }
 {
     let p = all_states();
-    reach(letters, words, lefts, rights, force.loops, force.mixes, p, starts)
+    reach(
+        letters,
+        words,
+        lefts,
+        rights,
+        force.loops,
+        force.mixes,
+        p,
+        starts,
+    )
 }
 
 // The same where `seen` was reached before the new claims came into force: the search goes on from there.
@@ -365,12 +374,21 @@ pub fn all_ends(
     n: usize,
 ) -> [u64; 64]
     requires { ⌜ n ≤ 64 ⌝ }
-    ensures { λ r. ⌜ EndsBelow (now (letters .entry)) (now (words .entry)) (now (lefts .entry)) (now (rights .entry)) (force .loops) (force .mixes) n r ⌝ }
+    ensures ends { λ r. ⌜ EndsBelow (now (letters .entry)) (now (words .entry)) (now (lefts .entry)) (now (rights .entry)) (force .loops) (force .mixes) n r ⌝ }
+    ensures sized { λ r. ⌜ length r ≡ 64 ⌝ }
 {
     let mut r = [0u64; 64];
     let mut i = 0;
     while i < n {
-        r[i] = ends(letters, words, lefts, rights, force.loops, force.mixes, words[i]);
+        r[i] = ends(
+            letters,
+            words,
+            lefts,
+            rights,
+            force.loops,
+            force.mixes,
+            words[i],
+        );
         i += 1;
     }
     r
@@ -390,7 +408,15 @@ pub fn add_ends(
 {
     let mut i = 0;
     while i < n {
-        found[i] = more_ends(words, lefts, rights, new.loops, new.mixes, words[i], found[i]);
+        found[i] = more_ends(
+            words,
+            lefts,
+            rights,
+            new.loops,
+            new.mixes,
+            words[i],
+            found[i],
+        );
         i += 1;
     }
 }

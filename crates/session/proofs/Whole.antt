@@ -74,22 +74,6 @@ keeps-free s c r e m p = absurd (not-made m s p e)
 pub writes-free : (s : Session) (c : ℕ → Call) (old new : List ℕ) (r : Reply) → in-range (s .«row_count») (s .«set_count») ≡ false → Writes s c old new r
 writes-free s c old new r e m p = absurd (not-made m s p e)
 
--- no set of an open machine has a round
-map-zero : (l : List ℕ) → map {B = ℕ} (λ P. 0) l ≡ replicate (length l) 0
-map-zero [] = refl
-map-zero (x ∷ l) = ap (λ (k : List ℕ). 0 ∷ k) (map-zero l)
-
-zeros : (l : List ℕ) → length l ≤ 64 → padded {A = ℕ} 64 0 (map (λ P. 0) l) ≡ replicate 64 0
-zeros l h =
-    let e : length l + (64 - length l) ≡ 64 = omega arith in
-    ap (λ (k : List ℕ). padded 64 0 k) (map-zero l)
-    ∙ ap (λ (n : ℕ). replicate (length l) 0 ++ replicate (64 - n) 0) (length-replicate (length l) 0)
-    ∙ replicate-append-replicate (length l) (64 - length l) 0
-    ∙ ap (λ (n : ℕ). replicate n 0) e
-
-pub no-rounds : (rows : List Row) (claim : ℕ → Claim) → length (sets rows) ≤ 64 → rounds-of (open-with rows) claim ≡ replicate 64 0
-no-rounds rows claim h = zeros (sets rows) h
-
 module _ (m : Machine) (s : Session) (p : Represents m s) (o : m .phase ≡ Open) where
   open-is : m ≡ open-with (m .rows)
   open-is = subst (Made m) o (p .formed .made)

@@ -69,7 +69,7 @@ loop-again c =
 returns : tie.Need-returns Inv-loop μ-loop
 returns c =
     let e : c .before .loop .i ≡ c .before .before .args .n = omega arith in
-    rw e at (c .before .loop .inv .2)
+    (rw e at (c .before .loop .inv .2), c .before .loop .inv .1)
 
 pub all-ends-spec : {M : Type 1} → statement M
 all-ends-spec =

@@ -17,9 +17,8 @@ use Rattle.orderings.specs.Decide.{same-claim}
 use Rattle.orderings.proofs.Deciding.{same-claim·}
 use Rattle.machine.specs.Machine.{Opening, Machine, open-claims, openings-of, with-openings}
 use Rattle.table.specs.Arrays.{padded}
-use Rattle.session.specs.Record.{round-of, rounds-of}
-use Rattle.session.specs.Automaton.{Marks}
-use Rattle.session.proofs.OpenClaims.{set-at, round-at}
+use Rattle.rounds.specs.Arrays.{round-of, rounds-of, Marks}
+use Rattle.rounds.proofs.OpenClaims.{set-at, round-at}
 
 -- a claim that the new round does not open
 round-old : (c : Claim) (k : ℕ) (l : List Opening) (new : List Claim) → ¬ (c among new) → round-of (l ++ openings-of k new) c ≡ round-of l c
@@ -79,5 +78,5 @@ module _ (m : Machine) (few : length (sets (m .rows)) ≤ 64) (claim : ℕ → C
       (true-or-false (member i opened))
 
   pub marked : (r : List ℕ) → Marks (rounds-of m claim) opened k r → r ≡ rounds-of then claim
-  marked r h = ext-getD 0 r (rounds-of then claim) (h .length-is ∙ sym (rounds-length then few claim))
-      (λ i l. let g : i < 64 = omega (arith, h .length-is) in h .rounds-are i g ∙ place-is i g)
+  marked r h = let e = rounds-length m few claim in ext-getD 0 r (rounds-of then claim) (h .length-is ∙ e ∙ sym (rounds-length then few claim))
+      (λ i l. let g : i < 64 = omega (arith, h .length-is, e) in h .rounds-are e i g ∙ place-is i g)

@@ -3,8 +3,8 @@ use Prim.Native.Nat.{ℕ, zero, suc, _<_, _≤_, _+_, _-_}
 use mathlib.Core.Path.{_≡_, refl, ap, sym, _∙_, subst}
 use mathlib.Core.Bool.{Bool, true, false, cond, _||_}
 use mathlib.Core.Logic.{⊎-elim, _↔_}
-use mathlib.Core.List.{List, [], _∷_, map, List·Memᴰ·head, List·Memᴰ·tail, List·Memᴰ·not-nil, List·Memᴰ·cases-cons}
-use lib.ListN.{length, getD, replicate, length-map, List·getD-append}
+use mathlib.Core.List.{List, [], _∷_, _++_, map, List·Memᴰ·head, List·Memᴰ·tail, List·Memᴰ·not-nil, List·Memᴰ·cases-cons}
+use lib.ListN.{length, getD, replicate, length-map, length-replicate, replicate-append-replicate, List·getD-append}
 use native.Mathlib.Omega.{arith}
 use native.Mathlib.Nat.{eq-or-lt-of-le}
 use lib.Dec.{eqb}
@@ -22,14 +22,11 @@ use Rattle.orderings.specs.Timelines.{timelines}
 use Rattle.orderings.proofs.Deciding.{same-claim·}
 use Rattle.machine.specs.declared.Phase.{Phase}
 use Rattle.machine.specs.declared.Phase.the-variants.{Open, Running, Settled}
-use Rattle.machine.specs.Machine.{Opening, Machine, open-claims}
+use Rattle.machine.specs.Machine.{Opening, Machine, open-with, open-claims}
 use Rattle.machine.specs.WellFormed.{Worked, Made, WellFormed}
 use Rattle.machine.proofs.Settling.{after-after}
-use Rattle.search.specs.Masked.{Forced}
 use Rattle.table.specs.Arrays.{padded}
-use Rattle.session.specs.declared.Session.{Session}
-use Rattle.session.specs.Record.{round-of, rounds-of, record-of, Represents}
-use Rattle.session.specs.Automaton.{OpenPlaces}
+use Rattle.rounds.specs.Arrays.{round-of, rounds-of, OpenPlaces}
 
 -- ---- the mask of the places with a round
 
@@ -103,19 +100,28 @@ pub round-at : (m : Machine) (claim : ℕ → Claim) (i : ℕ) → i < length (s
 round-at m claim i h = let f : ℕ → ℕ = λ P. round-of (m .openings) (claim P) in let l = sets (m .rows) in
     filled-at (map f l) i (omega (arith, length-map l f)) ∙ getD-map f l i 0 0 h ∙ ap f (sym (filled-at l i h))
 
-open-iff : (m : Machine) → WellFormed m → (claim : ℕ → Claim) (mask : ℕ) → OpenPlaces (rounds-of m claim) (length (sets (m .rows))) mask
+-- the mask of the places with a round is that of the claims that are open
+pub open-iff : (m : Machine) → WellFormed m → (claim : ℕ → Claim) (mask : ℕ) → OpenPlaces (rounds-of m claim) (length (sets (m .rows))) mask
     → (i : ℕ) → (i ∈ mask) ↔ ((i < length (sets (m .rows))) × claim (set-at m i) among open-claims m)
 open-iff m w claim mask is i = let q = round-iff (claim (set-at m i)) (m .openings) (counted m w) in (
   (λ k. let p = is i .0 k in (p .0, q .0 (subst (λ n. 0 < n) (round-at m claim i (p .0)) (p .1)))),
   λ p. is i .1 (p .0, subst (λ n. 0 < n) (sym (round-at m claim i (p .0))) (q .1 (p .1))),
 )
 
--- the masks of the places with a round are those of the claims that are open
-pub forced : (m : Machine) (s : Session) (loop-mask mix-mask : ℕ) → Represents m s
-    → OpenPlaces (s .«loop_rounds») (s .«set_count») loop-mask → OpenPlaces (s .«mix_rounds») (s .«set_count») mix-mask
-    → Forced (λ c. c among open-claims m) (s .sets) (s .«set_count») loop-mask mix-mask
-unfolding record-of
-forced m s loop-mask mix-mask r = subst
-    (λ (x : Session). OpenPlaces (x .«loop_rounds») (x .«set_count») loop-mask → OpenPlaces (x .«mix_rounds») (x .«set_count») mix-mask
-    → Forced (λ c. c among open-claims m) (x .sets) (x .«set_count») loop-mask mix-mask)
-    (sym (r .whole)) (λ h g. record { loop-iff = open-iff m (r .formed) loops loop-mask h; mix-iff = open-iff m (r .formed) mixes mix-mask g })
+-- ---- no openings
+
+map-zero : (l : List ℕ) → map {B = ℕ} (λ P. 0) l ≡ replicate (length l) 0
+map-zero [] = refl
+map-zero (x ∷ l) = ap (λ (k : List ℕ). 0 ∷ k) (map-zero l)
+
+zeros : (l : List ℕ) → length l ≤ 64 → padded {A = ℕ} 64 0 (map (λ P. 0) l) ≡ replicate 64 0
+zeros l h =
+    let e : length l + (64 - length l) ≡ 64 = omega arith in
+    ap (λ (k : List ℕ). padded 64 0 k) (map-zero l)
+    ∙ ap (λ (n : ℕ). replicate (length l) 0 ++ replicate (64 - n) 0) (length-replicate (length l) 0)
+    ∙ replicate-append-replicate (length l) (64 - length l) 0
+    ∙ ap (λ (n : ℕ). replicate n 0) e
+
+-- no set of an open machine has a round
+pub no-rounds : (rows : List Row) (claim : ℕ → Claim) → length (sets rows) ≤ 64 → rounds-of (open-with rows) claim ≡ replicate 64 0
+no-rounds rows claim h = zeros (sets rows) h

@@ -3,33 +3,25 @@ use Prim.Native.Nat.{ℕ}
 use mathlib.Core.Path.{_≡_}
 use borrow.Author.Needs.{needs}
 use native.Mathlib.Omega.{arith}
-use Rattle.checker.proofs.Settling.{not-running}
-use Rattle.checker.proofs.is_running.Statement.{statement}
-use Rattle.checker.proofs.is_running.Tie as tie
-use Rattle.checker.proofs.is_running.Reads as reads
-use Rattle.checker.proofs.is_running.Lts as lts
+use Rattle.rounds.proofs.Settled.{not-running}
+use Rattle.rounds.proofs.is_running.Statement.{statement}
+use Rattle.rounds.proofs.is_running.Tie as tie
 
--- src/lib.rt:15:24
 enum-told : tie.Need-enum-told
 enum-told c = search needs
 
--- src/lib.rt:16:27
 enum-told-2 : tie.Need-enum-told-2
 enum-told-2 c = search needs
 
--- src/lib.rt:17:30
 enum-told-3 : tie.Need-enum-told-3
 enum-told-3 c = search needs
 
--- src/lib.rt:11:1
 returns : tie.Need-returns
 returns c = not-running (c .before .before .args .phase) _ (c .enum-told .given .1) (λ e. let z : _≡_ {A = ℕ} 0 1 = cc in absurd (omega arith))
 
--- src/lib.rt:11:1
 returns-2 : tie.Need-returns-2
 returns-2 c = search needs
 
--- src/lib.rt:11:1
 returns-3 : tie.Need-returns-3
 returns-3 c = not-running (c .before .before .args .phase) _ (c .enum-told3 .given .1) (λ e. let z : _≡_ {A = ℕ} 0 1 = cc in absurd (omega arith))
 

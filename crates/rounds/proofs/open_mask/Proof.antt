@@ -6,9 +6,9 @@ use lib.ListN.{getD}
 use borrow.Author.Needs.{needs}
 use Rattle.masks.specs.Mask.{_∈_}
 use Rattle.masks.proofs.Member.{in-none}
-use Rattle.session.proofs.OpenClaims.{one-more, none-more}
-use Rattle.session.proofs.automaton.open_mask.Statement.{statement}
-use Rattle.session.proofs.automaton.open_mask.Tie as tie
+use Rattle.rounds.proofs.OpenClaims.{one-more, none-more}
+use Rattle.rounds.proofs.open_mask.Statement.{statement}
+use Rattle.rounds.proofs.open_mask.Tie as tie
 
 abbrev Inv-loop : tie.InvT-loop
 Inv-loop rounds n r₀ i₀ r i =

@@ -6,8 +6,8 @@ use borrow.Author.Needs.{needs}
 use borrow.Author.Tests.{eqb-true, eq-eqb}
 use Rattle.masks.specs.Mask.{_∈_}
 use Rattle.masks.proofs.Member.{in-none, none, union-left, union-right, union-cases}
-use Rattle.session.proofs.rounds.nothing.Statement.{statement}
-use Rattle.session.proofs.rounds.nothing.Tie as tie
+use Rattle.rounds.proofs.nothing.Statement.{statement}
+use Rattle.rounds.proofs.nothing.Tie as tie
 
 union-requires : tie.Need-union-requires
 union-requires c κs = search needs

@@ -1,7 +1,7 @@
 -- `judge` meets its contract.
 use borrow.Author.Needs.{needs}
-use Rattle.session.proofs.rounds.judge.Statement.{statement}
-use Rattle.session.proofs.rounds.judge.Tie as tie
+use Rattle.rounds.proofs.judge.Statement.{statement}
+use Rattle.rounds.proofs.judge.Tie as tie
 
 returns : tie.Need-returns
 returns c = rw (c .if1 .taken)

@@ -1,0 +1,123 @@
+-- The machine at the end of its rounds.
+use Prim.Native.Nat.{ℕ, suc, _+_, _<_, _≤_}
+use mathlib.Core.Path.{_≡_, refl, ap, sym, _∙_, subst}
+use mathlib.Core.Bool.{Bool, false}
+use mathlib.Core.Logic.{_⊎_, ⊎-elim, _↔_}
+use mathlib.Core.List.{List, []}
+use lib.ListN.{getD, replicate}
+use native.Mathlib.Nat.{eq-or-lt-of-le, le-of-suc-le-suc}
+use native.Mathlib.Omega.{arith}
+use Rattle.lists.specs.Tests.{Decides, _among_}
+use Rattle.masks.specs.Mask.{_∈_}
+use Rattle.masks.specs.Graph.{Turned}
+use Rattle.rows.specs.declared.Row.{Row}
+use Rattle.orderings.specs.Steps.{Claim, loops, mixes}
+use Rattle.machine.specs.declared.Phase.{Phase}
+use Rattle.machine.specs.declared.Phase.the-variants.{Running}
+use Rattle.machine.specs.Machine.{Machine, open-with, judged, closed, open-claims, next-round}
+use Rattle.machine.specs.Calls.{run, settle}
+use Rattle.machine.specs.WellFormed.{Table, after}
+use Rattle.machine.proofs.Settling.{Settles, settles, after-after}
+use Rattle.machine.proofs.History.{settle-runs, no-more}
+use Rattle.search.specs.declared.Claims.{Claims}
+use Rattle.search.specs.Hops.{Unites}
+use Rattle.search.specs.Masked.{Forced}
+use Rattle.search.specs.Promises.{AcceptsRight, Opens, OpensBelow}
+use Rattle.rounds.specs.Arrays.{rounds-of, Marks}
+use Rattle.rounds.specs.Promises.{Given, Kept}
+use Rattle.rounds.proofs.OpenClaims.{no-rounds}
+use Rattle.rounds.proofs.Turn.{none-forced, walk-test, Turn, turn-kept, turn-forced}
+
+-- another phase than running
+pub not-running : (p q : Phase) → p ≡ q → ¬ (q ≡ Running) → Decides false (p ≡ Running)
+not-running p q e h = record { to = λ f. let z : _≡_ {A = ℕ} 0 1 = cc in absurd (omega arith); of = λ f. absurd (h (sym e ∙ f)) }
+
+-- ---- from round to round
+
+-- k rounds are done, with the claims in force and the rounds of the claims that the machine has then
+pub record Stage (rows : List Row) (words : List ℕ) (n : ℕ) (force : Claims) (loop-rounds mix-rounds : List ℕ) (phase : Phase) (k : ℕ) : Type 0 where
+  pub kept : Kept (after rows k) loop-rounds mix-rounds phase k
+  pub forced : Forced (λ c. c among open-claims (after rows k)) words n (force .loops) (force .mixes)
+  pub before : (j : ℕ) → j < k → after rows j .phase ≡ Running
+
+abbrev pub none : Claims
+none = record { loops = 0; mixes = 0 }
+
+module _ (rows : List Row) (letters words lefts rights : List ℕ) (starts ends n : ℕ) (g : Given rows letters words lefts rights starts ends n) where
+  pub stage-start : (b : Bool) → AcceptsRight letters words lefts rights 0 0 starts ends b → Stage rows words n none (replicate 64 0) (replicate 64 0) (judged b false) 0
+  unfolding closed
+  stage-start b r = record {
+    kept = record {
+      loops-are = sym (no-rounds rows loops (g .table .few-sets));
+      mixes-are = sym (no-rounds rows mixes (g .table .few-sets));
+      phase-is = ap (λ (x : Bool). judged x false) (walk-test rows letters words lefts rights starts ends n g [] 0 0 b (none-forced words n) r);
+      count-is = refl;
+    };
+    forced = none-forced words n;
+    before = λ j l. absurd (omega arith);
+  }
+
+  -- the claims that a round opens, in a stage
+  module _ (force new all : Claims) (loop-rounds mix-rounds : List ℕ) (phase : Phase) (k : ℕ) (s : Stage rows words n force loop-rounds mix-rounds phase k)
+      (back : List ℕ) (turned : Turned letters back) (opens : OpensBelow letters back words lefts rights (force .loops) (force .mixes) n n (new .loops) (new .mixes)) where
+    same : after rows k .rows ≡ rows
+    same = after-after rows k .same-rows
+
+    given : Given (after rows k .rows) letters words lefts rights starts ends n
+    given = subst (λ (r : List Row). Given r letters words lefts rights starts ends n) (sym same) g
+
+    opened : ((i : ℕ) → (i ∈ new .loops) ↔ ((i < n) × Opens (after rows k .rows) (open-claims (after rows k)) (loops (getD words i 0))))
+        × ((i : ℕ) → (i ∈ new .mixes) ↔ ((i < n) × Opens (after rows k .rows) (open-claims (after rows k)) (mixes (getD words i 0))))
+    opened = opens turned (after rows k .rows) (open-claims (after rows k)) (record { masked = given .masked; forced = s .forced }) (sym (given .worded .count))
+
+    pub stage-more : (accepted vain : Bool) (loop-marks mix-marks : List ℕ) → phase ≡ Running
+        → Unites (force .loops) (new .loops) (all .loops) → Unites (force .mixes) (new .mixes) (all .mixes)
+        → AcceptsRight letters words lefts rights (all .loops) (all .mixes) starts ends accepted → Decides vain ((t : ℕ) → (¬ (t ∈ new .loops)) × (¬ (t ∈ new .mixes)))
+        → Marks loop-rounds (new .loops) (k + 1) loop-marks → Marks mix-rounds (new .mixes) (k + 1) mix-marks
+        → Stage rows words n all loop-marks mix-marks (judged accepted vain) (k + 1)
+    stage-more accepted vain loop-marks mix-marks running loops-are mixes-are tested vain-iff loop-marked mix-marked =
+        subst (Stage rows words n all loop-marks mix-marks (judged accepted vain)) e (record {
+          kept = subst (Kept (next-round m) loop-marks mix-marks (judged accepted vain)) c (turn-kept m letters words lefts rights starts ends n force new all accepted vain loop-marks mix-marks turn);
+          forced = turn-forced m letters words lefts rights starts ends n force new all accepted vain loop-marks mix-marks turn;
+          before = λ j l. ⊎-elim (λ x. subst (λ (i : ℕ). after rows i .phase ≡ Running) (sym x) (sym (s .kept .phase-is) ∙ running)) (s .before j) (eq-or-lt-of-le (le-of-suc-le-suc l));
+        })
+      where
+        m : Machine
+        m = after rows k
+
+        e : suc k ≡ k + 1
+        e = omega arith
+
+        c : m .rounds + 1 ≡ suc k
+        c = omega (arith, s .kept .count-is)
+
+        marks : (claim : ℕ → Claim) (old now : List ℕ) (places : ℕ) → old ≡ rounds-of m claim → Marks old places (k + 1) now → Marks (rounds-of m claim) places (m .rounds + 1) now
+        marks claim old now places is h = subst (λ (l : List ℕ). Marks l places (m .rounds + 1) now) is (subst (λ (i : ℕ). Marks old places (i + 1) now) (s .kept .count-is) h)
+
+        turn : Turn m letters words lefts rights starts ends n force new all accepted vain loop-marks mix-marks
+        turn = record {
+          given = given;
+          forced = s .forced;
+          opens-loops = opened .0;
+          opens-mixes = opened .1;
+          loops-are = loops-are;
+          mixes-are = mixes-are;
+          tested = tested;
+          vain-iff = vain-iff;
+          loop-marked = marks loops loop-rounds loop-marks (new .loops) (s .kept .loops-are) loop-marked;
+          mix-marked = marks mixes mix-rounds mix-marks (new .mixes) (s .kept .mixes-are) mix-marked;
+        }
+
+-- running before each of k rounds, and no more after them or 129 of them done
+pub kept-settled : (rows : List Row) → Table rows → (k : ℕ) (loop-rounds mix-rounds : List ℕ) (phase : Phase) (count : ℕ)
+    → ((j : ℕ) → j < k → after rows j .phase ≡ Running) → (129 ≤ k) ⊎ (¬ (phase ≡ Running))
+    → Kept (after rows k) loop-rounds mix-rounds phase count → Kept (run (open-with rows) settle) loop-rounds mix-rounds phase count
+kept-settled rows t k loop-rounds mix-rounds phase count before ended kept =
+    subst (λ (m : Machine). Kept m loop-rounds mix-rounds phase count) (ap (after rows) all-done ∙ sym (settle-runs rows s)) kept
+  where
+    s : Settles rows
+    s = settles rows (t .few-sets)
+
+    all-done : k ≡ s .rounds
+    all-done = let l = no-more rows s k before in
+        ⊎-elim (λ h. omega (arith, l, s .most)) (λ h. ⊎-elim (λ e. e) (λ i. absurd (h (kept .phase-is ∙ s .before k i))) (eq-or-lt-of-le l)) ended
