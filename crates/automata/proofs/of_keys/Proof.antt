@@ -12,9 +12,9 @@ use Rattle.rows.specs.declared.Row.{Row}
 use Rattle.rows.specs.declared.Row.the-variants.{Initial}
 use Rattle.rows.specs.Rows.{AllFit}
 use Rattle.table.specs.Arrays.{Keyed}
-use Rattle.automaton.proofs.Passing.{Passed, none-passed, pass-initial, pass-final, pass-step, pass-left, pass-right, row-there, passed-all}
-use Rattle.automaton.proofs.of_keys.Statement.{statement}
-use Rattle.automaton.proofs.of_keys.Tie as tie
+use Rattle.automata.proofs.Passing.{Passed, none-passed, pass-initial, pass-final, pass-step, pass-left, pass-right, row-there, passed-all}
+use Rattle.automata.proofs.of_keys.Statement.{statement}
+use Rattle.automata.proofs.of_keys.Tie as tie
 
 abbrev Inv-loop : tie.InvT-loop
 Inv-loop high low n words k letters₀ lefts₀ rights₀ initials₀ finals₀ i₀ letters lefts rights initials finals i =

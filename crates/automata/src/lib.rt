@@ -2,7 +2,7 @@
 use rows::Row;
 use sorted::Place;
 ghost use Prim.Native.Nat.{_≤_};
-ghost use Rattle.automaton.specs.Promise.{Adds, Puts, Places, GivesKeyed};
+ghost use Rattle.automata.specs.Promise.{Adds, Puts, Places, GivesKeyed};
 
 // For each state the targets of its letter steps; for each set the states that its left-limit rows lead to, and those that its
 // right-limit rows start from; the initial and the final states.

@@ -12,7 +12,7 @@ use Rattle.rows.specs.declared.Row.the-variants.{Initial, Final}
 use Rattle.rows.specs.Rows.{AllFit, sets}
 use Rattle.search.specs.Masked.{Masked}
 use Rattle.table.specs.Arrays.{Keyed}
-use Rattle.automaton.specs.declared.Automaton.{Automaton}
+use Rattle.automata.specs.declared.Automaton.{Automaton}
 
 -- the states of m, and s if that is below 64
 abbrev pub Adds : ℕ → ℕ → ℕ → Type 0

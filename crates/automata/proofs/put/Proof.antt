@@ -1,8 +1,8 @@
 -- `put` meets its contract.
-use Rattle.automaton.proofs.Adding.{put-at, not-put}
+use Rattle.automata.proofs.Adding.{put-at, not-put}
 use borrow.Author.Needs.{needs}
-use Rattle.automaton.proofs.put.Statement.{statement}
-use Rattle.automaton.proofs.put.Tie as tie
+use Rattle.automata.proofs.put.Statement.{statement}
+use Rattle.automata.proofs.put.Tie as tie
 
 mul-add : tie.Need-mul-add
 mul-add c = search needs

@@ -1,8 +1,8 @@
 -- `place` meets its contract.
-use Rattle.automaton.proofs.Adding.{found-place, no-place}
+use Rattle.automata.proofs.Adding.{found-place, no-place}
 use borrow.Author.Needs.{needs}
-use Rattle.automaton.proofs.place.Statement.{statement}
-use Rattle.automaton.proofs.place.Tie as tie
+use Rattle.automata.proofs.place.Statement.{statement}
+use Rattle.automata.proofs.place.Tie as tie
 
 find-word-requires : tie.Need-find-word-requires
 find-word-requires c κs = search needs
