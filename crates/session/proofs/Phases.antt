@@ -14,7 +14,7 @@ use Rattle.machine.specs.Calls.{Call, close, round, reopen, Next, accept, refus
 use Rattle.machine.specs.Causes.{NotOpen, running, settled, NeedsClosed, reopening, rounding, printing}
 use Rattle.search.specs.Promises.{AcceptsRight}
 use Rattle.session.specs.declared.Session.{Session}
-use Rattle.session.specs.declared.automaton.Automaton.{Automaton}
+use Rattle.automaton.specs.declared.Automaton.{Automaton}
 use Rattle.session.specs.declared.Answer.the-variants.{Done, Refused}
 use Rattle.session.specs.declared.Reply.{Reply}
 use Rattle.session.specs.Record.{record-of, Represents}

@@ -31,7 +31,7 @@ use Rattle.walks.specs.Walks.{walk-of, FirstWalk}
 use Rattle.sheets.specs.Openings.{opened, openings-in, Recorded}
 use Rattle.sheets.proofs.Sheet.{recorded, sheet-empty, sheet-nonempty}
 use Rattle.session.specs.declared.Session.{Session}
-use Rattle.session.specs.declared.automaton.Automaton.{Automaton}
+use Rattle.automaton.specs.declared.Automaton.{Automaton}
 use Rattle.session.specs.declared.Answer.the-variants.{Refused, Wrote as Written}
 use Rattle.session.specs.declared.Reply.{Reply}
 use Rattle.session.specs.Record.{round-of, record-of, Represents}

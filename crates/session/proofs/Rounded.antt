@@ -26,7 +26,7 @@ use Rattle.search.specs.declared.Opened.{Opened}
 use Rattle.search.specs.Masked.{Forced}
 use Rattle.search.specs.Promises.{AcceptsRight}
 use Rattle.session.specs.declared.Session.{Session}
-use Rattle.session.specs.declared.automaton.Automaton.{Automaton}
+use Rattle.automaton.specs.declared.Automaton.{Automaton}
 use Rattle.session.specs.Record.{rounds-of, record-of, Represents}
 use Rattle.session.specs.Automaton.{Gives, Reads, OpenPlaces, Marks, OpensNext}
 use Rattle.session.specs.Standing.{with-rounds}

@@ -1,84 +1,22 @@
-// The masks that the search reads, made in one pass over the rows of a session.
+// The automaton of a session's rows; the claims that are open, as a mask of their places, and the rounds of those that open.
 use crate::Session;
-use rows::Row;
-use sorted::Place;
+use automaton::Automaton;
 ghost use Prim.Native.Nat.{_≤_};
-ghost use Rattle.session.specs.Automaton.{Adds, Puts, Places, OpenPlaces, Marks, Reads};
-
-// For each state the targets of its letter steps; for each set the states that its left-limit rows lead to, and those that its
-// right-limit rows start from; the initial and the final states.
-pub struct Automaton {
-    pub letters: [u64; 64],
-    pub lefts: [u64; 64],
-    pub rights: [u64; 64],
-    pub initials: u64,
-    pub finals: u64,
-}
-
-// The states of `m`, and `s`, if that is a state.
-fn add(m: u64, s: u8) -> u64
-    ensures { λ r. ⌜ Adds m s r ⌝ }
-{
-    if s < 64 {
-        return masks::with(m, s);
-    }
-    m
-}
-
-// Adds `s` to the mask at the place `at`, if there is one.
-fn put(a: &mut [u64; 64], at: usize, s: u8)
-    ensures { λ _. ⌜ Puts (now (a .entry)) at s (now (a .exit)) ⌝ }
-{
-    if at < 64 {
-        a[at] = add(a[at], s);
-    }
-}
-
-// The place of `x` among the first `n` words, or 64, which is none.
-fn place(words: &[u64; 64], n: usize, x: u64) -> usize
-    requires { ⌜ n ≤ 64 ⌝ }
-    ensures { λ r. ⌜ Places (now (words .entry)) n x r ⌝ }
-{
-    match sorted::find_word(words, n, x) {
-        Place::At(i) => i,
-        Place::Gap(_) => 64,
-    }
-}
+ghost use Rattle.session.specs.Automaton.{OpenPlaces, Marks, Reads};
 
 impl Session {
-    // The automaton of the rows: each row adds one state to one mask.
+    // The automaton of the rows.
     pub(crate) fn automaton(self) -> Automaton
         requires { ⌜ (self .«row_count» ≤ 256) × (self .«set_count» ≤ 64) ⌝ }
         ensures { λ r. ⌜ Reads self r ⌝ }
     {
         let words = self.sets;
-        let n = self.set_count;
-        let count = self.row_count;
-        let mut letters = [0u64; 64];
-        let mut lefts = [0u64; 64];
-        let mut rights = [0u64; 64];
-        let mut initials: u64 = 0;
-        let mut finals: u64 = 0;
-        let mut i = 0;
-        while i < count {
-            let slot = self.rows[i];
-            let row = slot.row;
-            match row {
-                Row::Initial(s) => initials = add(initials, s),
-                Row::Final(s) => finals = add(finals, s),
-                Row::Successor(p, _, q) => put(&mut letters, p as usize, q),
-                Row::LeftLimit(set, q) => put(&mut lefts, place(&words, n, set), q),
-                Row::RightLimit(q, set) => put(&mut rights, place(&words, n, set), q),
-            }
-            i += 1;
-        }
-        Automaton {
-            letters,
-            lefts,
-            rights,
-            initials,
-            finals,
-        }
+        let n = self.row_count;
+        let k = self.set_count;
+        let keys = self.keys();
+        let high = keys.high;
+        let low = keys.low;
+        automaton::of_keys(&high, &low, n, &words, k)
     }
 }
 

@@ -2,10 +2,10 @@
 use crate::Answer;
 use crate::Reply;
 use crate::Session;
-use crate::automaton::Automaton;
 use crate::automaton::mark;
 use crate::automaton::open_mask;
 use crate::replies::in_range;
+use automaton::Automaton;
 use machine::Phase;
 use machine::Verdict;
 use search::Opened;

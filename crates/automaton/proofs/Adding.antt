@@ -13,7 +13,7 @@ use Rattle.masks.specs.Mask.{member, _∈_}
 use Rattle.masks.proofs.Member.{with-same, with-cases, lt-or-le}
 use Rattle.sorted.specs.declared.Place.the-variants.{At, Gap}
 use Rattle.sorted.specs.Keys.{SearchesWord}
-use Rattle.session.specs.Automaton.{Adds, Puts, Places}
+use Rattle.automaton.specs.Promise.{Adds, Puts, Places}
 
 pub added : (m s w : ℕ) → s < 64 → ((t : ℕ) → member t w ≡ (member t m || eqb t s)) → Adds m s w
 added m s w h is t = (

@@ -1,8 +1,8 @@
--- `automaton::put` meets its contract.
-use Rattle.session.proofs.Adding.{put-at, not-put}
+-- `put` meets its contract.
+use Rattle.automaton.proofs.Adding.{put-at, not-put}
 use borrow.Author.Needs.{needs}
-use Rattle.session.proofs.automaton.put.Statement.{statement}
-use Rattle.session.proofs.automaton.put.Tie as tie
+use Rattle.automaton.proofs.put.Statement.{statement}
+use Rattle.automaton.proofs.put.Tie as tie
 
 mul-add : tie.Need-mul-add
 mul-add c = search needs

@@ -1,35 +1,29 @@
--- The masks of the rows that were passed, and that those of all rows are the masks of the machine.
-use Prim.Native.Nat.{ℕ, zero, suc, _<_, _≤_, _-_}
+-- The masks of the rows that were passed, and that with all rows passed they are those that the promise gives.
+use Prim.Native.Nat.{ℕ, zero, suc, _<_, _≤_}
 use mathlib.Core.Path.{_≡_, refl, ap, ap₂, sym, _∙_, subst}
 use mathlib.Core.Logic.{_⊎_, inl, inr, ⊎-elim, _↔_}
-use mathlib.Core.List.{List, [], _∷_, _++_, map, List·Memᴰ·head, List·Memᴰ·tail, List·Memᴰ·not-nil, List·Memᴰ·append-cases, List·Memᴰ·eq-of-singleton, Memᴰ·cast, Memᴰ·append-left, Memᴰ·append-right}
-use lib.ListN.{length, take, getD, replicate, length-map, List·getD-append}
-use lib.Seq.{take-at, take-append-seam}
+use mathlib.Core.List.{List, [], _∷_, _++_, List·Memᴰ·head, List·Memᴰ·not-nil, List·Memᴰ·append-cases, List·Memᴰ·eq-of-singleton, Memᴰ·cast, Memᴰ·append-left, Memᴰ·append-right}
+use lib.ListN.{length, take, getD, replicate}
+use lib.Seq.{getD-take}
 use native.Mathlib.Omega.{arith}
-use Rattle.lists.specs.Tests.{_among_, Once}
-use Rattle.lists.specs.Order.{Sorted}
-use Rattle.lists.proofs.Deciding.{eqb·, ltb·, dec·, so, map-in, map-out}
-use Rattle.lists.proofs.Places.{rising}
-use Rattle.lists.proofs.Sorting.{before·}
+use Rattle.lists.specs.Tests.{_among_}
+use Rattle.lists.proofs.Places.{getD-among, getD-map, rising}
 use Rattle.masks.specs.Mask.{_∈_}
 use Rattle.masks.proofs.Member.{in-none}
 use Rattle.sorted.specs.Keys.{Rising}
 use Rattle.rows.specs.declared.Row.{Row}
 use Rattle.rows.specs.declared.Row.the-variants.{Initial, Final, Successor, LeftLimit, RightLimit}
-use Rattle.rows.specs.Rows.{sets}
+use Rattle.rows.specs.Rows.{AllFit, sets}
+use Rattle.rows.specs.Keys.{high, low, row-from}
+use Rattle.rows.proofs.Keys.{key-back}
 use Rattle.rows.proofs.Sets.{sets-sorted, sets-once}
-use Rattle.machine.specs.Machine.{Machine}
-use Rattle.machine.specs.WellFormed.{WellFormed}
-use Rattle.table.specs.Arrays.{padded}
-use Rattle.session.specs.declared.Slot.{Slot}
-use Rattle.session.specs.declared.Session.{Session}
-use Rattle.session.specs.declared.automaton.Automaton.{Automaton}
-use Rattle.session.specs.Record.{slot, blank, record-of, Represents}
-use Rattle.session.specs.Automaton.{Adds, Puts, Places, Gives}
+use Rattle.table.specs.Arrays.{Keyed}
+use Rattle.automaton.specs.declared.Automaton.{Automaton}
+use Rattle.automaton.specs.Promise.{Adds, Puts, Places, Gives}
 
--- some slot of the list has a row with P
-abbrev Some : (Row → Type 0) → List Slot → Type 0
-Some P l = (x : Slot) × x among l × P (x .row)
+-- some row of the list has P
+abbrev Some : (Row → Type 0) → List Row → Type 0
+Some P l = (x : Row) × x among l × P x
 
 -- what puts a state into a mask
 abbrev Starts : ℕ → Row → Type 0
@@ -47,8 +41,8 @@ Enters P t x = (x ≡ LeftLimit P t) × (t < 64)
 abbrev Leaves : ℕ → ℕ → Row → Type 0
 Leaves P t x = (x ≡ RightLimit t P) × (t < 64)
 
--- the masks are those of the slots of a list
-pub record Passed (words : List ℕ) (n : ℕ) (l : List Slot) (letters lefts rights : List ℕ) (initials finals : ℕ) : Type 0 where
+-- the masks are those of the rows of a list
+pub record Passed (words : List ℕ) (n : ℕ) (l : List Row) (letters lefts rights : List ℕ) (initials finals : ℕ) : Type 0 where
   pub sizes : (length letters ≡ 64) × (length lefts ≡ 64) × (length rights ≡ 64)
   pub starts : (t : ℕ) → (t ∈ initials) ↔ Some (Starts t) l
   pub ends : (t : ℕ) → (t ∈ finals) ↔ Some (Ends t) l
@@ -76,24 +70,24 @@ none-passed words n = record {
   leaves = λ o i t l. nobody (Leaves (getD words i 0) t) t (zeros 64 i);
 }
 
--- ---- one slot more
+-- ---- one row more
 
 never : _≡_ {A = ℕ} 0 1 → ⊥
 never e = omega arith
 
-module _ (P : Row → Type 0) (l : List Slot) (x : Slot) where
-  more : Some P (l ++ (x ∷ [])) ↔ (Some P l ⊎ P (x .row))
+module _ (P : Row → Type 0) (l : List Row) (x : Row) where
+  more : Some P (l ++ (x ∷ [])) ↔ (Some P l ⊎ P x)
   more = (
-    (λ s. ⊎-elim (λ m. inl (s .0, m, s .2)) (λ m. inr (subst (λ (y : Slot). P (y .row)) (List·Memᴰ·eq-of-singleton m) (s .2))) (List·Memᴰ·append-cases l (s .1))),
+    (λ s. ⊎-elim (λ m. inl (s .0, m, s .2)) (λ m. inr (subst P (List·Memᴰ·eq-of-singleton m) (s .2))) (List·Memᴰ·append-cases l (s .1))),
     ⊎-elim (λ s. (s .0, Memᴰ·append-left (x ∷ []) (s .1), s .2)) (λ p. (x, Memᴰ·append-right l (List·Memᴰ·head refl), p)),
   )
 
-  -- the slot's row adds to the mask
-  own : {X Y : Type 0} → Y ↔ (X ⊎ P (x .row)) → X ↔ Some P l → Y ↔ Some P (l ++ (x ∷ []))
+  -- the row adds to the mask
+  own : {X Y : Type 0} → Y ↔ (X ⊎ P x) → X ↔ Some P l → Y ↔ Some P (l ++ (x ∷ []))
   own f h = ((λ y. more .1 (⊎-elim (λ i. inl (h .0 i)) inr (f .0 y))), λ s. f .1 (⊎-elim (λ i. inl (h .1 i)) inr (more .0 s)))
 
   -- it does not
-  other : {X : Type 0} → ¬ P (x .row) → X ↔ Some P l → X ↔ Some P (l ++ (x ∷ []))
+  other : {X : Type 0} → ¬ P x → X ↔ Some P l → X ↔ Some P (l ++ (x ∷ []))
   other n h = ((λ i. more .1 (inl (h .0 i))), λ s. ⊎-elim (h .1) (λ p. absurd (n p)) (more .0 s))
 
 -- a row with one state, in the mask of its kind
@@ -123,8 +117,8 @@ limit-own f only words n few masks new P q at e there size put o i t l = let is 
       inr (u, omega arith, sym (g .1), omega (arith, w .1, g .1))) k),
 )
 
-module _ (words : List ℕ) (n : ℕ) (few : n ≤ 64) {l : List Slot} {letters lefts rights : List ℕ} {initials finals : ℕ} (h : Passed words n l letters lefts rights initials finals) (x : Slot) where
-  pub pass-initial : {s r : ℕ} → x .row ≡ Initial s → Adds initials s r → Passed words n (l ++ (x ∷ [])) letters lefts rights r finals
+module _ (words : List ℕ) (n : ℕ) (few : n ≤ 64) {l : List Row} {letters lefts rights : List ℕ} {initials finals : ℕ} (h : Passed words n l letters lefts rights initials finals) (x : Row) where
+  pub pass-initial : {s r : ℕ} → x ≡ Initial s → Adds initials s r → Passed words n (l ++ (x ∷ [])) letters lefts rights r finals
   pass-initial {s} {r} e is = record {
     sizes = h .sizes;
     starts = λ t. own (Starts t) l x (state-own Initial (λ a b i. cc) initials s r e is t) (h .starts t);
@@ -134,7 +128,7 @@ module _ (words : List ℕ) (n : ℕ) (few : n ≤ 64) {l : List Slot} {letters 
     leaves = λ o i t k. other (Leaves (getD words i 0) t) l x (λ p. never (cc (p .0))) (h .leaves o i t k);
   }
 
-  pub pass-final : {s r : ℕ} → x .row ≡ Final s → Adds finals s r → Passed words n (l ++ (x ∷ [])) letters lefts rights initials r
+  pub pass-final : {s r : ℕ} → x ≡ Final s → Adds finals s r → Passed words n (l ++ (x ∷ [])) letters lefts rights initials r
   pass-final {s} {r} e is = record {
     sizes = h .sizes;
     starts = λ t. other (Starts t) l x (λ p. never (cc (p .0))) (h .starts t);
@@ -144,7 +138,7 @@ module _ (words : List ℕ) (n : ℕ) (few : n ≤ 64) {l : List Slot} {letters 
     leaves = λ o i t k. other (Leaves (getD words i 0) t) l x (λ p. never (cc (p .0))) (h .leaves o i t k);
   }
 
-  pub pass-step : {p a q : ℕ} {new : List ℕ} → x .row ≡ Successor p a q → Puts letters p q new → Passed words n (l ++ (x ∷ [])) new lefts rights initials finals
+  pub pass-step : {p a q : ℕ} {new : List ℕ} → x ≡ Successor p a q → Puts letters p q new → Passed words n (l ++ (x ∷ [])) new lefts rights initials finals
   pass-step {new = new} e is = record {
     sizes = (is .length-is ∙ h .sizes .0, h .sizes .1, h .sizes .2);
     starts = λ t. other (Starts t) l x (λ p. never (cc (p .0))) (h .starts t);
@@ -154,7 +148,7 @@ module _ (words : List ℕ) (n : ℕ) (few : n ≤ 64) {l : List Slot} {letters 
     leaves = λ o i t k. other (Leaves (getD words i 0) t) l x (λ p. never (cc (p .0))) (h .leaves o i t k);
   }
 
-  pub pass-left : {P q : ℕ} (at : ℕ) {new : List ℕ} → x .row ≡ LeftLimit P q → Places words n P at → Puts lefts at q new → Passed words n (l ++ (x ∷ [])) letters new rights initials finals
+  pub pass-left : {P q : ℕ} (at : ℕ) {new : List ℕ} → x ≡ LeftLimit P q → Places words n P at → Puts lefts at q new → Passed words n (l ++ (x ∷ [])) letters new rights initials finals
   pass-left {P} {q} at {new} e there is = record {
     sizes = (h .sizes .0, is .length-is ∙ h .sizes .1, h .sizes .2);
     starts = λ t. other (Starts t) l x (λ p. never (cc (p .0))) (h .starts t);
@@ -164,7 +158,7 @@ module _ (words : List ℕ) (n : ℕ) (few : n ≤ 64) {l : List Slot} {letters 
     leaves = λ o i t k. other (Leaves (getD words i 0) t) l x (λ p. never (cc (p .0))) (h .leaves o i t k);
   }
 
-  pub pass-right : {P q : ℕ} (at : ℕ) {new : List ℕ} → x .row ≡ RightLimit q P → Places words n P at → Puts rights at q new → Passed words n (l ++ (x ∷ [])) letters lefts new initials finals
+  pub pass-right : {P q : ℕ} (at : ℕ) {new : List ℕ} → x ≡ RightLimit q P → Places words n P at → Puts rights at q new → Passed words n (l ++ (x ∷ [])) letters lefts new initials finals
   pass-right {P} {q} at {new} e there is = record {
     sizes = (h .sizes .0, h .sizes .1, is .length-is ∙ h .sizes .2);
     starts = λ t. other (Starts t) l x (λ p. never (cc (p .0))) (h .starts t);
@@ -176,54 +170,40 @@ module _ (words : List ℕ) (n : ℕ) (few : n ≤ 64) {l : List Slot} {letters 
 
 -- ---- all rows
 
-module _ (m : Machine) (w : WellFormed m) where
-  abbrev words : List ℕ
-  words = padded 64 0 (sets (m .rows))
+-- the row of a key
+pub row-there : (rows : List Row) → AllFit rows → (highs lows : List ℕ) (n : ℕ) → Keyed rows highs lows n → (i : ℕ) → i < n → row-from (getD highs i 0) (getD lows i 0) ≡ getD rows i (Initial 0)
+row-there rows fit highs lows n keyed i h =
+    let k : i < length rows = omega (arith, keyed .count) in
+    let a : getD highs i 0 ≡ high (getD rows i (Initial 0)) = sym (getD-take n highs i 0 h) ∙ ap (λ (l : List ℕ). getD l i 0) (keyed .highs-are) ∙ getD-map high rows i (Initial 0) 0 k in
+    let b : getD lows i 0 ≡ low (getD rows i (Initial 0)) = sym (getD-take n lows i 0 h) ∙ ap (λ (l : List ℕ). getD l i 0) (keyed .lows-are) ∙ getD-map low rows i (Initial 0) 0 k in
+    rw (a, b) (key-back (getD rows i (Initial 0)) (fit (getD rows i (Initial 0)) (getD-among rows i (Initial 0) k)))
 
-  words-rise : Rising words (length (sets (m .rows)))
-  words-rise i j p q = rw (List·getD-append (sets (m .rows)) (replicate (64 - length (sets (m .rows))) 0) 0 i (omega arith), List·getD-append (sets (m .rows)) (replicate (64 - length (sets (m .rows))) 0) 0 j q)
-      (rising (sets (m .rows)) (sets-sorted (m .rows)) (sets-once (m .rows)) i j p q)
+module _ (rows : List Row) (fit : AllFit rows) (words : List ℕ) (k : ℕ) (count : k ≡ length (sets rows)) (are : take k words ≡ sets rows) (few : k ≤ 64) where
+  word-at : (i : ℕ) → i < k → getD words i 0 ≡ getD (sets rows) i 0
+  word-at i l = sym (getD-take k words i 0 l) ∙ ap (λ (s : List ℕ). getD s i 0) are
 
-  -- a row that stands, in its slot
-  stands : (P : Row → Type 0) → Some P (map slot (m .rows)) ↔ ((r : Row) × r among m .rows × P r)
-  stands P = (
-    (λ s. let k = map-out slot (s .0) (m .rows) (s .1) in (k .0, k .1, subst (λ (x : Slot). P (x .row)) (k .2) (s .2))),
-    λ s. (slot (s .0), map-in slot (s .1), s .2),
-  )
+  -- the sets stand in order
+  words-rise : Rising words k
+  words-rise i j p q = rw (word-at i (omega arith), word-at j q)
+      (rising (sets rows) (sets-sorted rows) (sets-once rows) i j p (omega arith))
 
-  all-passed : (a : Automaton) → Passed words (length (sets (m .rows))) (map slot (m .rows)) (a .letters) (a .lefts) (a .rights) (a .initials) (a .finals) → Gives m (record-of m) a
-  unfolding record-of
-  all-passed a h = record {
+  -- a row whose state is below 64 where it stands
+  one-row : (x : Row) (t : ℕ) → (x among rows → t < 64) → {X : Type 0} → X ↔ Some (λ y. (y ≡ x) × (t < 64)) rows → X ↔ x among rows
+  one-row x t f h = ((λ i. let s = h .0 i in Memᴰ·cast (sym (s .2 .0)) (s .1)), λ m. h .1 (x, m, (refl, f m)))
+
+  -- the masks of all the rows
+  pub passed-all : (a : Automaton) → Passed words k rows (a .letters) (a .lefts) (a .rights) (a .initials) (a .finals) → Gives rows words k a
+  passed-all a h = record {
     masked = record {
-      few = w .table .few-sets;
-      sets-are = take-append-seam (sets (m .rows)) _;
+      few = few;
+      sets-are = are;
       letter-iff = λ p q. (
-        (λ i. let s = stands (Leads p q) .0 (h .leads p q .0 i) in (s .2 .0, Memᴰ·cast (sym (s .2 .1)) (s .1))),
-        λ i. let f = w .table .fit (Successor p (i .0) q) (i .1) in h .leads p q .1 (stands (Leads p q) .1 (Successor p (i .0) q, i .1, (i .0, refl, f .0, f .2))),
+        (λ i. let s = h .leads p q .0 i in (s .2 .0, Memᴰ·cast (sym (s .2 .1)) (s .1))),
+        λ i. let f = fit (Successor p (i .0) q) (i .1) in h .leads p q .1 (Successor p (i .0) q, i .1, (i .0, refl, f .0, f .2)),
       );
-      left-iff = λ i r l. let P = getD words i 0 in (
-        (λ k. let s = stands (Enters P r) .0 (h .enters words-rise i r l .0 k) in Memᴰ·cast (sym (s .2 .0)) (s .1)),
-        λ k. h .enters words-rise i r l .1 (stands (Enters P r) .1 (LeftLimit P r, k, (refl, w .table .fit (LeftLimit P r) k .2))),
-      );
-      right-iff = λ i r l. let P = getD words i 0 in (
-        (λ k. let s = stands (Leaves P r) .0 (h .leaves words-rise i r l .0 k) in Memᴰ·cast (sym (s .2 .0)) (s .1)),
-        λ k. h .leaves words-rise i r l .1 (stands (Leaves P r) .1 (RightLimit r P, k, (refl, w .table .fit (RightLimit r P) k .2))),
-      );
+      left-iff = λ i r l. let x = LeftLimit (getD words i 0) r in one-row x r (λ m. fit x m .2) (h .enters words-rise i r l);
+      right-iff = λ i r l. let x = RightLimit r (getD words i 0) in one-row x r (λ m. fit x m .2) (h .leaves words-rise i r l);
     };
-    initial-iff = λ t. (
-      (λ k. let s = stands (Starts t) .0 (h .starts t .0 k) in Memᴰ·cast (sym (s .2 .0)) (s .1)),
-      λ k. h .starts t .1 (stands (Starts t) .1 (Initial t, k, (refl, w .table .fit (Initial t) k))),
-    );
-    final-iff = λ t. (
-      (λ k. let s = stands (Ends t) .0 (h .ends t .0 k) in Memᴰ·cast (sym (s .2 .0)) (s .1)),
-      λ k. h .ends t .1 (stands (Ends t) .1 (Final t, k, (refl, w .table .fit (Final t) k))),
-    );
+    initial-iff = λ t. one-row (Initial t) t (fit (Initial t)) (h .starts t);
+    final-iff = λ t. one-row (Final t) t (fit (Final t)) (h .ends t);
   }
-
--- the masks of all the slots in use are those of the machine
-pub passed-all : (m : Machine) (s : Session) (a : Automaton) → Represents m s
-    → Passed (s .sets) (s .«set_count») (take (s .«row_count») (s .rows)) (a .letters) (a .lefts) (a .rights) (a .initials) (a .finals) → Gives m s a
-unfolding record-of
-passed-all m s a r = subst
-    (λ (x : Session). Passed (x .sets) (x .«set_count») (take (x .«row_count») (x .rows)) (a .letters) (a .lefts) (a .rights) (a .initials) (a .finals) → Gives m x a)
-    (sym (r .whole)) (λ h. all-passed m (r .formed) a (rw (take-at (map slot (m .rows)) (replicate (256 - length (map slot (m .rows))) blank) (length (m .rows)) (length-map (m .rows) slot)) at h))

@@ -1,8 +1,8 @@
--- `automaton::add` meets its contract.
-use Rattle.session.proofs.Adding.{added, not-added}
+-- `add` meets its contract.
+use Rattle.automaton.proofs.Adding.{added, not-added}
 use borrow.Author.Needs.{needs}
-use Rattle.session.proofs.automaton.add.Statement.{statement}
-use Rattle.session.proofs.automaton.add.Tie as tie
+use Rattle.automaton.proofs.add.Statement.{statement}
+use Rattle.automaton.proofs.add.Tie as tie
 
 with-requires : tie.Need-with-requires
 with-requires c κs = search needs

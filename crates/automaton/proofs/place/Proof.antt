@@ -1,8 +1,8 @@
--- `automaton::place` meets its contract.
-use Rattle.session.proofs.Adding.{found-place, no-place}
+-- `place` meets its contract.
+use Rattle.automaton.proofs.Adding.{found-place, no-place}
 use borrow.Author.Needs.{needs}
-use Rattle.session.proofs.automaton.place.Statement.{statement}
-use Rattle.session.proofs.automaton.place.Tie as tie
+use Rattle.automaton.proofs.place.Statement.{statement}
+use Rattle.automaton.proofs.place.Tie as tie
 
 find-word-requires : tie.Need-find-word-requires
 find-word-requires c κs = search needs
