@@ -47,7 +47,7 @@ closed-kept m letters words lefts rights starts ends n g b r = record {
 -- ---- one round
 
 -- the masks of the places with a round are those of the claims that are open
-forced-of : (m : Machine) → WellFormed m → (words : List ℕ) (n : ℕ) → Worded (m .rows) words n → (loop-rounds mix-rounds : List ℕ) → loop-rounds ≡ rounds-of m loops → mix-rounds ≡ rounds-of m mixes
+pub forced-of : (m : Machine) → WellFormed m → (words : List ℕ) (n : ℕ) → Worded (m .rows) words n → (loop-rounds mix-rounds : List ℕ) → loop-rounds ≡ rounds-of m loops → mix-rounds ≡ rounds-of m mixes
     → (loop-mask mix-mask : ℕ) → OpenPlaces loop-rounds n loop-mask → OpenPlaces mix-rounds n mix-mask → Forced (λ c. c among open-claims m) words n loop-mask mix-mask
 forced-of m w words n d loop-rounds mix-rounds is-l is-m loop-mask mix-mask f g = record {
   loop-iff = place loops loop-mask (subst (λ (l : List ℕ). OpenPlaces l n loop-mask) is-l f);

@@ -2,9 +2,7 @@ pub mod Writing
 pub mod Standing
 pub mod Whole
 pub mod Saved
-pub mod OpenClaims
 pub mod Batches
-pub mod Marking
 pub mod Rounded
 pub mod Phases
 pub mod Printed

@@ -34,13 +34,14 @@ use Rattle.session.specs.declared.Session.{Session}
 use Rattle.automaton.specs.declared.Automaton.{Automaton}
 use Rattle.session.specs.declared.Answer.the-variants.{Refused, Wrote as Written}
 use Rattle.session.specs.declared.Reply.{Reply}
-use Rattle.session.specs.Record.{round-of, record-of, Represents}
-use Rattle.session.specs.Automaton.{Reads, OpenPlaces}
+use Rattle.session.specs.Record.{record-of, Represents}
+use Rattle.session.specs.Automaton.{Reads}
 use Rattle.session.specs.Promise.{reply-of, Writes, WritesSettled}
 use Rattle.session.specs.Standing.{standing, reply, PutAt}
 use Rattle.session.specs.Printing.{openings-text, head-text, walked-text, Finds}
 use Rattle.session.proofs.Whole.{set-count-of, phase-of, standing-of}
-use Rattle.session.proofs.OpenClaims.{forced}
+use Rattle.rounds.specs.Arrays.{round-of, OpenPlaces}
+use Rattle.session.proofs.Rounded.{forced}
 use Rattle.session.proofs.Writing.{wrote-more}
 
 rounds-count : (m : Machine) (s : Session) → Represents m s → s .rounds ≡ m .rounds
@@ -57,7 +58,7 @@ pub finds : (s : Session) (high low back : List ℕ) (a : Automaton) (loop-mask 
 finds s high low back a loop-mask mix-mask w k reads turned h g f m p =
     let r = reads m p in
     f (a .letters) (m .rows) (open-claims m) (s .«set_count») turned
-    (record { masked = r .masked; forced = forced m s loop-mask mix-mask p h g })
+    (record { masked = r .masked; forced = forced m s p loop-mask mix-mask h g })
     (sym (set-count-of m s p))
     (subst (λ rows. Keyed rows high low (s .«row_count»)) (standing-of m s p) k)
     (p .formed .table) (r .initial-iff) (r .final-iff)

@@ -17,10 +17,12 @@ use Rattle.machine.specs.Calls.{Call}
 use Rattle.machine.specs.WellFormed.{Table, Made}
 use Rattle.machine.proofs.Outcomes.{rows-to}
 use Rattle.table.specs.Arrays.{padded}
+use Rattle.rounds.specs.Arrays.{rounds-of}
+use Rattle.rounds.proofs.OpenClaims.{no-rounds}
 use Rattle.session.specs.declared.Slot.{Slot}
 use Rattle.session.specs.declared.Session.{Session}
 use Rattle.session.specs.declared.Reply.{Reply}
-use Rattle.session.specs.Record.{slot, blank, rounds-of, record-of, Represents}
+use Rattle.session.specs.Record.{slot, blank, record-of, Represents}
 use Rattle.session.specs.Promise.{Keeps, Writes}
 use Rattle.session.specs.Standing.{first-rows, standing, in-range, with-table}
 

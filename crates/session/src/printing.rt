@@ -2,7 +2,6 @@
 use crate::Answer;
 use crate::Reply;
 use crate::Session;
-use crate::automaton::open_mask;
 use crate::replies::in_range;
 use machine::Phase;
 use machine::Verdict;
@@ -68,8 +67,8 @@ impl Session {
         let starts = a.initials;
         let ends = a.finals;
         let back = masks::transpose(&letters);
-        let loops = open_mask(&loop_rounds, set_count);
-        let mixes = open_mask(&mix_rounds, set_count);
+        let loops = rounds::open_mask(&loop_rounds, set_count);
+        let mixes = rounds::open_mask(&mix_rounds, set_count);
         walks::first_walk(
             &high,
             &low,
