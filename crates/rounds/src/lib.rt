@@ -86,7 +86,7 @@ fn mark(rounds: &mut [u8; 64], opened: u64, k: u8)
     while rest != 0 {
         let i = masks::lowest(rest);
         rounds[i as usize] = k;
-        rest = masks::difference(rest, masks::with(0, i));
+        rest = masks::without_lowest(rest);
     }
 }
 

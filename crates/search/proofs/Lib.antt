@@ -1,5 +1,4 @@
 -- The laws that the proofs of `search` share.
-pub mod Lowest
 pub mod Gathering
 pub mod Chains
 pub mod Hops

@@ -1,7 +1,7 @@
 // The search: does a set loop, does it mix, does a walk lead from an initial to a final state.
 
 ghost use mathlib.Core.Path.{_≡_};
-ghost use mathlib.Core.Logic.{_⊎_, _↔_, _≢_};
+ghost use mathlib.Core.Logic.{_⊎_, _↔_};
 ghost use mathlib.Core.Bool.{true, false};
 ghost use Prim.Native.Nat.{ℕ, _≤_, _<_};
 ghost use Rattle.lists.specs.Tests.{Decides};
@@ -17,6 +17,7 @@ use masks::is_subset;
 use masks::lowest;
 use masks::union;
 use masks::with;
+use masks::without_lowest;
 
 // Claims, as two masks of places among the sets: those that loop and those that mix.
 pub struct Claims {
@@ -37,14 +38,6 @@ fn marked(b: bool, i: u8) -> u64
     ensures { λ r. ⌜ ((t : ℕ) → (t ∈ r) ↔ ((t ≡ i) × (b ≡ true))) ⌝ }
 {
     if b { with(0, i) } else { 0 }
-}
-
-// The places of `m` but the lowest.
-fn without_lowest(m: u64) -> u64
-    requires { ⌜ 0 < m ⌝ }
-    ensures { λ r. ⌜ ((i : ℕ) → i ∈ m → ((t : ℕ) → t ∈ m → i ≤ t) → (t : ℕ) → (t ∈ r) ↔ ((t ∈ m) × (t ≢ i))) ⌝ }
-{
-    intersection(m, m - 1)
 }
 
 // The places whose words are parts of `p`.

@@ -2,7 +2,7 @@
 use Prim.Native.Nat.{ℕ, _^_, _<_}
 use mathlib.Core.Path.{_≡_, refl, ap, sym, _∙_, subst}
 use mathlib.Core.Bool.{Bool, false, cond}
-use mathlib.Core.Logic.{_⊎_, inl, inr, ⊎-elim}
+use mathlib.Core.Logic.{_⊎_, inl, inr, ⊎-elim, _↔_, _≢_}
 use native.Mathlib.Omega.{arith}
 use lib.Count.{ones}
 use lib.ListN.{getD, length, length-set}
@@ -11,8 +11,8 @@ use lib.Dec.{eqb}
 use borrow.Author.Needs.{needs}
 use borrow.Author.Tests.{eqb-true, eqb-false}
 use Rattle.masks.specs.Mask.{member, _∈_, _⊆_}
-use Rattle.masks.proofs.Member.{in-none, member-lt, true-or-false, not-both, with-none, difference-left, difference-cases}
-use Rattle.search.proofs.Gathering.{gather-less}
+use Rattle.masks.proofs.Member.{in-none, member-lt, true-or-false, not-both}
+use Rattle.search.proofs.Gathering.{taken-less}
 use Rattle.rounds.proofs.mark.Statement.{statement}
 use Rattle.rounds.proofs.mark.Tie as tie
 
@@ -40,37 +40,34 @@ cast-rounds c = omega (arith, low-lt c)
 element-write-rounds : tie.Need-element-write-rounds Inv-loop μ-loop
 element-write-rounds c = low-lt c
 
-with-requires : tie.Need-with-requires Inv-loop μ-loop
-with-requires c κs = low-lt c
+without-lowest-requires : tie.Need-without-lowest-requires Inv-loop μ-loop
+without-lowest-requires c κs = search needs
 
-difference-requires : tie.Need-difference-requires Inv-loop μ-loop
-difference-requires c κs = search needs
+-- the places that are left
+left : (c : tie.After-without-lowest Inv-loop μ-loop) → let low = c .before in (t : ℕ) → (t ∈ c .without-lowest .result) ↔ ((t ∈ low .before .before .loop .rest) × (t ≢ low .lowest .result))
+left c = let low = c .before .lowest in c .without-lowest .ensures (low .result) (low .ensures .0) (low .ensures .1)
 
 loop-less : tie.Need-loop-less Inv-loop μ-loop
 loop-less c =
-    let w = c .before in
-    let low = w .before in
+    let low = c .before in
     let at = low .before .before in
-    gather-less (low .lowest .result) (at .loop .rest) (w .with .result) (c .difference .result) (low .lowest .ensures .0) (w .with .ensures) (c .difference .ensures) (at .loop .inv .0) (c .difference .ok)
+    taken-less (low .lowest .result) (at .loop .rest) (c .without-lowest .result) (low .lowest .ensures .0) (left c) (at .loop .inv .0) (c .without-lowest .ok)
 
 loop-again : tie.Need-loop-again Inv-loop μ-loop
 loop-again c =
-    let w = c .before in
-    let low = w .before in
+    let low = c .before in
     let at = low .before .before in
     let i = low .lowest .result in
     let old = at .loop .rounds in
     let k = at .before .args .k in
-    let rest = at .loop .rest in
-    let same : (j : ℕ) → j ∈ w .with .result → j ≡ i = λ j h. with-none i (w .with .result) (w .with .ensures) j h in
     let there : (e : length (at .before .args .rounds .now) ≡ 64) → i < length old = λ e. omega (arith, low-lt low, at .loop .inv .1) in (
-      c .difference .ok,
+      c .without-lowest .ok,
       simp length-set (at .loop .inv .1),
-      λ t h. at .loop .inv .2 t (difference-left rest (w .with .result) (c .difference .result) (c .difference .ensures) t h),
+      λ t h. at .loop .inv .2 t (left c t .0 h .0),
       λ e j h. ⊎-elim
-          (λ r. ⊎-elim (λ x. inr (rw (same j x) (getD-set-same old i k 0 (there e)))) inl (difference-cases rest (w .with .result) (c .difference .result) (c .difference .ensures) j r))
-          (λ d. ⊎-elim (λ x. inr (rw (eqb-true j i x) (getD-set-same old i k 0 (there e)))) (λ x. inr (getD-set-other old i j k 0 (λ f. eqb-false j i x f) ∙ d)) (true-or-false (eqb j i)))
-          (at .loop .inv .3 e j h),
+          (λ x. inr (rw (eqb-true j i x) (getD-set-same old i k 0 (there e))))
+          (λ x. ⊎-elim (λ r. inl (left c j .1 (r, eqb-false j i x))) (λ d. inr (getD-set-other old i j k 0 (λ f. eqb-false j i x f) ∙ d)) (at .loop .inv .3 e j h))
+          (true-or-false (eqb j i)),
       λ j h. getD-set-other old i j k 0 (λ f. not-both (at .loop .inv .2 i (low .lowest .ensures .0)) (subst (λ n. member n (at .before .args .opened) ≡ false) f h)) ∙ at .loop .inv .4 j h,
     )
 
@@ -95,8 +92,7 @@ mark-spec =
     lowest-requires
     cast-rounds
     element-write-rounds
-    with-requires
-    difference-requires
+    without-lowest-requires
     loop-less
     loop-again
     returns)

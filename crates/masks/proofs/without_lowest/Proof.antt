@@ -1,9 +1,9 @@
--- `search::without_lowest` meets its contract.
+-- `masks::without_lowest` meets its contract.
 use native.Mathlib.Omega.{arith}
 use borrow.Author.Needs.{needs}
-use Rattle.search.proofs.Lowest.{lowest-left-out}
-use Rattle.search.proofs.without_lowest.Statement.{statement}
-use Rattle.search.proofs.without_lowest.Tie as tie
+use Rattle.masks.proofs.Leaving.{lowest-left-out}
+use Rattle.masks.proofs.without_lowest.Statement.{statement}
+use Rattle.masks.proofs.without_lowest.Tie as tie
 
 sub-intersection : tie.Need-sub-intersection
 sub-intersection c = omega arith
