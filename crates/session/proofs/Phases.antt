@@ -21,7 +21,7 @@ use Rattle.session.specs.declared.Reply.{Reply}
 use Rattle.session.specs.Record.{record-of, Represents}
 use Rattle.session.specs.Automaton.{Reads}
 use Rattle.session.specs.Promise.{reply-of, Keeps, KeepsOpen, KeepsRunning, KeepsClosed}
-use Rattle.session.specs.Standing.{reply, with-rounds}
+use Rattle.session.specs.Standing.{reply, rounds-in, with-rounds}
 use Rattle.session.proofs.Whole.{phase-of}
 use Rattle.session.proofs.Rounded.{rounded, closed-record, reopened-record, round-record}
 
@@ -85,7 +85,7 @@ close-done s a r t h c made m p e =
 
 pub round-done : (s : Session) (a : Automaton) (r : Rounds) (t : Session) → s .rounds < 129 → Reads s a
     → DoesRound (a .letters) (s .sets) (a .lefts) (a .rights) (a .initials) (a .finals) (s .«set_count»)
-    (record { «loop_rounds» = s .«loop_rounds»; «mix_rounds» = s .«mix_rounds»; phase = s .phase; count = s .rounds }) r
+    (rounds-in s) r
     → t ≡ rounded s r → KeepsRunning s round (reply t Done)
 round-done s a r t l h d made m p e = done-is m round (next-round m) t
     (ap (λ (x : Phase). call-in x m round) e ∙ round-test m true (so (ltb· (m .rounds) 129) (omega (arith, rounds-count m s p)))) (made ∙ round-record m s p a r h d)

@@ -18,7 +18,7 @@ use Rattle.lists.specs.Tests.{_among_}
 use Rattle.session.specs.declared.Session.{Session}
 use Rattle.session.specs.Record.{record-of, Represents}
 use Rattle.session.specs.Automaton.{Reads}
-use Rattle.session.specs.Standing.{with-rounds}
+use Rattle.session.specs.Standing.{rounds-in, with-rounds}
 use Rattle.session.proofs.Whole.{set-count-of, sets-array}
 
 -- the session with what the rounds keep
@@ -36,7 +36,7 @@ module _ (m : Machine) (s : Session) (p : Represents m s) where
     final-iff = g .final-iff;
   }
 
-  kept-of : Kept m (s .«loop_rounds») (s .«mix_rounds») (s .phase) (s .rounds)
+  pub kept-of : Kept m (s .«loop_rounds») (s .«mix_rounds») (s .phase) (s .rounds)
   unfolding record-of
   kept-of = record {
     loops-are = ap (λ (t : Session). t .«loop_rounds») (p .whole);
@@ -63,7 +63,7 @@ module _ (m : Machine) (s : Session) (p : Represents m s) where
 
   pub round-record : (a : Automaton) (r : Rounds) → Reads s a
       → DoesRound (a .letters) (s .sets) (a .lefts) (a .rights) (a .initials) (a .finals) (s .«set_count»)
-      (record { «loop_rounds» = s .«loop_rounds»; «mix_rounds» = s .«mix_rounds»; phase = s .phase; count = s .rounds }) r → rounded s r ≡ record-of (next-round m)
+      (rounds-in s) r → rounded s r ≡ record-of (next-round m)
   unfolding next-round
   round-record a r h d = kept-record (next-round m) (r .«loop_rounds») (r .«mix_rounds») (r .phase) (r .count) refl (d m (p .formed) (given-of a h) kept-of)
 

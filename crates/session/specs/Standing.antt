@@ -9,6 +9,7 @@ use Rattle.rows.specs.declared.Row.{Row}
 use Rattle.rows.specs.Rows.{AllFit}
 use Rattle.machine.specs.declared.Phase.{Phase}
 use Rattle.table.specs.Arrays.{padded, Keyed}
+use Rattle.rounds.specs.declared.Rounds.{Rounds}
 use Rattle.session.specs.declared.Slot.{Slot}
 use Rattle.session.specs.declared.Session.{Session}
 use Rattle.session.specs.declared.Answer.{Answer}
@@ -43,6 +44,10 @@ with-table s rows n sets k =
       phase = s .phase;
       rounds = s .rounds;
     }
+
+-- the rounds of the claims, the phase and the count of rounds
+abbrev pub rounds-in : Session → Rounds
+rounds-in s = record { «loop_rounds» = s .«loop_rounds»; «mix_rounds» = s .«mix_rounds»; phase = s .phase; count = s .rounds }
 
 -- the record with other rounds of the claims, another phase and another count of rounds
 abbrev pub with-rounds : Session → List ℕ → List ℕ → Phase → ℕ → Session

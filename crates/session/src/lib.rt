@@ -1,6 +1,6 @@
 // The session and its calls.
 mod loading;
-mod printing;
+mod prints;
 mod replies;
 mod running;
 mod saving;

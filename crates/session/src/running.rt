@@ -9,9 +9,25 @@ ghost use mathlib.Core.Path.{_≡_};
 ghost use Prim.Native.Nat.{_≤_, _<_};
 ghost use Rattle.machine.specs.Calls.{close, round, reopen};
 ghost use Rattle.session.specs.Promise.{Keeps, KeepsOpen, KeepsRunning, KeepsClosed};
-ghost use Rattle.session.specs.Standing.{with-rounds};
+ghost use Rattle.session.specs.Standing.{rounds-in, with-rounds};
 
 impl Session {
+    // The rounds of the claims, the phase and the count of rounds.
+    pub(crate) fn kept(self) -> Rounds
+        ensures { λ r. ⌜ r ≡ rounds-in self ⌝ }
+    {
+        let loop_rounds = self.loop_rounds;
+        let mix_rounds = self.mix_rounds;
+        let phase = self.phase;
+        let count = self.rounds;
+        Rounds {
+            loop_rounds,
+            mix_rounds,
+            phase,
+            count,
+        }
+    }
+
     // The session with other rounds of the claims, another phase and another count of rounds.
     fn with_rounds(self, now: Rounds) -> Session
         ensures { λ r. ⌜ r ≡ with-rounds self (now .«loop_rounds») (now .«mix_rounds») (now .phase) (now .count) ⌝ }
@@ -52,16 +68,7 @@ impl Session {
     {
         let words = self.sets;
         let n = self.set_count;
-        let loop_rounds = self.loop_rounds;
-        let mix_rounds = self.mix_rounds;
-        let phase = self.phase;
-        let count = self.rounds;
-        let before = Rounds {
-            loop_rounds,
-            mix_rounds,
-            phase,
-            count,
-        };
+        let before = self.kept();
         let a = self.automaton();
         let letters = a.letters;
         let lefts = a.lefts;

@@ -1,8 +1,11 @@
 -- `walk_at` meets its contract: what is written into the rest stands in the whole.
-use Rattle.session.proofs.Writing.{put-at}
+use mathlib.Core.Option.{some}
+use Rattle.machine.specs.Sheet.{walk-lines}
+use Rattle.walks.specs.Walks.{walk-of}
+use Rattle.sheets.proofs.Upto.{next-part}
 use borrow.Author.Needs.{needs}
-use Rattle.session.proofs.printing.walk_at.Statement.{statement}
-use Rattle.session.proofs.printing.walk_at.Tie as tie
+use Rattle.printing.proofs.walk_at.Statement.{statement}
+use Rattle.printing.proofs.walk_at.Tie as tie
 
 sub-put-walk : tie.Need-sub-put-walk
 sub-put-walk c = search needs
@@ -23,7 +26,10 @@ same-length : tie.Need-same-length
 same-length c = search needs
 
 returns : tie.Need-returns
-returns c = let a = c .before .before .before .before .before .args in put-at _ (a .buf .now) (c .before .before .put-walk .last .0) (a .at) (c .before .before .put-walk .ensures)
+returns c =
+    let p = c .before .before in
+    let a = p .before .before .before .args in
+    next-part (walk-lines (some (walk-of (a .walk)))) (a .buf .now) (p .put-walk .last .0) (a .at) (p .put-walk .ensures)
 
 pub walk-at-spec : {M : Type 1} → statement M
 walk-at-spec =

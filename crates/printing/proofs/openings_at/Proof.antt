@@ -1,8 +1,11 @@
 -- `openings_at` meets its contract: what is written into the rest stands in the whole.
-use Rattle.session.proofs.Writing.{put-at}
+use Rattle.lists.specs.Tests.{gather}
+use Rattle.machine.specs.Sheet.{opening-line}
+use Rattle.sheets.specs.Openings.{openings-in}
+use Rattle.sheets.proofs.Upto.{next-part}
 use borrow.Author.Needs.{needs}
-use Rattle.session.proofs.printing.openings_at.Statement.{statement}
-use Rattle.session.proofs.printing.openings_at.Tie as tie
+use Rattle.printing.proofs.openings_at.Statement.{statement}
+use Rattle.printing.proofs.openings_at.Tie as tie
 
 sub-put-openings : tie.Need-sub-put-openings
 sub-put-openings c = search needs
@@ -23,7 +26,10 @@ same-length : tie.Need-same-length
 same-length c = search needs
 
 returns : tie.Need-returns
-returns c = let a = c .before .before .before .before .before .args in put-at _ (a .buf .now) (c .before .before .put-openings .last .0) (a .at) (c .before .before .put-openings .ensures)
+returns c =
+    let p = c .before .before in
+    let a = p .before .before .before .args in
+    next-part (gather opening-line (openings-in (a .looped .now) (a .mixed .now) (a .words .now) (a .k) (a .count))) (a .buf .now) (p .put-openings .last .0) (a .at) (p .put-openings .ensures)
 
 pub openings-at-spec : {M : Type 1} → statement M
 openings-at-spec =
