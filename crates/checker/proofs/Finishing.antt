@@ -1,9 +1,7 @@
 -- A table that is closed and settled: what its machine prints.
 use Prim.Native.Nat.{ℕ}
 use mathlib.Core.Path.{_≡_, refl, ap, sym, _∙_, subst}
-use mathlib.Core.Bool.{Bool, true, false, cond}
 use mathlib.Core.List.{List}
-use lib.Dec.{ltb}
 use lib.ListN.{length, take}
 use lib.Seq.{take-append-seam}
 use Rattle.rows.specs.declared.Row.{Row}
@@ -12,9 +10,7 @@ use Rattle.machine.specs.declared.Phase.{Phase}
 use Rattle.machine.specs.declared.Phase.the-variants.{Open, Running, Settled}
 use Rattle.machine.specs.declared.Verdict.{Verdict}
 use Rattle.machine.specs.Machine.{Machine, open-with}
-use Rattle.machine.specs.Calls.{print, wrote, refused, Next, refuse, call-in, call, run, settle, buffer-after}
-use Rattle.machine.specs.Calls.{Answer as Told}
-use Rattle.machine.specs.Sheet.{sheet}
+use Rattle.machine.specs.Calls.{print, refused, call-in, call, run, settle, buffer-after}
 use Rattle.machine.specs.WellFormed.{Table, WellFormed}
 use Rattle.machine.proofs.Settling.{Settles, settles, after-after}
 use Rattle.machine.proofs.History.{settle-runs}
@@ -24,29 +20,10 @@ use Rattle.automaton.specs.Promise.{Gives, GivesKeyed}
 use Rattle.rounds.specs.declared.Rounds.{Rounds}
 use Rattle.rounds.specs.Promises.{Given, Kept, Settles as SettlesRows}
 use Rattle.table.specs.Arrays.{Keyed, Worded, Filed}
-use Rattle.session.specs.declared.Answer.{Answer}
-use Rattle.session.specs.declared.Answer.the-variants.{Done, Wrote as WroteN, Refused}
 use Rattle.session.specs.Promise.{answer-of}
+use Rattle.session.proofs.Printed.{answered, told}
 use Rattle.printing.specs.declared.Printed.{Printed}
-use Rattle.printing.specs.declared.Printed.the-variants.{Wrote as PrintedWrote, Short}
-use Rattle.printing.specs.Promise.{printed-of, Prints}
-
--- what the program answers for what was printed
-abbrev pub answered : Printed → Answer
-answered (PrintedWrote count) = WroteN count
-answered Short = Refused 12 0
-
--- a settled machine prints its sheet, or refuses with 12
-told : (m : Machine) (v : Verdict) (size : ℕ) → m .phase ≡ Settled v → answered (printed-of (call m (print size) .answer)) ≡ answer-of (call m (print size) .answer)
-unfolding call-in
-told m v size e = go (ltb size (length (sheet v m))) (ap (λ (p : Phase). call-in p m (print size) .answer) e)
-  where
-    l : List ℕ
-    l = sheet v m
-
-    go : (b : Bool) → call m (print size) .answer ≡ cond {A = Next} b (refuse m 12) (record { machine = m; answer = wrote l }) .answer → answered (printed-of (call m (print size) .answer)) ≡ answer-of (call m (print size) .answer)
-    go true f = ap (λ (x : Told). answered (printed-of x)) f ∙ sym (ap answer-of f)
-    go false f = ap (λ (x : Told). answered (printed-of x)) f ∙ sym (ap answer-of f)
+use Rattle.printing.specs.Promise.{Prints}
 
 module _ (rows : List Row) (t : Table rows) (highs lows words : List ℕ) (n k : ℕ) (f : Filed highs lows words n k rows)
     (a : Automaton) (g : GivesKeyed highs lows n words k a) (d : Rounds) (s : SettlesRows (a .letters) words (a .lefts) (a .rights) (a .initials) (a .finals) k d) where
@@ -72,7 +49,7 @@ module _ (rows : List Row) (t : Table rows) (highs lows words : List ℕ) (n k :
   is-settled v e old new r h =
       let q = sym (kept .phase-is) ∙ e in
       let x = h m (settled-formed rows t) q (subst (λ (l : List Row). Filed highs lows words n k l) (sym same-rows) f) (subst (λ (l : List Row). Gives l words k a) (sym same-rows) gives) kept in
-      (ap answered (x .0) ∙ told m v (length old) q, x .1)
+      (ap answered (x .0) ∙ told m v (length old) q .0, x .1)
 
 -- the three phases
 pub open-prints : (size : ℕ) (y : Machine) → call-in Open y (print size) .answer ≡ refused 9 0

@@ -11,7 +11,7 @@ use Rattle.lists.specs.Tests.{Decides, _among_}
 use Rattle.lists.specs.Writing.{Wrote}
 use Rattle.lists.proofs.Deciding.{yes·, no·, not-so, ltb·}
 use Rattle.rows.specs.declared.Row.{Row}
-use Rattle.rows.specs.Rows.{Bytes}
+use Rattle.rows.specs.Rows.{sets, Bytes}
 use Rattle.rows.specs.Batch.{Fed, fed, failed, feed}
 use Rattle.machine.specs.Machine.{Machine, open-with, fresh, load-row}
 use Rattle.machine.specs.Calls.{load, print, done, wrote, refused, Next, with-rows, call-in, call, run, settle, buffer-after}
@@ -40,6 +40,7 @@ bytes (x ∷ l) h b m = ⊎-elim (λ e. subst (λ n. n < 256) (sym e) (h 0)) (by
 
 -- empty arrays hold the empty table
 pub empty-filed : Filed (replicate 256 0) (replicate 256 0) (replicate 64 0) 0 0 []
+unfolding sets
 empty-filed = (record { count = refl; highs-are = refl; lows-are = refl }, record { count = refl; words-are = refl })
 
 load-feeds : (l : List ℕ) → call fresh (load l) ≡ with-rows fresh (feed load-row [] l)
