@@ -20,7 +20,7 @@ use Rattle.machine.specs.WellFormed.{Table, after, WellFormed}
 use Rattle.machine.proofs.Settling.{Settles, settles, after-after}
 use Rattle.machine.proofs.History.{settle-runs, no-more}
 use Rattle.search.specs.declared.Claims.{Claims}
-use Rattle.search.specs.Hops.{Unites}
+use Rattle.search.specs.Hops.{Unites, EndsBelow}
 use Rattle.search.specs.Masked.{Forced}
 use Rattle.search.specs.Promises.{AcceptsRight, Opens, OpensBelow}
 use Rattle.table.specs.Arrays.{Worded}
@@ -104,6 +104,14 @@ pub record Stage (rows : List Row) (words : List ℕ) (n : ℕ) (force : Claims)
 
 abbrev pub none : Claims
 none = record { loops = 0; mixes = 0 }
+
+-- the masks in to and from have the ends of all steps inside each set, forward and backward, with the claims in force but the new ones
+pub record Tracked (letters back words lefts rights : List ℕ) (n : ℕ) (force new : Claims) (to from : List ℕ) : Type 0 where
+  pub old : Claims
+  pub loops-are : Unites (old .loops) (new .loops) (force .loops)
+  pub mixes-are : Unites (old .mixes) (new .mixes) (force .mixes)
+  pub forward : EndsBelow letters words lefts rights (old .loops) (old .mixes) n to
+  pub backward : EndsBelow back words rights lefts (old .loops) (old .mixes) n from
 
 module _ (rows : List Row) (letters words lefts rights : List ℕ) (starts ends n : ℕ) (g : Given rows letters words lefts rights starts ends n) where
   pub stage-start : (b : Bool) → AcceptsRight letters words lefts rights 0 0 starts ends b → Stage rows words n none (replicate 64 0) (replicate 64 0) (judged b false) 0

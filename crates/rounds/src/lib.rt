@@ -180,10 +180,12 @@ pub fn settle(
     ensures { λ r. ⌜ Settles (now (letters .entry)) (now (words .entry)) (now (lefts .entry)) (now (rights .entry)) starts ends n r ⌝ }
 {
     let back = masks::transpose(letters);
-    let mut force = Claims { loops: 0, mixes: 0 };
-    let mut to = search::all_ends(letters, words, lefts, rights, force, n);
-    let mut from = search::all_ends(&back, words, rights, lefts, force, n);
-    let mut seen = search::reached(letters, words, lefts, rights, force, starts);
+    let none = Claims { loops: 0, mixes: 0 };
+    let mut force = none;
+    let mut new = none;
+    let mut to = search::all_ends(letters, words, lefts, rights, none, n);
+    let mut from = search::all_ends(&back, words, rights, lefts, none, n);
+    let mut seen = search::reached(letters, words, lefts, rights, none, starts);
     let mut phase = judge(search::accepted(starts, seen, ends), false);
     let mut loop_rounds = [0u8; 64];
     let mut mix_rounds = [0u8; 64];
@@ -192,7 +194,8 @@ pub fn settle(
         if !is_running(phase) {
             break;
         }
-        let new = search::open_next(letters, &back, words, lefts, rights, force, &to, &from, n);
+        search::add_ends(&mut to, &mut from, words, lefts, rights, new, n);
+        new = search::open_next(letters, &back, words, lefts, rights, force, &to, &from, n);
         force = with_new(force, new);
         seen = search::reached_more(letters, words, lefts, rights, force, new, starts, seen);
         phase = judge(
@@ -202,8 +205,6 @@ pub fn settle(
         count += 1;
         mark(&mut loop_rounds, new.loops, count);
         mark(&mut mix_rounds, new.mixes, count);
-        search::add_ends(&mut to, words, lefts, rights, new, n);
-        search::add_ends(&mut from, words, rights, lefts, new, n);
     }
     Rounds {
         loop_rounds,

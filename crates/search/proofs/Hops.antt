@@ -1,15 +1,20 @@
 -- Steps as the masks have them: the states to which they lead, and steps turned round.
-use Prim.Native.Nat.{ℕ}
-use mathlib.Core.Path.{_≡_, sym, _∙_}
+use Prim.Native.Nat.{ℕ, _+_, _<_, _≤_}
+use mathlib.Core.Path.{_≡_, refl, sym, subst, _∙_}
 use mathlib.Core.Bool.{_&&_, _||_}
 use mathlib.Core.Logic.{_⊎_, inl, inr, ⊎-elim}
 use mathlib.Core.List.{List}
 use lib.Bits.{bitOr}
-use lib.ListN.{getD}
+use lib.ListN.{getD, length, set, length-set}
+use lib.Seq.{getD-set-same, getD-set-other}
+use native.Mathlib.Omega.{arith}
+use borrow.Author.Count.{below-more}
 use Rattle.masks.specs.Graph.{Targets, Turned}
 use Rattle.masks.specs.Mask.{member, _∈_, _⊆_}
 use Rattle.masks.proofs.Member.{member-lt, member-or, union-left, union-right, union-cases, intersection-left, intersection-right, intersection-both}
 use Rattle.masks.proofs.Walks.{turned-back}
+use Rattle.search.specs.declared.Claims.{Claims}
+use Rattle.search.specs.Promises.{MoreEnds}
 use Rattle.search.specs.Hops.{Passes, Claimed, Hop, LetterHop, Onward, Inner, Unites, Ends}
 
 pub onward-letter : {letters : List ℕ} {m r : ℕ} → Targets letters m r → Onward (λ s t. t ∈ getD letters s 0) m r
@@ -139,3 +144,28 @@ ends-more letters words lefts rights old-loops old-mixes new-loops new-mixes loo
       (hop-either words lefts rights letters p (old .inner-loops) a (both (old .inner-loops) a) (old .inner-mixes) b (both (old .inner-mixes) b)
       (λ i. member-or i (old .inner-loops) a) (λ i. member-or i (old .inner-mixes) b) s t h);
 }
+
+-- ---- the ends of each set, one set after another
+
+-- of the places below i the ends are added, the others are as they were
+pub record Added (words lefts rights : List ℕ) (new : Claims) (i : ℕ) (before after : List ℕ) : Type 0 where
+  pub length-is : length after ≡ length before
+  pub done : length before ≡ 64 → (j : ℕ) → j < i → MoreEnds words lefts rights new (getD words j 0) (getD before j 0) (getD after j 0)
+  pub left : (j : ℕ) → i ≤ j → getD after j 0 ≡ getD before j 0
+
+module _ (words lefts rights : List ℕ) (new : Claims) (before : List ℕ) where
+  pub added-none : Added words lefts rights new 0 before before
+  added-none = record { length-is = refl; done = λ e j l. absurd (omega arith); left = λ j l. refl }
+
+  pub added-next : (i : ℕ) (after : List ℕ) (a b near r : ℕ) → i < 64 → Added words lefts rights new i before after
+      → Inner words (new .loops) (getD words i 0) a → Inner words (new .mixes) (getD words i 0) b → Onward (Claimed words lefts rights a b) (getD words i 0) near
+      → ((t : ℕ) → member t r ≡ (member t (getD after i 0) || member t near)) → Added words lefts rights new (i + 1) before (set after i r)
+  added-next i after a b near r l now is-a is-b is-near is = record {
+    length-is = length-set after i r ∙ now .length-is;
+    done = λ e. below-more _ i
+        (λ j h. subst (MoreEnds words lefts rights new (getD words j 0) (getD before j 0)) (sym (getD-set-other after i j r 0 (λ f. omega arith))) (now .done e j h))
+        (subst (MoreEnds words lefts rights new (getD words i 0) (getD before i 0)) (sym (getD-set-same after i r 0 (omega (arith, now .length-is))))
+        (λ letters old force is-l is-m found. ends-more letters words lefts rights (old .loops) (old .mixes) (new .loops) (new .mixes) (force .loops) (force .mixes) (getD words i 0) a b
+        (getD after i 0) near r is-l is-m is-a is-b is-near is (subst (Ends letters words lefts rights (old .loops) (old .mixes) (getD words i 0)) (sym (now .left i (omega arith))) found)));
+    left = λ j h. getD-set-other after i j r 0 (λ f. omega arith) ∙ now .left j (omega arith);
+  }

@@ -16,7 +16,7 @@ use Rattle.orderings.specs.Systems.{Allowed, AtHand, Holds}
 use Rattle.orderings.specs.Timelines.{timelines, Accepting}
 use Rattle.search.specs.declared.Claims.{Claims}
 use Rattle.search.specs.Masked.{Masked, Forced}
-use Rattle.search.specs.Hops.{Reached, Unites, Ends, EndsBelow}
+use Rattle.search.specs.Hops.{Reached, Unites, Ends}
 
 -- the masks are those of the rows, and the places those of the claims in force
 pub record Stands (letters words lefts rights : List ℕ) (loop-mask mix-mask : ℕ) (rows : List Row) (claims : List Claim) (n : ℕ) : Type 0 where
@@ -47,17 +47,14 @@ pub record SeenBefore (letters words lefts rights : List ℕ) (force new : Claim
   pub reached : Reached letters words lefts rights (old .loops) (old .mixes) starts seen
 
 -- where found has the ends of all steps inside p with old claims, r has those with the new ones too
-abbrev pub MoreEnds : List ℕ → List ℕ → List ℕ → ℕ → ℕ → ℕ → ℕ → ℕ → Type 0
-MoreEnds words lefts rights new-loops new-mixes p found r = (letters : List ℕ) (old-loops old-mixes loop-mask mix-mask : ℕ)
-    → Unites old-loops new-loops loop-mask → Unites old-mixes new-mixes mix-mask
-    → Ends letters words lefts rights old-loops old-mixes p found → Ends letters words lefts rights loop-mask mix-mask p r
+abbrev pub MoreEnds : List ℕ → List ℕ → List ℕ → Claims → ℕ → ℕ → ℕ → Type 0
+MoreEnds words lefts rights new p found r = (letters : List ℕ) (old force : Claims) → Unites (old .loops) (new .loops) (force .loops) → Unites (old .mixes) (new .mixes) (force .mixes)
+    → Ends letters words lefts rights (old .loops) (old .mixes) p found → Ends letters words lefts rights (force .loops) (force .mixes) p r
 
 -- the same for each of the first n words
-pub record AddsEnds (words lefts rights : List ℕ) (new-loops new-mixes n : ℕ) (old new : List ℕ) : Type 0 where
-  pub length-is : length new ≡ length old
-  pub ends-are : length old ≡ 64 → (letters : List ℕ) (old-loops old-mixes loop-mask mix-mask : ℕ)
-      → Unites old-loops new-loops loop-mask → Unites old-mixes new-mixes mix-mask
-      → EndsBelow letters words lefts rights old-loops old-mixes n old → EndsBelow letters words lefts rights loop-mask mix-mask n new
+pub record AddsEnds (words lefts rights : List ℕ) (new : Claims) (n : ℕ) (before after : List ℕ) : Type 0 where
+  pub length-is : length after ≡ length before
+  pub ends-are : length before ≡ 64 → (i : ℕ) → i < n → MoreEnds words lefts rights new (getD words i 0) (getD before i 0) (getD after i 0)
 
 -- the claim holds with the claims in force, and is not in force yet
 abbrev pub Opens : List Row → List Claim → Claim → Type 0

@@ -9,7 +9,7 @@ ghost use Rattle.masks.specs.Graph.{Turned};
 ghost use Rattle.masks.specs.Mask.{_∈_, _⊆_};
 ghost use lib.ListN.{length, getD};
 ghost use Rattle.search.specs.Hops.{Passes, Claimed, Hop, LetterHop, Chain, Onward, Followed, Explored, all, Reached, Inner, Ends, EndsBelow, Joined, Covered, Threaded};
-ghost use Rattle.search.specs.Promises.{AcceptsRight, AcceptsSeen, SeenBefore, MoreEnds, AddsEnds, OpensAt, OpensBelow};
+ghost use Rattle.search.specs.Promises.{AcceptsRight, AcceptsSeen, SeenBefore, AddsEnds, OpensAt, OpensBelow};
 use masks::difference;
 use masks::has;
 use masks::intersection;
@@ -340,23 +340,6 @@ fn ends(
     targets(letters, words, lefts, rights, a, b, p, p)
 }
 
-// The ends of all steps inside `p`, and those of the steps by new claims.
-fn more_ends(
-    words: &[u64; 64],
-    lefts: &[u64; 64],
-    rights: &[u64; 64],
-    new_loops: u64,
-    new_mixes: u64,
-    p: u64,
-    found: u64,
-) -> u64
-    ensures { λ r. ⌜ MoreEnds (now (words .entry)) (now (lefts .entry)) (now (rights .entry)) «new_loops» «new_mixes» p found r ⌝ }
-{
-    let a = inside(words, new_loops, p);
-    let b = inside(words, new_mixes, p);
-    union(found, claimed(words, lefts, rights, a, b, p))
-}
-
 // For each of the `n` sets the ends of all steps inside it.
 pub fn all_ends(
     letters: &[u64; 64],
@@ -387,9 +370,10 @@ pub fn all_ends(
     r
 }
 
-// The same with new claims in force, where `found` was so before.
+// The same forward and backward with new claims in force, where `to` and `from` were so before.
 pub fn add_ends(
-    found: &mut [u64; 64],
+    to: &mut [u64; 64],
+    from: &mut [u64; 64],
     words: &[u64; 64],
     lefts: &[u64; 64],
     rights: &[u64; 64],
@@ -397,19 +381,16 @@ pub fn add_ends(
     n: usize,
 )
     requires { ⌜ n ≤ 64 ⌝ }
-    ensures { λ _. ⌜ AddsEnds (now (words .entry)) (now (lefts .entry)) (now (rights .entry)) (new .loops) (new .mixes) n (now (found .entry)) (now (found .exit)) ⌝ }
+    ensures forward { λ _. ⌜ AddsEnds (now (words .entry)) (now (lefts .entry)) (now (rights .entry)) new n (now (to .entry)) (now (to .exit)) ⌝ }
+    ensures backward { λ _. ⌜ AddsEnds (now (words .entry)) (now (rights .entry)) (now (lefts .entry)) new n (now (from .entry)) (now (from .exit)) ⌝ }
 {
     let mut i = 0;
     while i < n {
-        found[i] = more_ends(
-            words,
-            lefts,
-            rights,
-            new.loops,
-            new.mixes,
-            words[i],
-            found[i],
-        );
+        let p = words[i];
+        let a = inside(words, new.loops, p);
+        let b = inside(words, new.mixes, p);
+        to[i] = union(to[i], claimed(words, lefts, rights, a, b, p));
+        from[i] = union(from[i], claimed(words, rights, lefts, a, b, p));
         i += 1;
     }
 }

@@ -1,94 +1,99 @@
 -- `search::add_ends` meets its contract. The loop adds to the places below i; the others are as they were.
-use mathlib.Core.Path.{subst, sym, _∙_}
-use Prim.Native.Nat.{ℕ, _-_, _≤_, _<_}
-use mathlib.Core.Path.{_≡_, refl}
+use Prim.Native.Nat.{_-_, _≤_}
+use mathlib.Core.Path.{_≡_}
 use native.Mathlib.Omega.{arith}
-use lib.ListN.{getD, length, length-set}
-use lib.Seq.{getD-set-same, getD-set-other}
-use borrow.Author.Count.{below-more}
-use Rattle.search.specs.Promises.{MoreEnds}
 use borrow.Author.Needs.{needs}
+use Rattle.search.proofs.Hops.{Added, added-none, added-next}
 use Rattle.search.proofs.add_ends.Statement.{statement}
 use Rattle.search.proofs.add_ends.Tie as tie
 
 abbrev Inv-loop : tie.InvT-loop
-Inv-loop found₀ words lefts rights new n i₀ found i =
-    (i ≤ n) × (length found ≡ length found₀)
-    × (length found₀ ≡ 64 → (j : ℕ) → j < i → MoreEnds words lefts rights (new .loops) (new .mixes) (getD words j 0) (getD found₀ j 0) (getD found j 0))
-    × ((j : ℕ) → i ≤ j → getD found j 0 ≡ getD found₀ j 0)
+Inv-loop to₀ from₀ words lefts rights new n i₀ to from i =
+    (i ≤ n) × Added words lefts rights new i to₀ to × Added words rights lefts new i from₀ from
 
 abbrev μ-loop : tie.MeasureT-loop
-μ-loop found₀ words lefts rights new n i₀ found i = n - i
+μ-loop to₀ from₀ words lefts rights new n i₀ to from i = n - i
 
--- src/lib.rt:392:5
 loop-holds : tie.Need-loop-holds Inv-loop μ-loop
-loop-holds c = (omega arith, refl, λ e j l. absurd (omega arith), λ j l. refl)
+loop-holds c = let a = c .args in
+    (omega arith, added-none (a .words .now) (a .lefts .now) (a .rights .now) (a .new) (a .to .now), added-none (a .words .now) (a .rights .now) (a .lefts .now) (a .new) (a .from .now))
 
--- src/lib.rt:393:74
-mul-more-ends : tie.Need-mul-more-ends Inv-loop μ-loop
-mul-more-ends c = search needs
+mul-p : tie.Need-mul-p Inv-loop μ-loop
+mul-p c = search needs
 
--- src/lib.rt:393:74
-element-copy-out-more-ends : tie.Need-element-copy-out-more-ends Inv-loop μ-loop
-element-copy-out-more-ends c = search needs
+element-copy-out-p : tie.Need-element-copy-out-p Inv-loop μ-loop
+element-copy-out-p c = search needs
 
--- src/lib.rt:393:84
-mul-more-ends-2 : tie.Need-mul-more-ends-2 Inv-loop μ-loop
-mul-more-ends-2 c = search needs
+inside-requires : tie.Need-inside-requires Inv-loop μ-loop
+inside-requires c κs = search needs
 
--- src/lib.rt:393:84
-element-copy-out-more-ends-2 : tie.Need-element-copy-out-more-ends-2 Inv-loop μ-loop
-element-copy-out-more-ends-2 c = search needs
+inside-requires-2 : tie.Need-inside-requires-2 Inv-loop μ-loop
+inside-requires-2 c κs = search needs
 
--- src/lib.rt:393:20
-more-ends-requires : tie.Need-more-ends-requires Inv-loop μ-loop
-more-ends-requires c κs = search needs
+mul-union : tie.Need-mul-union Inv-loop μ-loop
+mul-union c = search needs
 
--- src/lib.rt:393:9
-mul-found : tie.Need-mul-found Inv-loop μ-loop
-mul-found c = search needs
+element-copy-out-union : tie.Need-element-copy-out-union Inv-loop μ-loop
+element-copy-out-union c = search needs
 
--- src/lib.rt:393:9
-element-write-found : tie.Need-element-write-found Inv-loop μ-loop
-element-write-found c = search needs
+claimed-requires : tie.Need-claimed-requires Inv-loop μ-loop
+claimed-requires c κs = search needs
 
--- src/lib.rt:394:9
+union-requires : tie.Need-union-requires Inv-loop μ-loop
+union-requires c κs = search needs
+
+mul-to : tie.Need-mul-to Inv-loop μ-loop
+mul-to c = search needs
+
+element-write-to : tie.Need-element-write-to Inv-loop μ-loop
+element-write-to c = search needs
+
+mul-union-2 : tie.Need-mul-union-2 Inv-loop μ-loop
+mul-union-2 c = search needs
+
+element-copy-out-union-2 : tie.Need-element-copy-out-union-2 Inv-loop μ-loop
+element-copy-out-union-2 c = search needs
+
+claimed-requires-2 : tie.Need-claimed-requires-2 Inv-loop μ-loop
+claimed-requires-2 c κs = search needs
+
+union-requires-2 : tie.Need-union-requires-2 Inv-loop μ-loop
+union-requires-2 c κs = search needs
+
+mul-from : tie.Need-mul-from Inv-loop μ-loop
+mul-from c = search needs
+
+element-write-from : tie.Need-element-write-from Inv-loop μ-loop
+element-write-from c = search needs
+
 add-i : tie.Need-add-i Inv-loop μ-loop
 add-i c = search needs
 
--- src/lib.rt:392:5
 loop-less : tie.Need-loop-less Inv-loop μ-loop
 loop-less c = search needs
 
--- src/lib.rt:392:5
 loop-again : tie.Need-loop-again Inv-loop μ-loop
 loop-again c =
-    let at = c .before .before .before .before in
-    let a = at .before .args in
-    let old = at .loop .found in
-    let i = at .loop .i in
-    let w = a .words .now in
-    let x = c .more-ends .result in (
+    let back = c .before in
+    let forth = back .before .before in
+    let b = forth .before .before .before in
+    let a = b .before in
+    let at = a .before .before .before in
+    let x = at .before .args in (
       omega arith,
-      simp length-set (at .loop .inv .1),
-      λ e. below-more _ i
-          (λ j l. subst (MoreEnds w (a .lefts .now) (a .rights .now) (a .new .loops) (a .new .mixes) (getD w j 0) (getD (a .found .now) j 0))
-          (sym (getD-set-other old i j x 0 (λ f. omega arith))) (at .loop .inv .2 e j l))
-          (subst (MoreEnds w (a .lefts .now) (a .rights .now) (a .new .loops) (a .new .mixes) (getD w i 0) (getD (a .found .now) i 0))
-          (sym (getD-set-same old i x 0 (omega (arith, e, at .loop .inv .1, c .before .before .before .loop-test .taken))))
-          (subst (λ y. MoreEnds w (a .lefts .now) (a .rights .now) (a .new .loops) (a .new .mixes) (getD w i 0) y x) (at .loop .inv .3 i (omega arith)) (c .more-ends .ensures))),
-      λ j l. getD-set-other old i j x 0 (λ f. omega arith) ∙ at .loop .inv .3 j (omega arith),
+      added-next (x .words .now) (x .lefts .now) (x .rights .now) (x .new) (x .to .now) (at .loop .i) (at .loop .to) (a .inside .result) (b .inside2 .result)
+          (forth .before .claimed .result) (forth .union .result) (omega arith) (at .loop .inv .1) (a .inside .ensures) (b .inside2 .ensures) (forth .before .claimed .ensures) (forth .union .ensures),
+      added-next (x .words .now) (x .rights .now) (x .lefts .now) (x .new) (x .from .now) (at .loop .i) (at .loop .from) (a .inside .result) (b .inside2 .result)
+          (back .claimed2 .result) (c .union2 .result) (omega arith) (at .loop .inv .2) (a .inside .ensures) (b .inside2 .ensures) (back .claimed2 .ensures) (c .union2 .ensures),
     )
 
--- src/lib.rt:379:1
 returns : tie.Need-returns Inv-loop μ-loop
 returns c =
     let at = c .before in
-    let e : at .loop .i ≡ at .before .args .n = omega arith in
-    record {
-      length-is = at .loop .inv .1;
-      ends-are = λ h letters old-loops old-mixes loops mixes is-l is-m old j l. at .loop .inv .2 h j (omega (arith, e, l)) letters old-loops old-mixes loops mixes is-l is-m (old j l);
-    }
+    let e : at .loop .i ≡ at .before .args .n = omega arith in (
+      record { length-is = at .loop .inv .1 .length-is; ends-are = λ h i l. at .loop .inv .1 .done h i (omega (arith, e, l)) },
+      record { length-is = at .loop .inv .2 .length-is; ends-are = λ h i l. at .loop .inv .2 .done h i (omega (arith, e, l)) },
+    )
 
 pub add-ends-spec : {M : Type 1} → statement M
 add-ends-spec =
@@ -97,13 +102,22 @@ add-ends-spec =
     Inv-loop
     μ-loop
     loop-holds
-    mul-more-ends
-    element-copy-out-more-ends
-    mul-more-ends-2
-    element-copy-out-more-ends-2
-    more-ends-requires
-    mul-found
-    element-write-found
+    mul-p
+    element-copy-out-p
+    inside-requires
+    inside-requires-2
+    mul-union
+    element-copy-out-union
+    claimed-requires
+    union-requires
+    mul-to
+    element-write-to
+    mul-union-2
+    element-copy-out-union-2
+    claimed-requires-2
+    union-requires-2
+    mul-from
+    element-write-from
     add-i
     loop-less
     loop-again
