@@ -528,6 +528,8 @@ pub fn open_next(
     requires { ⌜ (n ≤ 64) × EndsBelow (now letters) (now words) (now lefts) (now rights) (force .loops) (force .mixes) n (now to) × EndsBelow (now back) (now words) (now rights) (now lefts) (force .loops) (force .mixes) n (now from) ⌝ }
     ensures { λ r. ⌜ OpensBelow (now (letters .entry)) (now (back .entry)) (now (words .entry)) (now (lefts .entry)) (now (rights .entry)) (force .loops) (force .mixes) n n (r .loops) (r .mixes) ⌝ }
 {
+    let loop_mask = force.loops;
+    let mix_mask = force.mixes;
     let mut loops: u64 = 0;
     let mut mixes: u64 = 0;
     let mut i = 0;
@@ -538,8 +540,8 @@ pub fn open_next(
             words,
             lefts,
             rights,
-            force.loops,
-            force.mixes,
+            loop_mask,
+            mix_mask,
             to[i],
             from[i],
             i as u8,

@@ -10,11 +10,11 @@ use Rattle.search.proofs.open_next.Statement.{statement}
 use Rattle.search.proofs.open_next.Tie as tie
 
 abbrev Inv-loop : tie.InvT-loop
-Inv-loop letters back words lefts rights force to from n loops₀ mixes₀ i₀ loops mixes i =
-    (i ≤ n) × OpensBelow letters back words lefts rights (force .loops) (force .mixes) n i loops mixes
+Inv-loop letters back words lefts rights to from n loop-mask mix-mask loops₀ mixes₀ i₀ loops mixes i =
+    (i ≤ n) × OpensBelow letters back words lefts rights loop-mask mix-mask n i loops mixes
 
 abbrev μ-loop : tie.MeasureT-loop
-μ-loop letters back words lefts rights force to from n loops₀ mixes₀ i₀ loops mixes i = n - i
+μ-loop letters back words lefts rights to from n loop-mask mix-mask loops₀ mixes₀ i₀ loops mixes i = n - i
 
 -- src/lib.rt:535:5
 loop-holds : tie.Need-loop-holds Inv-loop μ-loop
