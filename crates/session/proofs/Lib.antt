@@ -1,4 +1,3 @@
-pub mod Writing
 pub mod Standing
 pub mod Whole
 pub mod Saved

@@ -66,8 +66,3 @@ with-rounds s loop-rounds mix-rounds phase rounds =
 -- the array of the rows that have the first n keys
 abbrev pub Slotted : List ℕ → List ℕ → ℕ → List Slot → Type 0
 Slotted highs lows n r = (rows : List Row) → AllFit rows → Keyed rows highs lows n → r ≡ padded 256 blank (map slot rows)
-
--- the text stands from a place on in what was old, and next is the place after it
-pub record PutAt (text old : List ℕ) (at : ℕ) (new : List ℕ) (next : ℕ) : Type 0 where
-  pub bytes-are : new ≡ take at old ++ (text ++ drop (at + length text) old)
-  pub next-is : next ≡ at + length text

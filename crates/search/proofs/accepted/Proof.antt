@@ -4,15 +4,12 @@ use borrow.Author.Needs.{needs}
 use Rattle.search.proofs.accepted.Statement.{statement}
 use Rattle.search.proofs.accepted.Tie as tie
 
--- src/lib.rt:296:11
 union-requires : tie.Need-union-requires
 union-requires c κs = search needs
 
--- src/lib.rt:296:5
 meets-requires : tie.Need-meets-requires
 meets-requires c κs = search needs
 
--- src/lib.rt:293:1
 returns : tie.Need-returns
 returns c letters words lefts rights loop-mask mix-mask reached rows claims n is fit is-starts is-ends =
     let a = c .before .before .args in

@@ -3,15 +3,12 @@ use borrow.Author.Needs.{needs}
 use Rattle.search.proofs.accepts.Statement.{statement}
 use Rattle.search.proofs.accepts.Tie as tie
 
--- src/lib.rt:312:9
 reached-requires : tie.Need-reached-requires
 reached-requires c κs = search needs
 
--- src/lib.rt:313:5
 accepted-requires : tie.Need-accepted-requires
 accepted-requires c κs = search needs
 
--- src/lib.rt:300:1
 returns : tie.Need-returns
 returns c = let a = c .before .before .args in
     c .accepted .ensures (a .letters .now) (a .words .now) (a .lefts .now) (a .rights .now) (a .force .loops) (a .force .mixes) (c .before .reached .ensures)

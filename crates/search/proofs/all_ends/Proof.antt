@@ -18,39 +18,30 @@ Inv-loop letters words lefts rights force n r₀ i₀ r i = (i ≤ n) × (length
 abbrev μ-loop : tie.MeasureT-loop
 μ-loop letters words lefts rights force n r₀ i₀ r i = n - i
 
--- src/lib.rt:371:5
 loop-holds : tie.Need-loop-holds Inv-loop μ-loop
 loop-holds c = (omega arith, refl, λ j l. absurd (omega arith))
 
--- src/lib.rt:372:66
 mul-ends : tie.Need-mul-ends Inv-loop μ-loop
 mul-ends c = search needs
 
--- src/lib.rt:372:66
 element-copy-out-ends : tie.Need-element-copy-out-ends Inv-loop μ-loop
 element-copy-out-ends c = search needs
 
--- src/lib.rt:372:16
 ends-requires : tie.Need-ends-requires Inv-loop μ-loop
 ends-requires c κs = search needs
 
--- src/lib.rt:372:9
 mul-r : tie.Need-mul-r Inv-loop μ-loop
 mul-r c = search needs
 
--- src/lib.rt:372:9
 array-write-r : tie.Need-array-write-r Inv-loop μ-loop
 array-write-r c = search needs
 
--- src/lib.rt:373:9
 add-i : tie.Need-add-i Inv-loop μ-loop
 add-i c = search needs
 
--- src/lib.rt:371:5
 loop-less : tie.Need-loop-less Inv-loop μ-loop
 loop-less c = search needs
 
--- src/lib.rt:371:5
 loop-again : tie.Need-loop-again Inv-loop μ-loop
 loop-again c =
     let at = c .before .before .before in
@@ -65,7 +56,6 @@ loop-again c =
           (subst (Ends (a .letters .now) w (a .lefts .now) (a .rights .now) (a .force .loops) (a .force .mixes) (getD w i 0)) (sym (getD-set-same r i (c .ends .result) 0 (omega (arith, at .loop .inv .1, c .before .before .loop-test .taken)))) (c .ends .ensures)),
     )
 
--- src/lib.rt:357:1
 returns : tie.Need-returns Inv-loop μ-loop
 returns c =
     let e : c .before .loop .i ≡ c .before .before .args .n = omega arith in

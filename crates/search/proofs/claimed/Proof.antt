@@ -4,19 +4,15 @@ use borrow.Author.Needs.{needs}
 use Rattle.search.proofs.claimed.Statement.{statement}
 use Rattle.search.proofs.claimed.Tie as tie
 
--- src/lib.rt:108:9
 looping-requires : tie.Need-looping-requires
 looping-requires c κs = search needs
 
--- src/lib.rt:109:26
 passing-requires : tie.Need-passing-requires
 passing-requires c κs = search needs
 
--- src/lib.rt:109:5
 union-requires : tie.Need-union-requires
 union-requires c κs = search needs
 
--- src/lib.rt:98:1
 returns : tie.Need-returns
 returns c = let m = c .before .before .before .args .m in
     onward-three m (c .union .result) (onward-or m _ _ (c .union .result) (c .before .before .looping .ensures) (c .before .passing .ensures) (c .union .ensures))

@@ -3,19 +3,15 @@ use borrow.Author.Needs.{needs}
 use Rattle.search.proofs.ends.Statement.{statement}
 use Rattle.search.proofs.ends.Tie as tie
 
--- src/lib.rt:334:9
 inside-requires : tie.Need-inside-requires
 inside-requires c κs = search needs
 
--- src/lib.rt:335:9
 inside-requires-2 : tie.Need-inside-requires-2
 inside-requires-2 c κs = search needs
 
--- src/lib.rt:336:5
 targets-requires : tie.Need-targets-requires
 targets-requires c κs = search needs
 
--- src/lib.rt:323:1
 returns : tie.Need-returns
 returns c = record {
   inner-loops = c .before .before .inside .result;

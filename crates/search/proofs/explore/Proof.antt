@@ -17,7 +17,6 @@ Inv-loop letters words lefts rights loops mixes p found last known₀ front₀ k
 abbrev μ-loop : tie.MeasureT-loop
 μ-loop letters words lefts rights loops mixes p found last known₀ front₀ known front = 64 - ones known
 
--- src/lib.rt:168:5
 loop-holds : tie.Need-loop-holds Inv-loop μ-loop
 loop-holds c = (c .fits .found .fits, search-start _ (c .args .found) (c .args .last) (c .pre))
 
@@ -41,12 +40,10 @@ module _ (c : tie.At-loop Inv-loop μ-loop) where
   cases : (a b : ℕ) → Links a b → Letters a b ⊎ Claims a b
   cases = let a = c .before .args in hop-cases (a .letters .now) (a .words .now) (a .lefts .now) (a .rights .now) (a .loops) (a .mixes) (a .p)
 
--- src/lib.rt:169:13
 spread-requires : tie.Need-spread-requires Inv-loop μ-loop
 spread-requires c κs = let a = c .before .args in
     followed-part (Links c) (Letters c) (Claims c) (letter c) (claim c) (cases c) (a .found) (a .last) (c .before .pre) (c .loop .inv .1)
 
--- src/lib.rt:172:13
 returns : tie.Need-returns Inv-loop μ-loop
 returns c =
     let at = c .before .before in
@@ -54,23 +51,18 @@ returns c =
     explored-full (Links at) (Letters at) (Claims at) (letter at) (claim at) (cases at) (a .found) (a .last) (at .before .pre) (at .loop .inv .1)
     (c .before .spread .result) (c .before .spread .ensures) (a .p) (λ x y e. e .end) (c .if1 .taken)
 
--- src/lib.rt:174:46
 difference-requires : tie.Need-difference-requires Inv-loop μ-loop
 difference-requires c κs = search needs
 
--- src/lib.rt:174:33
 union-requires : tie.Need-union-requires Inv-loop μ-loop
 union-requires c κs = search needs
 
--- src/lib.rt:174:13
 intersection-requires : tie.Need-intersection-requires Inv-loop μ-loop
 intersection-requires c κs = search needs
 
--- src/lib.rt:175:33
 claimed-requires : tie.Need-claimed-requires Inv-loop μ-loop
 claimed-requires c κs = search needs
 
--- src/lib.rt:175:13
 intersection-requires-2 : tie.Need-intersection-requires-2 Inv-loop μ-loop
 intersection-requires-2 c κs = search needs
 
@@ -82,11 +74,9 @@ steps c =
     onward-inside (a .p) (n .before .union .result) (n .intersection .result) (c .before .claimed .result) (c .intersection2 .result)
     (n .intersection .ensures) (c .before .claimed .ensures) (c .intersection2 .ensures)
 
--- src/lib.rt:176:13
 difference-requires-2 : tie.Need-difference-requires-2 Inv-loop μ-loop
 difference-requires-2 c κs = search needs
 
--- src/lib.rt:178:13
 returns-2 : tie.Need-returns-2 Inv-loop μ-loop
 returns-2 c =
     let d = c .before in
@@ -99,11 +89,9 @@ returns-2 c =
     (sp .spread .result) (sp .spread .ensures) (u .before .difference .result) (u .union .result) (near .intersection2 .result) (d .difference2 .result)
     (u .before .difference .ensures) (u .union .ensures) (steps near) (d .difference2 .ensures) (c .if2 .taken)
 
--- src/lib.rt:180:9
 union-requires-2 : tie.Need-union-requires-2 Inv-loop μ-loop
 union-requires-2 c κs = search needs
 
--- src/lib.rt:168:5
 loop-less : tie.Need-loop-less Inv-loop μ-loop
 loop-less c =
     let d = c .before .before in
@@ -117,7 +105,6 @@ loop-less c =
           (d .difference2 .ensures) (c .union2 .ensures) (at .loop .inv .0) (d .difference2 .ok) (c .union2 .ok) (c .before .if2 .left),
     )
 
--- src/lib.rt:168:5
 loop-again : tie.Need-loop-again Inv-loop μ-loop
 loop-again c =
     let d = c .before .before in

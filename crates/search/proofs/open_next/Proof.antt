@@ -16,7 +16,6 @@ Inv-loop letters back words lefts rights to from n loop-mask mix-mask loops₀ m
 abbrev μ-loop : tie.MeasureT-loop
 μ-loop letters back words lefts rights to from n loop-mask mix-mask loops₀ mixes₀ i₀ loops mixes i = n - i
 
--- src/lib.rt:535:5
 loop-holds : tie.Need-loop-holds Inv-loop μ-loop
 loop-holds c = (
   omega arith,
@@ -24,48 +23,37 @@ loop-holds c = (
       ((λ t. ((λ h. absurd (in-none t h)), λ h. absurd (omega (arith, h .0)))), λ t. ((λ h. absurd (in-none t h)), λ h. absurd (omega (arith, h .0)))),
 )
 
--- src/lib.rt:544:13
 mul-opened-at : tie.Need-mul-opened-at Inv-loop μ-loop
 mul-opened-at c = search needs
 
--- src/lib.rt:544:13
 element-copy-out-opened-at : tie.Need-element-copy-out-opened-at Inv-loop μ-loop
 element-copy-out-opened-at c = search needs
 
--- src/lib.rt:545:13
 mul-opened-at-2 : tie.Need-mul-opened-at-2 Inv-loop μ-loop
 mul-opened-at-2 c = search needs
 
--- src/lib.rt:545:13
 element-copy-out-opened-at-2 : tie.Need-element-copy-out-opened-at-2 Inv-loop μ-loop
 element-copy-out-opened-at-2 c = search needs
 
--- src/lib.rt:546:13
 cast-opened-at : tie.Need-cast-opened-at Inv-loop μ-loop
 cast-opened-at c = search needs
 
--- src/lib.rt:536:13
 opened-at-requires : tie.Need-opened-at-requires Inv-loop μ-loop
 opened-at-requires c κs = let in-loop = c .before .before in let at = in-loop .before in
     (omega arith, at .before .pre .1 (at .loop .i) (in-loop .loop-test .taken), at .before .pre .2 (at .loop .i) (in-loop .loop-test .taken))
 
--- src/lib.rt:548:9
 union-requires : tie.Need-union-requires Inv-loop μ-loop
 union-requires c κs = search needs
 
--- src/lib.rt:549:9
 union-requires-2 : tie.Need-union-requires-2 Inv-loop μ-loop
 union-requires-2 c κs = search needs
 
--- src/lib.rt:550:9
 add-i : tie.Need-add-i Inv-loop μ-loop
 add-i c = search needs
 
--- src/lib.rt:535:5
 loop-less : tie.Need-loop-less Inv-loop μ-loop
 loop-less c = search needs
 
--- src/lib.rt:535:5
 loop-again : tie.Need-loop-again Inv-loop μ-loop
 loop-again c =
     let u = c .before .union in
@@ -82,7 +70,6 @@ loop-again c =
           ),
     )
 
--- src/lib.rt:517:1
 returns : tie.Need-returns Inv-loop μ-loop
 returns c =
     let e : c .before .loop .i ≡ c .before .before .args .n = omega arith in

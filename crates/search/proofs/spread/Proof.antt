@@ -16,23 +16,18 @@ Inv-loop letters p found last all₀ front₀ all front =
 abbrev μ-loop : tie.MeasureT-loop
 μ-loop letters p found last all₀ front₀ all front = 64 - ones all
 
--- src/lib.rt:138:5
 loop-holds : tie.Need-loop-holds Inv-loop μ-loop
 loop-holds c = (c .fits .found .fits, search-start (LetterHop (c .args .letters .now) (c .args .p)) (c .args .found) (c .args .last) (c .pre))
 
--- src/lib.rt:139:13
 intersection-requires : tie.Need-intersection-requires Inv-loop μ-loop
 intersection-requires c κs = search needs
 
--- src/lib.rt:140:33
 targets-requires : tie.Need-targets-requires Inv-loop μ-loop
 targets-requires c κs = search needs
 
--- src/lib.rt:140:13
 intersection-requires-2 : tie.Need-intersection-requires-2 Inv-loop μ-loop
 intersection-requires-2 c κs = search needs
 
--- src/lib.rt:141:13
 -- one pass
 steps : (c : tie.After-intersection2 Inv-loop μ-loop) → Onward (LetterHop (c .before .before .before .before .args .letters .now) (c .before .before .before .before .args .p))
     (c .before .before .before .loop .front) (c .intersection2 .result)
@@ -44,7 +39,6 @@ steps c =
 difference-requires : tie.Need-difference-requires Inv-loop μ-loop
 difference-requires c κs = search needs
 
--- src/lib.rt:143:13
 returns : tie.Need-returns Inv-loop μ-loop
 returns c =
     let d = c .before in
@@ -54,11 +48,9 @@ returns c =
     search-end (LetterHop (a .letters .now) (a .p)) (a .found) (a .last) (at .before .pre) (near .intersection2 .result) (d .difference .result) (at .loop .inv .1)
     (steps near) (d .difference .ensures) (c .if1 .taken)
 
--- src/lib.rt:145:9
 union-requires : tie.Need-union-requires Inv-loop μ-loop
 union-requires c κs = search needs
 
--- src/lib.rt:138:5
 loop-less : tie.Need-loop-less Inv-loop μ-loop
 loop-less c =
     let d = c .before .before in
@@ -70,7 +62,6 @@ loop-less c =
           (d .difference .ensures) (c .union .ensures) (at .loop .inv .0) (d .difference .ok) (c .union .ok) (c .before .if1 .left),
     )
 
--- src/lib.rt:138:5
 loop-again : tie.Need-loop-again Inv-loop μ-loop
 loop-again c =
     let d = c .before .before in

@@ -4,27 +4,21 @@ use borrow.Author.Needs.{needs}
 use Rattle.search.proofs.targets.Statement.{statement}
 use Rattle.search.proofs.targets.Tie as tie
 
--- src/lib.rt:125:9
 intersection-requires : tie.Need-intersection-requires
 intersection-requires c κs = search needs
 
--- src/lib.rt:126:9
 targets-requires : tie.Need-targets-requires
 targets-requires c κs = search needs
 
--- src/lib.rt:127:9
 claimed-requires : tie.Need-claimed-requires
 claimed-requires c κs = search needs
 
--- src/lib.rt:128:18
 union-requires : tie.Need-union-requires
 union-requires c κs = search needs
 
--- src/lib.rt:128:5
 intersection-requires-2 : tie.Need-intersection-requires-2
 intersection-requires-2 c κs = search needs
 
--- src/lib.rt:113:1
 returns : tie.Need-returns
 returns c =
     let u = c .before .union in
