@@ -1,2 +1,3 @@
-pub mod Settling
+-- The laws that the proofs of `checker` share.
+pub mod Finishing
 pub mod Outcomes

@@ -5,74 +5,72 @@ use mathlib.Core.Logic.{⊎-elim}
 use mathlib.Core.Bool.{Bool, true, false}
 use mathlib.Core.List.{List, [], _∷_, _++_, List·Memᴰ·not-nil, List·Memᴰ·cases-cons}
 use lib.Dec.{ltb}
-use lib.ListN.{length, getD, take, drop, length-append}
+use lib.ListN.{length, getD, take, drop, replicate, length-append}
 use native.Mathlib.Omega.{arith}
 use Rattle.lists.specs.Tests.{Decides, _among_}
 use Rattle.lists.specs.Writing.{Wrote}
 use Rattle.lists.proofs.Deciding.{yes·, no·, not-so, ltb·}
 use Rattle.rows.specs.declared.Row.{Row}
-use Rattle.rows.specs.Rows.{Bytes}
+use Rattle.rows.specs.Rows.{sets, Bytes}
 use Rattle.rows.specs.Batch.{Fed, fed, failed, feed}
-use Rattle.machine.specs.Machine.{Machine, fresh, load-row}
-use Rattle.machine.specs.Calls.{load, print, done, wrote, refused, with-rows, call-in, call, run, settle, buffer-after}
+use Rattle.machine.specs.Machine.{Machine, open-with, fresh, load-row}
+use Rattle.machine.specs.Calls.{load, print, done, wrote, refused, Next, with-rows, call-in, call, run, settle, buffer-after}
 use Rattle.machine.specs.Calls.{Answer as Told}
+use Rattle.machine.specs.WellFormed.{Table}
 use Rattle.machine.specs.Text.{text, number-text}
 use Rattle.machine.specs.Sheet.{line}
 use Rattle.machine.specs.Program.{refusal-line, shown, ending, outcome, program}
 use Rattle.machine.proofs.Program.{outcome-size}
 use Rattle.lines.proofs.Digits.{number-short}
-use Rattle.machine.proofs.Tables.{no-rows}
-use Rattle.machine.proofs.History.{opened-formed}
-use Rattle.session.specs.declared.Session.{Session}
 use Rattle.session.specs.declared.Answer.{Answer}
 use Rattle.session.specs.declared.Answer.the-variants.{Done, Wrote as WroteN, Refused}
-use Rattle.session.specs.declared.Reply.{Reply}
-use Rattle.session.specs.Record.{record-of, Represents}
-use Rattle.session.specs.Promise.{answer-of, Fresh, Keeps}
+use Rattle.session.specs.Promise.{answer-of}
+use Rattle.table.specs.declared.Outcome.{Outcome}
+use Rattle.table.specs.declared.Outcome.the-variants.{Done as BatchDone, Refused as BatchRefused}
+use Rattle.table.specs.Arrays.{Filed, Comes}
 use Rattle.session.proofs.Answers.{done-by, wrote-by, refused-by}
-use Rattle.checker.specs.Promise.{Finishes, Checks, Shows}
+use Rattle.checker.specs.Promise.{Checks, Shows}
 
 -- numbers below 256 at every place are bytes
 pub bytes : (l : List ℕ) → ((i : ℕ) → getD l i 0 < 256) → Bytes l
 bytes [] h b m = absurd (List·Memᴰ·not-nil m)
 bytes (x ∷ l) h b m = ⊎-elim (λ e. subst (λ n. n < 256) (sym e) (h 0)) (bytes l (λ i. h (suc i)) b) (List·Memᴰ·cases-cons m)
 
-pub fresh-represents : (s : Session) → Fresh s → Represents fresh s
-fresh-represents s f = record { formed = opened-formed [] no-rows; whole = f }
-
 -- ---- the answer of the load
 
--- what the load of a fresh machine answers
-abbrev loaded : List ℕ → Told
-loaded l = call fresh (load l) .answer
+-- empty arrays hold the empty table
+pub empty-filed : Filed (replicate 256 0) (replicate 256 0) (replicate 64 0) 0 0 []
+unfolding sets
+empty-filed = (record { count = refl; highs-are = refl; lows-are = refl }, record { count = refl; words-are = refl })
 
--- a load writes nothing
-load-writes : (l : List ℕ) (n : ℕ) → answer-of (loaded l) ≡ WroteN n → ⊥
+load-feeds : (l : List ℕ) → call fresh (load l) ≡ with-rows fresh (feed load-row [] l)
 unfolding call-in
-load-writes l n e = go (feed load-row [] l) e
-  where
-    go : (f : Fed (List Row)) → answer-of (with-rows fresh f .answer) ≡ WroteN n → ⊥
-    go (fed rows) e = let z : _≡_ {A = ℕ} 0 1 = cc in absurd (omega arith)
-    go (failed k place) e = let z : _≡_ {A = ℕ} 0 1 = cc in absurd (omega arith)
+load-feeds l = refl
 
-module _ (l : List ℕ) (r : Reply) (s : Session) (f : Fresh s) (k : Keeps s (load l) r) where
-  told : r .answer ≡ answer-of (loaded l)
-  told = ap (λ (x : Reply). x .answer) (k fresh (fresh-represents s f))
-
-  pub checks-refused : (n place : ℕ) (old : List ℕ) → r .answer ≡ Refused n place → Checks l old old (Refused n place)
+-- what a load comes to, and what then is left to do
+module _ (l : List ℕ) (o : Outcome) (Holds : List Row → Type 0) (comes : Comes Holds (feed load-row [] l) o) (size : ℕ) where
+  pub load-refused : (n place : ℕ) → o ≡ BatchRefused n place → outcome l size ≡ refused n place
   unfolding outcome
-  checks-refused n place old e = let i = refused-by (loaded l) n place (sym told ∙ e) in
-      record { answer-is = ap (λ a. answer-of (ending (call fresh (load l) .machine) (length old) a)) (sym i); buffer-is = ap (λ a. buffer-after (ending (call fresh (load l) .machine) (length old) a) old) (sym i) }
+  load-refused n place d = go (feed load-row [] l) refl comes
+    where
+      go : (x : Fed (List Row)) → feed load-row [] l ≡ x → Comes Holds x o → outcome l size ≡ refused n place
+      go (fed rows) f h = let i = h .0 in let z : _≡_ {A = ℕ} 0 1 = cc in absurd (omega arith)
+      go (failed k at) f h = let i : n ≡ k = cc in let j : place ≡ at = cc in
+          ap (λ (y : Next). ending (y .machine) size (y .answer)) (load-feeds l ∙ ap (with-rows fresh) f) ∙ rw (i, j) refl
 
-  pub checks-wrote : (n : ℕ) (old new : List ℕ) (a : Answer) → r .answer ≡ WroteN n → Checks l old new a
-  checks-wrote n old new a e = absurd (load-writes l n (sym told ∙ e))
-
-  pub checks-done : (old new : List ℕ) (a : Answer) → r .answer ≡ Done → Represents (call fresh (load l) .machine) (r .session) → Finishes (r .session) old new a → Checks l old new a
+  pub load-done : o ≡ BatchDone → (rows : List Row) × Table rows × Holds rows × (outcome l size ≡ call (run (open-with rows) settle) (print size) .answer)
   unfolding outcome
-  checks-done old new a e p h = let i = done-by (loaded l) (sym told ∙ e) in
-      let m = call fresh (load l) .machine in
-      let g = h m p in
-      record { answer-is = g .0 ∙ ap (λ x. answer-of (ending m (length old) x)) (sym i); buffer-is = g .1 ∙ ap (λ x. buffer-after (ending m (length old) x) old) (sym i) }
+  load-done d = go (feed load-row [] l) refl comes
+    where
+      go : (x : Fed (List Row)) → feed load-row [] l ≡ x → Comes Holds x o → (rows : List Row) × Table rows × Holds rows × (outcome l size ≡ call (run (open-with rows) settle) (print size) .answer)
+      go (fed rows) f h = (rows, h .1, h .2, ap (λ (y : Next). ending (y .machine) size (y .answer)) (load-feeds l ∙ ap (with-rows fresh) f))
+      go (failed k at) f h = let z : _≡_ {A = ℕ} 0 1 = cc in absurd (omega arith)
+
+pub checks-refused : (l old : List ℕ) (n place : ℕ) → outcome l (length old) ≡ refused n place → Checks l old old (Refused n place)
+checks-refused l old n place e = record { answer-is = ap answer-of (sym e); buffer-is = ap (λ a. buffer-after a old) (sym e) }
+
+pub checks-done : (l old new : List ℕ) (r : Answer) (a : Told) → outcome l (length old) ≡ a → r ≡ answer-of a → new ≡ buffer-after a old → Checks l old new r
+checks-done l old new r a e f g = record { answer-is = f ∙ ap answer-of (sym e); buffer-is = g ∙ ap (λ x. buffer-after x old) (sym e) }
 
 -- ---- what the program writes
 

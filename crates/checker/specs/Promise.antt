@@ -2,25 +2,22 @@
 use Prim.Native.Nat.{ℕ, _≤_, _<_}
 use mathlib.Core.Path.{_≡_}
 use mathlib.Core.List.{List}
-use lib.ListN.{length, take, replicate}
+use lib.ListN.{length, take}
 use Rattle.lists.specs.Writing.{Wrote}
-use Rattle.machine.specs.declared.Phase.the-variants.{Open}
-use Rattle.machine.specs.Machine.{Machine}
-use Rattle.machine.specs.Calls.{round, print, call, run, settle, buffer-after}
+use Rattle.rows.specs.declared.Row.{Row}
+use Rattle.machine.specs.Machine.{open-with}
+use Rattle.machine.specs.Calls.{print, call, run, settle, buffer-after}
+use Rattle.machine.specs.WellFormed.{Table}
 use Rattle.machine.specs.Program.{outcome, program}
-use Rattle.session.specs.declared.Session.{Session}
+use Rattle.table.specs.Arrays.{Filed}
 use Rattle.session.specs.declared.Answer.{Answer}
-use Rattle.session.specs.Record.{record-of, Represents}
 use Rattle.session.specs.Promise.{answer-of}
 
--- r is the session after the rounds that settle it
-abbrev pub Settles : Session → Session → Type 0
-Settles s r = (m : Machine) → Represents m s → r ≡ record-of (run m (replicate 129 round))
-
--- the answer is that of the machine, closed, settled and printed; and the buffer holds its text, and beyond it the bytes that it had
-abbrev pub Finishes : Session → List ℕ → List ℕ → Answer → Type 0
-Finishes s old new r = (m : Machine) → Represents m s
-    → (r ≡ answer-of (call (run m settle) (print (length old)) .answer)) × (new ≡ buffer-after (call (run m settle) (print (length old)) .answer) old)
+-- the answer is that of the machine with the rows that the arrays hold, closed, settled and printed; and the buffer holds its text, and
+-- beyond it the bytes that it had
+abbrev pub Finishes : List ℕ → List ℕ → ℕ → List ℕ → ℕ → List ℕ → List ℕ → Answer → Type 0
+Finishes highs lows n words k old new r = (rows : List Row) → Table rows → Filed highs lows words n k rows
+    → (r ≡ answer-of (call (run (open-with rows) settle) (print (length old)) .answer)) × (new ≡ buffer-after (call (run (open-with rows) settle) (print (length old)) .answer) old)
 
 -- the answer and the buffer are those of a fresh machine that loads the batch, closes, does rounds until settled and prints
 pub record Checks (batch old new : List ℕ) (r : Answer) : Type 0 where

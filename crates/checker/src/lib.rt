@@ -1,62 +1,64 @@
 // One batch in, one sheet out.
+use automaton::Automaton;
 use machine::Phase;
+use printing::Printed;
+use rounds::Rounds;
 use session::Answer;
-use session::Session;
-ghost use mathlib.Core.Path.{_≡_};
-ghost use Rattle.lists.specs.Tests.{Decides};
-ghost use Rattle.machine.specs.declared.Phase.the-variants.{Running};
-ghost use Rattle.checker.specs.Promise.{Settles, Finishes, Checks, Shows};
+use table::Outcome;
+ghost use Prim.Native.Nat.{_≤_};
+ghost use Rattle.rounds.specs.Promises.{Settles};
+ghost use Rattle.checker.specs.Promise.{Finishes, Checks, Shows};
 
-// Is the session running?
-fn is_running(phase: Phase) -> bool
-    ensures { λ r. ⌜ Decides r (phase ≡ Running) ⌝ }
+// The rounds of the automaton, until it is settled.
+fn settled(a: Automaton, words: &[u64; 64], k: usize) -> Rounds
+    requires { ⌜ k ≤ 64 ⌝ }
+    ensures { λ r. ⌜ Settles (a .letters) (now (words .entry)) (a .lefts) (a .rights) (a .initials) (a .finals) k r ⌝ }
 {
+    let letters = a.letters;
+    let lefts = a.lefts;
+    let rights = a.rights;
+    let starts = a.initials;
+    let ends = a.finals;
+    rounds::settle(&letters, words, &lefts, &rights, starts, ends, k)
+}
+
+// Closes the table that the arrays hold, settles it and prints its sheet.
+fn finish(
+    high: &[u64; 256],
+    low: &[u64; 256],
+    n: usize,
+    words: &[u64; 64],
+    k: usize,
+    sheet: &mut [u8],
+) -> Answer
+    requires { ⌜ (n ≤ 256) × (k ≤ 64) ⌝ }
+    ensures { λ r. ⌜ Finishes (now (high .entry)) (now (low .entry)) n (now (words .entry)) k (now (sheet .entry)) (now (sheet .exit)) r ⌝ }
+{
+    let a = automaton::of_keys(high, low, n, words, k);
+    let done = settled(a, words, k);
+    let phase = done.phase;
     match phase {
-        Phase::Open => false,
-        Phase::Running => true,
-        Phase::Settled(_) => false,
+        Phase::Open => Answer::Refused(9, 0),
+        Phase::Running => Answer::Refused(11, 0),
+        Phase::Settled(v) => match printing::print(sheet, v, high, low, n, words, k, a, done) {
+            Printed::Wrote(len) => Answer::Wrote(len),
+            Printed::Short => Answer::Refused(12, 0),
+        },
     }
 }
 
-// Rounds until the session is settled: none needs more than 129.
-fn settled(session: Session) -> Session
-    ensures { λ r. ⌜ Settles session r ⌝ }
-{
-    let mut last = session;
-    let mut rounds: u8 = 0;
-    while rounds < 129 {
-        let phase = last.phase;
-        if !is_running(phase) {
-            return last;
-        }
-        let reply = last.round();
-        last = reply.session;
-        rounds += 1;
-    }
-    last
-}
-
-// Closes the session, settles it and prints its sheet.
-fn finish(session: Session, sheet: &mut [u8]) -> Answer
-    ensures { λ r. ⌜ Finishes session (now (sheet .entry)) (now (sheet .exit)) r ⌝ }
-{
-    let closed = session.close();
-    let done = settled(closed.session);
-    let reply = done.print(sheet);
-    reply.answer
-}
-
-// Loads one batch into a fresh session, closes it, settles it and prints its sheet; or the refusal, and the buffer as it was.
+// Loads one batch into an empty table, closes it, settles it and prints its sheet; or the refusal, and the buffer as it was.
 pub fn check(batch: &[u8], sheet: &mut [u8]) -> Answer
     ensures { λ r. ⌜ Checks (now (batch .entry)) (now (sheet .entry)) (now (sheet .exit)) r ⌝ }
 {
-    let fresh = Session::fresh();
-    let loaded = fresh.load(batch);
-    let answer = loaded.answer;
-    match answer {
-        Answer::Done => finish(loaded.session, sheet),
-        Answer::Wrote(n) => Answer::Wrote(n),
-        Answer::Refused(n, place) => Answer::Refused(n, place),
+    let mut high = [0u64; 256];
+    let mut low = [0u64; 256];
+    let mut words = [0u64; 64];
+    let loaded = table::load_rows(&mut high, &mut low, &mut words, 0, 0, batch);
+    let outcome = loaded.outcome;
+    match outcome {
+        Outcome::Done => finish(&high, &low, loaded.rows, &words, loaded.sets, sheet),
+        Outcome::Refused(number, place) => Answer::Refused(number, place),
     }
 }
 

@@ -32,7 +32,11 @@ rounds-bring (suc n) c m = ⊎-elim (λ e. subst Brings (sym e) tt) (rounds-brin
 settle-brings : (c : Call) → c among settle → Brings c
 settle-brings c m = ⊎-elim (λ e. subst Brings (sym e) tt) (rounds-bring 129 c) (List·Memᴰ·cases-cons m)
 
--- a table of rows, closed and settled, has a sheet that fits
+-- a table of rows, closed and settled, is what calls make
+pub settled-formed : (rows : List Row) → Table rows → WellFormed (run (open-with rows) settle)
+settled-formed rows t = run-formed (open-with rows) settle settle-brings (opened-formed rows t)
+
+-- it has a sheet that fits
 module _ (rows : List Row) (t : Table rows) where
   s : Settles rows
   s = settles rows (t .few-sets)
@@ -46,7 +50,7 @@ module _ (rows : List Row) (t : Table rows) where
 
   formed : WellFormed m
   unfolding m
-  formed = run-formed (open-with rows) settle settle-brings (opened-formed rows t)
+  formed = settled-formed rows t
 
   is-second : second rows ≡ m
   unfolding m second

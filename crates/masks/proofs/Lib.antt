@@ -4,3 +4,4 @@ pub mod Digit
 pub mod Member
 pub mod Walks
 pub mod Turning
+pub mod Leaving

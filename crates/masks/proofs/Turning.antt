@@ -2,6 +2,7 @@
 use Prim.Native.Nat.{ℕ, _+_, _<_, _≤_}
 use mathlib.Core.Path.{_≡_, refl, ap, sym, _∙_}
 use mathlib.Core.Bool.{Bool, true, false, not, _&&_, _||_, or-false, and-false, and-true}
+use mathlib.Core.Logic.{⊎-elim, _↔_, _≢_}
 use mathlib.Core.List.{List}
 use native.Mathlib.Omega.{arith}
 use native.Mathlib.Decide.{decLt, ℕ-discrete}
@@ -11,7 +12,7 @@ use lib.ListN.{getD, length, set, replicate, getD-replicate}
 use lib.Seq.{getD-set-same, getD-set-other}
 use Rattle.masks.specs.Mask.{member, _∈_}
 use Rattle.masks.specs.Graph.{Turned}
-use Rattle.masks.proofs.Member.{member-none, with-same, with-other}
+use Rattle.masks.proofs.Member.{member-none, true-or-false, not-both}
 
 -- what is added of `a`: where j is a place of m that is not among the rest
 abbrev pub added : Bool → Bool → Bool → Bool → Bool
@@ -54,12 +55,12 @@ module _ (old : List ℕ) (m i : ℕ) where
       go (no n) = ap (member a) (getD-set-other back k j w 0 n) ∙ t j a l ∙ ap (λ (b : Bool). added (member a (getD old j 0)) (member j m) b (eqb a i)) (sym (same j n))
 
 -- a set without one state
-module _ (rest w less k : ℕ) (is : (t : ℕ) → member t less ≡ (member t rest && not (member t w))) (one : (t : ℕ) → member t w ≡ (member t 0 || eqb t k)) where
+module _ (rest less k : ℕ) (is : (t : ℕ) → (t ∈ less) ↔ ((t ∈ rest) × (t ≢ k))) where
   pub taken-out : member k less ≡ false
-  taken-out = is k ∙ rw (with-same 0 k w one, and-false)
+  taken-out = ⊎-elim (λ h. absurd (is k .0 h .1 refl)) (λ e. e) (true-or-false (member k less))
 
   pub left-as-was : (j : ℕ) → (j ≡ k → ⊥) → member j less ≡ member j rest
-  left-as-was j n = is j ∙ rw (with-other 0 k w one j n, member-none, and-true)
+  left-as-was j n = ⊎-elim (λ h. is j .1 (h, n) ∙ sym h) (λ e. ⊎-elim (λ h. absurd (not-both (is j .0 h .0) e)) (λ f. f ∙ sym e) (true-or-false (member j less))) (true-or-false (member j rest))
 
 module _ (succ : List ℕ) where
   -- the edges from the states below i are turned round

@@ -2,6 +2,7 @@
 
 ghost use mathlib.Core.Path.{_≡_};
 ghost use mathlib.Core.Bool.{not, _&&_, _||_};
+ghost use mathlib.Core.Logic.{_↔_, _≢_};
 ghost use Prim.Native.Nat.{ℕ, _≤_, _<_};
 ghost use lib.Dec.{eqb};
 ghost use lib.Count.{ones};
@@ -71,6 +72,14 @@ pub fn lowest(m: u64) -> u8
     u64::trailing_zeros(m) as u8
 }
 
+// The states of `m` but the lowest.
+pub fn without_lowest(m: u64) -> u64
+    requires { ⌜ 0 < m ⌝ }
+    ensures { λ r. ⌜ ((i : ℕ) → i ∈ m → ((t : ℕ) → t ∈ m → i ≤ t) → (t : ℕ) → (t ∈ r) ↔ ((t ∈ m) × (t ≢ i))) ⌝ }
+{
+    intersection(m, m - 1)
+}
+
 // The targets of all the states of `m`.
 pub fn targets(succ: &[u64; 64], m: u64) -> u64
     ensures { λ r. ⌜ Targets (now (succ .entry)) m r ⌝ }
@@ -80,7 +89,7 @@ pub fn targets(succ: &[u64; 64], m: u64) -> u64
     while rest != 0 {
         let i = lowest(rest);
         r = union(r, succ[i as usize]);
-        rest = difference(rest, with(0, i));
+        rest = without_lowest(rest);
     }
     r
 }
@@ -112,7 +121,7 @@ fn add_source(back: &mut [u64; 64], m: u64, i: u8)
         let j = lowest(rest);
         let at = j as usize;
         back[at] = with(back[at], i);
-        rest = difference(rest, with(0, j));
+        rest = without_lowest(rest);
     }
 }
 

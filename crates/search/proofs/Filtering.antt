@@ -1,35 +1,26 @@
 -- What a set that loops or mixes shows before any search: where steps lead to its states, and where steps lead from them.
-use Prim.Native.Nat.{ℕ, _-_, _^_, _<_}
-use mathlib.Core.Path.{_≡_, subst, sym, ap, _∙_}
-use mathlib.Core.Bool.{Bool, not, _&&_, _||_}
+use Prim.Native.Nat.{ℕ, _^_, _<_}
+use mathlib.Core.Path.{_≡_, subst, sym}
+use mathlib.Core.Bool.{Bool, _&&_, _||_}
 use mathlib.Core.Logic.{_⊎_, inl, inr, ⊎-elim, _↔_, _≢_}
 use mathlib.Core.List.{List}
-use lib.Dec.{eqb, lit<}
+use lib.Dec.{eqb}
 use Rattle.lists.specs.Tests.{Decides}
 use Rattle.lists.proofs.Deciding.{eqb·, iff·}
 use Rattle.masks.specs.Graph.{Turned}
 use Rattle.masks.specs.Mask.{member, _∈_, _⊆_}
-use Rattle.masks.proofs.Digit.{digit-none, digit-not}
-use Rattle.masks.proofs.Member.{in-none, none as empty, member-digit, member-lt, union-left, union-right, union-cases, intersection-left, intersection-right, intersection-both}
+use Rattle.masks.proofs.Member.{in-none, none as empty, union-left, union-right, union-cases, intersection-left, intersection-right, intersection-both}
 use Rattle.rows.specs.declared.Row.{Row}
 use Rattle.orderings.specs.Steps.{Claim}
 use Rattle.orderings.specs.Claims.{Loops, Mixes, Entrance, Exit}
 use Rattle.orderings.specs.Systems.{AtHand}
 use Rattle.orderings.specs.Timelines.{timelines}
 use Rattle.search.specs.Masked.{Masked, Forced, StepInside}
-use Rattle.search.specs.Hops.{Hop, Chain, Between, Ends, Threaded}
-use Rattle.search.proofs.Accepting.{all-inner}
+use Rattle.search.specs.Hops.{Chain, Between, Ends, Threaded}
 use Rattle.search.proofs.Chains.{chain-first, chain-last}
 use Rattle.search.proofs.Hops.{hop-turn}
 use Rattle.search.proofs.Steps.{step-hop}
 use Rattle.search.proofs.Walks.{leg-chain, leg-between}
-
--- the set of all states
-abbrev all : ℕ
-all = 2 ^ 64 - 1 - 0
-
-pub has-all : (s : ℕ) → s < 64 → s ∈ all
-has-all s h = member-digit s _ h ∙ digit-not s 64 0 h (lit< tt) ∙ ap not (digit-none s)
 
 -- a set with a state
 not-none : (s m : ℕ) → s ∈ m → m ≢ 0
@@ -56,22 +47,18 @@ threaded p m n to from after before both some-m some-n is-a is-b is = iff·
     (⊎-elim (union-left n from before is-b s) (union-right n from before is-b s) (x .3)))
 
 module _ {rows : List Row} {letters back words lefts rights : List ℕ} {n : ℕ} (is : Masked rows letters words lefts rights n) (turned : Turned letters back)
-    {In : Claim → Type 0} {loop-mask mix-mask : ℕ} (force : Forced In words n loop-mask mix-mask) (to from : ℕ)
-    (is-to : Ends letters words lefts rights loop-mask mix-mask to) (is-from : Ends back words rights lefts loop-mask mix-mask from) (p : ℕ) where
+    {In : Claim → Type 0} {loop-mask mix-mask : ℕ} (force : Forced In words n loop-mask mix-mask) (to from p : ℕ)
+    (is-to : Ends letters words lefts rights loop-mask mix-mask p to) (is-from : Ends back words rights lefts loop-mask mix-mask p from) where
   abbrev Step : ℕ → ℕ → Type 0
   Step a b = StepInside rows In p a b
 
-  -- a step inside p is one inside the set of all states
-  anywhere : (a b : ℕ) → Step a b → Hop letters words lefts rights loop-mask mix-mask all a b
-  anywhere a b (l, can, f, c) =
-      step-hop is force all loop-mask mix-mask (all-inner all has-all words loop-mask) (all-inner all has-all words mix-mask) a b
-      (l, can, f, λ s m. has-all s (member-lt s p (c s m)))
-
   follows : {a b : ℕ} → Chain Step a b → b ∈ to
-  follows {a} {b} c = let e = chain-last c in is-to all (e .0) b (anywhere (e .0) b (e .1))
+  follows {a} {b} c = let e = chain-last c in
+      is-to .ends (e .0) b (step-hop is force p (is-to .inner-loops) (is-to .inner-mixes) (is-to .is-loops) (is-to .is-mixes) (e .0) b (e .1))
 
   precedes : {a b : ℕ} → Chain Step a b → a ∈ from
-  precedes {a} {b} c = let e = chain-first c in is-from all (e .0) a (hop-turn turned a (e .0) (anywhere a (e .0) (e .1)))
+  precedes {a} {b} c = let e = chain-first c in
+      is-from .ends (e .0) a (hop-turn turned a (e .0) (step-hop is force p (is-from .inner-loops) (is-from .inner-mixes) (is-from .is-loops) (is-from .is-mixes) a (e .0) (e .1)))
 
   pub looping-passes : Loops (AtHand (timelines rows) In) p → (p ⊆ to) × (p ⊆ from)
   looping-passes f = ((λ s h. follows (leg-chain rows In p s s (f s s h h))), λ s h. precedes (leg-chain rows In p s s (f s s h h)))

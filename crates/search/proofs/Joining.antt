@@ -1,15 +1,13 @@
 -- What forward and backward searches say: a set whose states chains join, and one that chains cover.
 use Prim.Native.Nat.{ℕ, _^_, _<_}
-use mathlib.Core.Path.{_≡_, refl, subst, sym, _∙_}
-use mathlib.Core.Bool.{Bool, false, false≢true, _&&_, _||_}
+use mathlib.Core.Path.{_≡_, refl, subst, sym}
+use mathlib.Core.Bool.{_&&_, _||_}
 use mathlib.Core.Logic.{inl, inr, ⊎-elim, _↔_}
 use lib.Dec.{eqb}
-use Rattle.lists.specs.Tests.{Decides}
-use Rattle.lists.proofs.Deciding.{iff·}
-use Rattle.masks.specs.Mask.{member, _∈_, _⊆_}
+use Rattle.masks.specs.Mask.{member, _∈_}
 use Rattle.masks.proofs.Member.{with-same, with-none, union-left, union-right, union-cases, intersection-left, intersection-right, intersection-both, same}
-use Rattle.search.specs.Hops.{Chain, Onward, Joined, Between, Covered, Entered}
-use Rattle.search.proofs.Chains.{chain-append, chain-back, chain-end, chain-first, chain-last}
+use Rattle.search.specs.Hops.{Chain, Onward, Joined, Between, Covered}
+use Rattle.search.proofs.Chains.{chain-append, chain-back, chain-end}
 
 -- a search inside p from one state s
 module _ {E : ℕ → ℕ → Type 0} (p s w r : ℕ) (is-w : (t : ℕ) → member t w ≡ (member t 0 || eqb t s)) (is : Onward (Chain E) w r) where
@@ -57,35 +55,3 @@ module _ {E F : ℕ → ℕ → Type 0} (back : (a b : ℕ) → F a b → E b a)
           (⊎-elim (λ e. union-left n before y is-y s (subst (λ (j : ℕ). j ∈ n) (sym e) (o .3))) (λ e. union-right n before y is-y s (leads s b (o .3) e)) (k .1))))
           (o .4),
     )
-
--- ---- one pass before a search
-
--- a test by one step from the states of p
-pub entered-by : {E : ℕ → ℕ → Type 0} {b : Bool} (p m found both : ℕ) → ((a c : ℕ) → E a c → a ∈ p) → Onward E p found
-    → ((t : ℕ) → member t both ≡ (member t m || member t found)) → Decides b (p ⊆ both) → Decides b (Entered E m p)
-entered-by p m found both from-p is is-both = iff·
-    (λ f s h. ⊎-elim inl (λ k. let x = is s .0 k in inr (x .0, x .2)) (union-cases m found both is-both s (f s h)))
-    (λ f s h. ⊎-elim (union-left m found both is-both s) (λ x. union-right m found both is-both s (is s .1 (x .0, from-p (x .0) s (x .1), x .1))) (f s h))
-
--- where the test fails for what follows from a statement, the statement fails
-pub fails : {A B : Type 0} {b : Bool} → (A → B) → Decides b B → b ≡ false → Decides false A
-fails f d e = record { to = λ x. absurd (false≢true x); of = λ a. absurd (false≢true (sym e ∙ d .of (f a))) }
-
-pub joined-enters : {E : ℕ → ℕ → Type 0} (p m : ℕ) → Joined E p → Entered E m p
-joined-enters p m j s h = inr (chain-last (j s s h h))
-
-pub covered-enters : {E : ℕ → ℕ → Type 0} (p m n : ℕ) → Covered E m n p → Entered E m p
-covered-enters p m n f s h = let x = f s h in ⊎-elim (λ y. inl (subst (λ (t : ℕ). t ∈ m) (sym (y .0)) (x .2))) (λ y. inr (chain-last (y .0))) (x .4)
-
-module _ {E F : ℕ → ℕ → Type 0} (turn : (a b : ℕ) → E a b → F b a) where
-  pub joined-leaves : (p m : ℕ) → Joined E p → Entered F m p
-  joined-leaves p m j s h = let e = chain-first (j s s h h) in inr (e .0, turn s (e .0) (e .1))
-
-  -- a chain from s begins with a step
-  out : {s b : ℕ} → Chain E s b → (t : ℕ) × F t s
-  out {s} c = let e = chain-first c in (e .0, turn s (e .0) (e .1))
-
-  pub covered-leaves : (p m n : ℕ) → Covered E m n p → Entered F n p
-  covered-leaves p m n f s h =
-      let x = f s h in
-      ⊎-elim (λ y. inr (out (y .1))) (λ y. ⊎-elim (λ e. inl (subst (λ (t : ℕ). t ∈ n) (sym e) (x .3))) (λ c. inr (out c)) (y .1)) (x .4)

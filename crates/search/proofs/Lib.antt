@@ -1,12 +1,12 @@
 -- The laws that the proofs of `search` share.
-pub mod Lowest
 pub mod Gathering
 pub mod Chains
 pub mod Hops
 pub mod Steps
 pub mod Joining
 pub mod Walks
-pub mod Claims
+pub mod Saying
 pub mod Accepting
+pub mod Reaching
 pub mod Filtering
 pub mod Opening

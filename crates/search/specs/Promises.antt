@@ -14,7 +14,9 @@ use Rattle.rows.specs.Rows.{sets, AllFit}
 use Rattle.orderings.specs.Steps.{Claim, loops, mixes, Walk}
 use Rattle.orderings.specs.Systems.{Allowed, AtHand, Holds}
 use Rattle.orderings.specs.Timelines.{timelines, Accepting}
+use Rattle.search.specs.declared.Claims.{Claims}
 use Rattle.search.specs.Masked.{Masked, Forced}
+use Rattle.search.specs.Hops.{Reached, Unites, Ends}
 
 -- the masks are those of the rows, and the places those of the claims in force
 pub record Stands (letters words lefts rights : List ℕ) (loop-mask mix-mask : ℕ) (rows : List Row) (claims : List Claim) (n : ℕ) : Type 0 where
@@ -31,6 +33,28 @@ AcceptsRight letters words lefts rights loop-mask mix-mask starts ends r =
     (rows : List Row) (claims : List Claim) (n : ℕ) → Stands letters words lefts rights loop-mask mix-mask rows claims n → AllFit rows
     → ((s : ℕ) → (s ∈ starts) ↔ Initial s among rows) → ((s : ℕ) → (s ∈ ends) ↔ Final s among rows)
     → Decides r ((w : Walk) × Accepting rows w × Allowed (timelines rows) (λ c. c among claims) w)
+
+-- the same of whatever masks lead from the states starts, in one step or more, to the states seen
+abbrev pub AcceptsSeen : ℕ → ℕ → ℕ → Bool → Type 0
+AcceptsSeen starts seen ends r = (letters words lefts rights : List ℕ) (loop-mask mix-mask : ℕ)
+    → Reached letters words lefts rights loop-mask mix-mask starts seen → AcceptsRight letters words lefts rights loop-mask mix-mask starts ends r
+
+-- the claims in force are old ones, with which the states seen are reached, and new ones
+pub record SeenBefore (letters words lefts rights : List ℕ) (force new : Claims) (starts seen : ℕ) : Type 0 where
+  pub old : Claims
+  pub loops-are : Unites (old .loops) (new .loops) (force .loops)
+  pub mixes-are : Unites (old .mixes) (new .mixes) (force .mixes)
+  pub reached : Reached letters words lefts rights (old .loops) (old .mixes) starts seen
+
+-- where found has the ends of all steps inside p with old claims, r has those with the new ones too
+abbrev pub MoreEnds : List ℕ → List ℕ → List ℕ → Claims → ℕ → ℕ → ℕ → Type 0
+MoreEnds words lefts rights new p found r = (letters : List ℕ) (old force : Claims) → Unites (old .loops) (new .loops) (force .loops) → Unites (old .mixes) (new .mixes) (force .mixes)
+    → Ends letters words lefts rights (old .loops) (old .mixes) p found → Ends letters words lefts rights (force .loops) (force .mixes) p r
+
+-- the same for each of the first n words
+pub record AddsEnds (words lefts rights : List ℕ) (new : Claims) (n : ℕ) (before after : List ℕ) : Type 0 where
+  pub length-is : length after ≡ length before
+  pub ends-are : length before ≡ 64 → (i : ℕ) → i < n → MoreEnds words lefts rights new (getD words i 0) (getD before i 0) (getD after i 0)
 
 -- the claim holds with the claims in force, and is not in force yet
 abbrev pub Opens : List Row → List Claim → Claim → Type 0

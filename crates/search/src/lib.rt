@@ -1,14 +1,15 @@
 // The search: does a set loop, does it mix, does a walk lead from an initial to a final state.
 
 ghost use mathlib.Core.Path.{_≡_};
-ghost use mathlib.Core.Logic.{_⊎_, _↔_, _≢_};
+ghost use mathlib.Core.Logic.{_⊎_, _↔_};
 ghost use mathlib.Core.Bool.{true, false};
 ghost use Prim.Native.Nat.{ℕ, _≤_, _<_};
 ghost use Rattle.lists.specs.Tests.{Decides};
 ghost use Rattle.masks.specs.Graph.{Turned};
 ghost use Rattle.masks.specs.Mask.{_∈_, _⊆_};
-ghost use Rattle.search.specs.Hops.{Passes, Hop, Chain, Onward, Inner, Joined, Covered, Ends, Threaded, Entered};
-ghost use Rattle.search.specs.Promises.{AcceptsRight, OpensAt, OpensBelow};
+ghost use lib.ListN.{length, getD};
+ghost use Rattle.search.specs.Hops.{Passes, Claimed, Hop, LetterHop, Chain, Onward, Followed, Explored, all, Reached, Inner, Ends, EndsBelow, Joined, Covered, Threaded};
+ghost use Rattle.search.specs.Promises.{AcceptsRight, AcceptsSeen, SeenBefore, AddsEnds, OpensAt, OpensBelow};
 use masks::difference;
 use masks::has;
 use masks::intersection;
@@ -16,6 +17,13 @@ use masks::is_subset;
 use masks::lowest;
 use masks::union;
 use masks::with;
+use masks::without_lowest;
+
+// Claims, as two masks of places among the sets: those that loop and those that mix.
+pub struct Claims {
+    pub loops: u64,
+    pub mixes: u64,
+}
 
 // Do `a` and `b` have a state in common?
 fn meets(a: u64, b: u64) -> bool
@@ -30,14 +38,6 @@ fn marked(b: bool, i: u8) -> u64
     ensures { λ r. ⌜ ((t : ℕ) → (t ∈ r) ↔ ((t ≡ i) × (b ≡ true))) ⌝ }
 {
     if b { with(0, i) } else { 0 }
-}
-
-// The places of `m` but the lowest.
-fn without_lowest(m: u64) -> u64
-    requires { ⌜ 0 < m ⌝ }
-    ensures { λ r. ⌜ ((i : ℕ) → i ∈ m → ((t : ℕ) → t ∈ m → i ≤ t) → (t : ℕ) → (t ∈ r) ↔ ((t ∈ m) × (t ≢ i))) ⌝ }
-{
-    intersection(m, m - 1)
 }
 
 // The places whose words are parts of `p`.
@@ -93,6 +93,21 @@ fn looping(words: &[u64; 64], lefts: &[u64; 64], rights: &[u64; 64], places: u64
     r
 }
 
+// The states to which a step by a claim leads from the states `m`.
+fn claimed(
+    words: &[u64; 64],
+    lefts: &[u64; 64],
+    rights: &[u64; 64],
+    loops: u64,
+    mixes: u64,
+    m: u64,
+) -> u64
+    ensures { λ r. ⌜ Onward (Claimed (now (words .entry)) (now (lefts .entry)) (now (rights .entry)) loops mixes) m r ⌝ }
+{
+    let omega_or_back = looping(words, lefts, rights, loops, m);
+    union(omega_or_back, passing(rights, lefts, mixes, m))
+}
+
 // The states to which one step inside `p` leads from the states `m`.
 pub fn targets(
     letters: &[u64; 64],
@@ -108,9 +123,62 @@ pub fn targets(
 {
     let from = intersection(m, p);
     let letter = masks::targets(letters, from);
-    let omega_or_back = looping(words, lefts, rights, loops, from);
-    let mix = passing(rights, lefts, mixes, from);
-    intersection(union(letter, union(omega_or_back, mix)), p)
+    let claim = claimed(words, lefts, rights, loops, mixes, from);
+    intersection(union(letter, claim), p)
+}
+
+// The states `found`, and all to which letters inside `p` lead from the states `last`. Steps from the others are followed already.
+fn spread(letters: &[u64; 64], p: u64, found: u64, last: u64) -> u64
+    requires { ⌜ Followed (LetterHop (now letters) p) found last ⌝ }
+    ensures { λ r. ⌜ Explored (LetterHop (now (letters .entry)) p) found last r ⌝ }
+{
+    let mut all = found;
+    let mut front = last;
+    loop {
+        let from = intersection(front, p);
+        let near = intersection(masks::targets(letters, from), p);
+        let next = difference(near, all);
+        if next == 0 {
+            return all;
+        }
+        all = union(all, next);
+        front = next;
+    }
+}
+
+// The states `found`, and all to which steps inside `p` lead from the states `last`. Letters first: claims are looked through once they
+// lead no further.
+fn explore(
+    letters: &[u64; 64],
+    words: &[u64; 64],
+    lefts: &[u64; 64],
+    rights: &[u64; 64],
+    loops: u64,
+    mixes: u64,
+    p: u64,
+    found: u64,
+    last: u64,
+) -> u64
+    requires { ⌜ Followed (Hop (now letters) (now words) (now lefts) (now rights) loops mixes p) found last ⌝ }
+    ensures { λ r. ⌜ Explored (Hop (now (letters .entry)) (now (words .entry)) (now (lefts .entry)) (now (rights .entry)) loops mixes p) found last r ⌝ }
+{
+    let mut known = found;
+    let mut front = last;
+    loop {
+        let all = spread(letters, p, known, front);
+        // Every step inside `p` leads to a state of `p`, so nothing more is to be found.
+        if all == p {
+            return all;
+        }
+        let from = intersection(union(front, difference(all, known)), p);
+        let near = intersection(claimed(words, lefts, rights, loops, mixes, from), p);
+        let next = difference(near, all);
+        if next == 0 {
+            return all;
+        }
+        known = union(all, next);
+        front = next;
+    }
 }
 
 // The states to which a walk of one or more steps inside `p` leads from the states `m`.
@@ -126,40 +194,7 @@ pub fn reach(
 ) -> u64
     ensures { λ r. ⌜ Onward (Chain (Hop (now (letters .entry)) (now (words .entry)) (now (lefts .entry)) (now (rights .entry)) loops mixes p)) m r ⌝ }
 {
-    let mut found: u64 = 0;
-    let mut last = m;
-    loop {
-        let next = difference(
-            targets(letters, words, lefts, rights, loops, mixes, p, last),
-            found,
-        );
-        if next == 0 {
-            return found;
-        }
-        found = union(found, next);
-        // Every step inside `p` leads to a state of `p`, so nothing more is to be found.
-        if found == p {
-            return found;
-        }
-        last = next;
-    }
-}
-
-// Does a step inside `p` lead to each state of `p` that is not in `m`? One pass, which spares most searches.
-fn entered(
-    letters: &[u64; 64],
-    words: &[u64; 64],
-    lefts: &[u64; 64],
-    rights: &[u64; 64],
-    loops: u64,
-    mixes: u64,
-    p: u64,
-    m: u64,
-) -> bool
-    ensures { λ r. ⌜ Decides r (Entered (Hop (now (letters .entry)) (now (words .entry)) (now (lefts .entry)) (now (rights .entry)) loops mixes p) m p) ⌝ }
-{
-    let found = targets(letters, words, lefts, rights, loops, mixes, p, p);
-    is_subset(p, union(m, found))
+    explore(letters, words, lefts, rights, loops, mixes, p, 0, m)
 }
 
 // Does a walk of one or more steps inside `p` lead from each state of `p` to each? `back` is `letters` turned round.
@@ -177,12 +212,6 @@ fn joined(
 {
     if p == 0 {
         return true;
-    }
-    if !entered(letters, words, lefts, rights, loops, mixes, p, 0) {
-        return false;
-    }
-    if !entered(back, words, rights, lefts, loops, mixes, p, 0) {
-        return false;
     }
     let s = with(0, lowest(p));
     if reach(letters, words, lefts, rights, loops, mixes, p, s) != p {
@@ -206,12 +235,6 @@ fn covered(
 ) -> bool
     ensures { λ r. ⌜ (Turned (now (letters .entry)) (now (back .entry)) → Decides r (Covered (Hop (now (letters .entry)) (now (words .entry)) (now (lefts .entry)) (now (rights .entry)) loops mixes p) m n p)) ⌝ }
 {
-    if !entered(letters, words, lefts, rights, loops, mixes, p, m) {
-        return false;
-    }
-    if !entered(back, words, rights, lefts, loops, mixes, p, n) {
-        return false;
-    }
     let after = reach(letters, words, lefts, rights, loops, mixes, p, m);
     let before = reach(back, words, rights, lefts, loops, mixes, p, n);
     let first = intersection(m, before);
@@ -221,9 +244,67 @@ fn covered(
 
 // The set of all states.
 fn all_states() -> u64
-    ensures { λ r. ⌜ ((s : ℕ) → s < 64 → s ∈ r) ⌝ }
+    ensures { λ r. ⌜ r ≡ all ⌝ }
 {
     !0u64
+}
+
+// The states to which a walk of one or more steps with the claims in force leads from the states `starts`.
+pub fn reached(
+    letters: &[u64; 64],
+    words: &[u64; 64],
+    lefts: &[u64; 64],
+    rights: &[u64; 64],
+    force: Claims,
+    starts: u64,
+) -> u64
+    ensures { λ r. ⌜ Reached (now (letters .entry)) (now (words .entry)) (now (lefts .entry)) (now (rights .entry)) (force .loops) (force .mixes) starts r ⌝ }
+{
+    let p = all_states();
+    reach(
+        letters,
+        words,
+        lefts,
+        rights,
+        force.loops,
+        force.mixes,
+        p,
+        starts,
+    )
+}
+
+// The same where `seen` was reached before the new claims came into force: the search goes on from there.
+pub fn reached_more(
+    letters: &[u64; 64],
+    words: &[u64; 64],
+    lefts: &[u64; 64],
+    rights: &[u64; 64],
+    force: Claims,
+    new: Claims,
+    starts: u64,
+    seen: u64,
+) -> u64
+    requires { ⌜ SeenBefore (now letters) (now words) (now lefts) (now rights) force new starts seen ⌝ }
+    ensures { λ r. ⌜ Reached (now (letters .entry)) (now (words .entry)) (now (lefts .entry)) (now (rights .entry)) (force .loops) (force .mixes) starts r ⌝ }
+{
+    let from = union(starts, seen);
+    let near = claimed(words, lefts, rights, new.loops, new.mixes, from);
+    let next = difference(near, seen);
+    let found = union(seen, next);
+    if next == 0 {
+        return found;
+    }
+    let p = all_states();
+    let loops = force.loops;
+    let mixes = force.mixes;
+    explore(letters, words, lefts, rights, loops, mixes, p, found, next)
+}
+
+// Does a walk of zero or more steps lead from a state of `starts` to one of `ends`? One or more lead to the states `seen`.
+pub fn accepted(starts: u64, seen: u64, ends: u64) -> bool
+    ensures { λ r. ⌜ AcceptsSeen starts seen ends r ⌝ }
+{
+    meets(union(starts, seen), ends)
 }
 
 // Does a walk of zero or more steps with the claims in force lead from a state of `starts` to one of `ends`?
@@ -232,49 +313,86 @@ pub fn accepts(
     words: &[u64; 64],
     lefts: &[u64; 64],
     rights: &[u64; 64],
-    loop_mask: u64,
-    mix_mask: u64,
+    force: Claims,
     starts: u64,
     ends: u64,
 ) -> bool
-    ensures { λ r. ⌜ AcceptsRight (now (letters .entry)) (now (words .entry)) (now (lefts .entry)) (now (rights .entry)) «loop_mask» «mix_mask» starts ends r ⌝ }
+    ensures { λ r. ⌜ AcceptsRight (now (letters .entry)) (now (words .entry)) (now (lefts .entry)) (now (rights .entry)) (force .loops) (force .mixes) starts ends r ⌝ }
 {
-    if meets(starts, ends) {
-        return true;
-    }
-    let all = all_states();
-    let found = reach(
-        letters,
-        words,
-        lefts,
-        rights,
-        loop_mask,
-        mix_mask,
-        all,
-        starts,
-    );
-    meets(found, ends)
+    let seen = reached(letters, words, lefts, rights, force, starts);
+    accepted(starts, seen, ends)
 }
 
-// The places whose loops are opened, and those whose mixes are.
-pub struct Opened {
-    pub loops: u64,
-    pub mixes: u64,
-}
-
-// The ends of all steps with the claims in force.
+// The ends of all steps inside `p`.
 fn ends(
     letters: &[u64; 64],
     words: &[u64; 64],
     lefts: &[u64; 64],
     rights: &[u64; 64],
-    loop_mask: u64,
-    mix_mask: u64,
+    loops: u64,
+    mixes: u64,
+    p: u64,
 ) -> u64
-    ensures { λ r. ⌜ Ends (now (letters .entry)) (now (words .entry)) (now (lefts .entry)) (now (rights .entry)) «loop_mask» «mix_mask» r ⌝ }
+    ensures { λ r. ⌜ Ends (now (letters .entry)) (now (words .entry)) (now (lefts .entry)) (now (rights .entry)) loops mixes p r ⌝ }
 {
-    let all = all_states();
-    targets(letters, words, lefts, rights, loop_mask, mix_mask, all, all)
+    let a = inside(words, loops, p);
+    let b = inside(words, mixes, p);
+    targets(letters, words, lefts, rights, a, b, p, p)
+}
+
+// For each of the `n` sets the ends of all steps inside it.
+pub fn all_ends(
+    letters: &[u64; 64],
+    words: &[u64; 64],
+    lefts: &[u64; 64],
+    rights: &[u64; 64],
+    force: Claims,
+    n: usize,
+) -> [u64; 64]
+    requires { ⌜ n ≤ 64 ⌝ }
+    ensures ends { λ r. ⌜ EndsBelow (now (letters .entry)) (now (words .entry)) (now (lefts .entry)) (now (rights .entry)) (force .loops) (force .mixes) n r ⌝ }
+    ensures sized { λ r. ⌜ length r ≡ 64 ⌝ }
+{
+    let mut r = [0u64; 64];
+    let mut i = 0;
+    while i < n {
+        r[i] = ends(
+            letters,
+            words,
+            lefts,
+            rights,
+            force.loops,
+            force.mixes,
+            words[i],
+        );
+        i += 1;
+    }
+    r
+}
+
+// The same forward and backward with new claims in force, where `to` and `from` were so before.
+pub fn add_ends(
+    to: &mut [u64; 64],
+    from: &mut [u64; 64],
+    words: &[u64; 64],
+    lefts: &[u64; 64],
+    rights: &[u64; 64],
+    new: Claims,
+    n: usize,
+)
+    requires { ⌜ n ≤ 64 ⌝ }
+    ensures forward { λ _. ⌜ AddsEnds (now (words .entry)) (now (lefts .entry)) (now (rights .entry)) new n (now (to .entry)) (now (to .exit)) ⌝ }
+    ensures backward { λ _. ⌜ AddsEnds (now (words .entry)) (now (rights .entry)) (now (lefts .entry)) new n (now (from .entry)) (now (from .exit)) ⌝ }
+{
+    let mut i = 0;
+    while i < n {
+        let p = words[i];
+        let a = inside(words, new.loops, p);
+        let b = inside(words, new.mixes, p);
+        to[i] = union(to[i], claimed(words, lefts, rights, a, b, p));
+        from[i] = union(from[i], claimed(words, rights, lefts, a, b, p));
+        i += 1;
+    }
 }
 
 // Is the loop of `p` to be tried? Not where it is in force already, and not where no step leads to a state of `p`, or none from one.
@@ -358,8 +476,8 @@ fn mix_opens(
     false
 }
 
-// The claims of the set at place `i` that hold with the claims in force and are not in force yet. All steps lead from states of
-// `from` to states of `to`.
+// The claims of the set at place `i` that hold with the claims in force and are not in force yet. The steps inside the set lead from
+// states of `from` to states of `to`.
 fn opened_at(
     letters: &[u64; 64],
     back: &[u64; 64],
@@ -371,8 +489,8 @@ fn opened_at(
     to: u64,
     from: u64,
     i: u8,
-) -> Opened
-    requires { ⌜ (i < 64) × Ends (now letters) (now words) (now lefts) (now rights) «loop_mask» «mix_mask» to × Ends (now back) (now words) (now rights) (now lefts) «loop_mask» «mix_mask» from ⌝ }
+) -> Claims
+    requires { ⌜ (i < 64) × Ends (now letters) (now words) (now lefts) (now rights) «loop_mask» «mix_mask» (getD (now words) i 0) to × Ends (now back) (now words) (now rights) (now lefts) «loop_mask» «mix_mask» (getD (now words) i 0) from ⌝ }
     ensures { λ r. ⌜ OpensAt (now (letters .entry)) (now (back .entry)) (now (words .entry)) (now (lefts .entry)) (now (rights .entry)) «loop_mask» «mix_mask» i (r .loops) (r .mixes) ⌝ }
 {
     let at = i as usize;
@@ -382,37 +500,39 @@ fn opened_at(
     let try_loop = may_loop(has(loop_mask, i), p, to, from);
     let try_mix = may_mix(has(mix_mask, i), p, m, n, to, from);
     if neither(try_loop, try_mix) {
-        return Opened { loops: 0, mixes: 0 };
+        return Claims { loops: 0, mixes: 0 };
     }
     let a = inside(words, loop_mask, p);
     let b = inside(words, mix_mask, p);
     let loops = loop_opens(letters, back, words, lefts, rights, a, b, p, try_loop);
     let mixes = mix_opens(letters, back, words, lefts, rights, a, b, p, m, n, try_mix);
-    Opened {
+    Claims {
         loops: marked(loops, i),
         mixes: marked(mixes, i),
     }
 }
 
-// The claims of the `n` sets that hold with the claims in force and are not in force yet.
+// The claims of the `n` sets that hold with the claims in force and are not in force yet. The steps inside each set lead from the states of
+// its mask in `from` to those of its mask in `to`.
 pub fn open_next(
     letters: &[u64; 64],
     back: &[u64; 64],
     words: &[u64; 64],
     lefts: &[u64; 64],
     rights: &[u64; 64],
-    loop_mask: u64,
-    mix_mask: u64,
-    n: u8,
-) -> Opened
-    requires { ⌜ n ≤ 64 ⌝ }
-    ensures { λ r. ⌜ OpensBelow (now (letters .entry)) (now (back .entry)) (now (words .entry)) (now (lefts .entry)) (now (rights .entry)) «loop_mask» «mix_mask» n n (r .loops) (r .mixes) ⌝ }
+    force: Claims,
+    to: &[u64; 64],
+    from: &[u64; 64],
+    n: usize,
+) -> Claims
+    requires { ⌜ (n ≤ 64) × EndsBelow (now letters) (now words) (now lefts) (now rights) (force .loops) (force .mixes) n (now to) × EndsBelow (now back) (now words) (now rights) (now lefts) (force .loops) (force .mixes) n (now from) ⌝ }
+    ensures { λ r. ⌜ OpensBelow (now (letters .entry)) (now (back .entry)) (now (words .entry)) (now (lefts .entry)) (now (rights .entry)) (force .loops) (force .mixes) n n (r .loops) (r .mixes) ⌝ }
 {
-    let to = ends(letters, words, lefts, rights, loop_mask, mix_mask);
-    let from = ends(back, words, rights, lefts, loop_mask, mix_mask);
+    let loop_mask = force.loops;
+    let mix_mask = force.mixes;
     let mut loops: u64 = 0;
     let mut mixes: u64 = 0;
-    let mut i: u8 = 0;
+    let mut i = 0;
     while i < n {
         let opened = opened_at(
             letters,
@@ -422,13 +542,13 @@ pub fn open_next(
             rights,
             loop_mask,
             mix_mask,
-            to,
-            from,
-            i,
+            to[i],
+            from[i],
+            i as u8,
         );
         loops = union(loops, opened.loops);
         mixes = union(mixes, opened.mixes);
         i += 1;
     }
-    Opened { loops, mixes }
+    Claims { loops, mixes }
 }

@@ -1,12 +1,7 @@
-pub mod Writing
 pub mod Standing
 pub mod Whole
 pub mod Saved
-pub mod Adding
-pub mod Passing
-pub mod OpenClaims
 pub mod Batches
-pub mod Marking
 pub mod Rounded
 pub mod Phases
 pub mod Printed

@@ -12,17 +12,18 @@ use Rattle.machine.specs.declared.Phase.the-variants.{Open, Running, Settled}
 use Rattle.machine.specs.Machine.{Machine, judged, closed, next-round, reopened}
 use Rattle.machine.specs.Calls.{Call, close, round, reopen, Next, accept, refuse, call-in, call}
 use Rattle.machine.specs.Causes.{NotOpen, running, settled, NeedsClosed, reopening, rounding, printing}
-use Rattle.search.specs.Promises.{AcceptsRight}
 use Rattle.session.specs.declared.Session.{Session}
-use Rattle.session.specs.declared.automaton.Automaton.{Automaton}
+use Rattle.automaton.specs.declared.Automaton.{Automaton}
+use Rattle.rounds.specs.declared.Rounds.{Rounds}
+use Rattle.rounds.specs.Promises.{Closes, DoesRound}
 use Rattle.session.specs.declared.Answer.the-variants.{Done, Refused}
 use Rattle.session.specs.declared.Reply.{Reply}
 use Rattle.session.specs.Record.{record-of, Represents}
 use Rattle.session.specs.Automaton.{Reads}
 use Rattle.session.specs.Promise.{reply-of, Keeps, KeepsOpen, KeepsRunning, KeepsClosed}
-use Rattle.session.specs.Standing.{reply, with-rounds}
+use Rattle.session.specs.Standing.{reply, rounds-in, with-rounds}
 use Rattle.session.proofs.Whole.{phase-of}
-use Rattle.session.proofs.Rounded.{closed-record, reopened-record, RoundOf, round-record}
+use Rattle.session.proofs.Rounded.{rounded, closed-record, reopened-record, round-record}
 
 rounds-count : (m : Machine) (s : Session) → Represents m s → s .rounds ≡ m .rounds
 unfolding record-of
@@ -77,15 +78,17 @@ close-is : (m : Machine) → call-in Open m close ≡ accept (closed m)
 unfolding call-in
 close-is m = refl
 
-pub close-done : (s : Session) (a : Automaton) (b : Bool) (t : Session) → Reads s a
-    → AcceptsRight (a .letters) (s .sets) (a .lefts) (a .rights) 0 0 (a .initials) (a .finals) b
-    → t ≡ with-rounds s (replicate 64 0) (replicate 64 0) (judged b false) 0 → KeepsOpen s close (reply t Done)
-close-done s a b t h g made m p e =
-    done-is m close (closed m) t (ap (λ (x : Phase). call-in x m close) e ∙ close-is m) (made ∙ closed-record m s a p h b g)
+pub close-done : (s : Session) (a : Automaton) (r : Rounds) (t : Session) → Reads s a
+    → Closes (a .letters) (s .sets) (a .lefts) (a .rights) (a .initials) (a .finals) r → t ≡ rounded s r → KeepsOpen s close (reply t Done)
+close-done s a r t h c made m p e =
+    done-is m close (closed m) t (ap (λ (x : Phase). call-in x m close) e ∙ close-is m) (made ∙ closed-record m s p a r h c)
 
-pub round-done : (s t : Session) → s .rounds < 129 → RoundOf s t → KeepsRunning s round (reply t Done)
-round-done s t h d m p e = done-is m round (next-round m) t
-    (ap (λ (x : Phase). call-in x m round) e ∙ round-test m true (so (ltb· (m .rounds) 129) (omega (arith, rounds-count m s p)))) (round-record m s t p d)
+pub round-done : (s : Session) (a : Automaton) (r : Rounds) (t : Session) → s .rounds < 129 → Reads s a
+    → DoesRound (a .letters) (s .sets) (a .lefts) (a .rights) (a .initials) (a .finals) (s .«set_count»)
+    (rounds-in s) r
+    → t ≡ rounded s r → KeepsRunning s round (reply t Done)
+round-done s a r t l h d made m p e = done-is m round (next-round m) t
+    (ap (λ (x : Phase). call-in x m round) e ∙ round-test m true (so (ltb· (m .rounds) 129) (omega (arith, rounds-count m s p)))) (made ∙ round-record m s p a r h d)
 
 reopen-is : (m : Machine) {p : Phase} → NotOpen p → call-in p m reopen ≡ accept (reopened m)
 unfolding call-in

@@ -12,6 +12,7 @@ use Rattle.rows.specs.declared.Row.the-variants.{Initial, Final, Successor, Lef
 use Rattle.rows.specs.Rows.{row-bytes, batch-of, AllFit}
 use Rattle.rows.specs.Keys.{high, low, row-from}
 use Rattle.rows.proofs.Keys.{key-back}
+use Rattle.automaton.proofs.Passing.{row-there}
 use Rattle.table.specs.Arrays.{padded, Keyed}
 use Rattle.session.specs.declared.Slot.{Slot}
 use Rattle.session.specs.Record.{slot, blank}
@@ -76,14 +77,6 @@ padded-more n d l x h =
     rw (e, f) (set-at l d (replicate (n - suc (length l)) d) x (length l) refl ∙ sym (append-snoc l x (replicate (n - suc (length l)) d)))
 
 module _ (rows : List Row) (fit : AllFit rows) (highs lows : List ℕ) (n : ℕ) (keyed : Keyed rows highs lows n) where
-  -- the row of a key
-  row-there : (i : ℕ) → i < n → row-from (getD highs i 0) (getD lows i 0) ≡ getD rows i (Initial 0)
-  row-there i h =
-      let k : i < length rows = omega (arith, keyed .count) in
-      let a : getD highs i 0 ≡ high (getD rows i (Initial 0)) = sym (getD-take n highs i 0 h) ∙ ap (λ (l : List ℕ). getD l i 0) (keyed .highs-are) ∙ getD-map high rows i (Initial 0) 0 k in
-      let b : getD lows i 0 ≡ low (getD rows i (Initial 0)) = sym (getD-take n lows i 0 h) ∙ ap (λ (l : List ℕ). getD l i 0) (keyed .lows-are) ∙ getD-map low rows i (Initial 0) 0 k in
-      rw (a, b) (key-back (getD rows i (Initial 0)) (fit (getD rows i (Initial 0)) (getD-among rows i (Initial 0) k)))
-
   -- the array with one row more
   pub slot-more : (i : ℕ) → i < n → n ≤ 256
       → set (padded 256 blank (map slot (take i rows))) i (slot (row-from (getD highs i 0) (getD lows i 0))) ≡ padded 256 blank (map slot (take (i + 1) rows))
@@ -91,7 +84,7 @@ module _ (rows : List Row) (fit : AllFit rows) (highs lows : List ℕ) (n : ℕ)
       let k : i < length rows = omega (arith, keyed .count) in
       let e : length (map slot (take i rows)) ≡ i = length-map (take i rows) slot ∙ length-take-le i rows (omega arith) in
       let f : take (i + 1) rows ≡ take i rows ++ (getD rows i (Initial 0) ∷ []) = let z : i + 1 ≡ suc i = omega arith in rw z (take-suc rows i (Initial 0) k) in
-      ap (λ (r : Row). set (padded 256 blank (map slot (take i rows))) i (slot r)) (row-there i h)
+      ap (λ (r : Row). set (padded 256 blank (map slot (take i rows))) i (slot r)) (row-there rows fit highs lows n keyed i h)
       ∙ ap (λ (j : ℕ). set (padded 256 blank (map slot (take i rows))) j (slot (getD rows i (Initial 0)))) (sym e)
       ∙ padded-more 256 blank (map slot (take i rows)) (slot (getD rows i (Initial 0))) (omega (arith, e))
       ∙ ap (λ (x : List Slot). padded 256 blank x) (sym (map-append slot (take i rows) (getD rows i (Initial 0) ∷ [])) ∙ ap (map slot) (sym f))

@@ -17,10 +17,12 @@ use Rattle.machine.specs.Calls.{Call}
 use Rattle.machine.specs.WellFormed.{Table, Made}
 use Rattle.machine.proofs.Outcomes.{rows-to}
 use Rattle.table.specs.Arrays.{padded}
+use Rattle.rounds.specs.Arrays.{rounds-of}
+use Rattle.rounds.proofs.OpenClaims.{no-rounds}
 use Rattle.session.specs.declared.Slot.{Slot}
 use Rattle.session.specs.declared.Session.{Session}
 use Rattle.session.specs.declared.Reply.{Reply}
-use Rattle.session.specs.Record.{slot, blank, rounds-of, record-of, Represents}
+use Rattle.session.specs.Record.{slot, blank, record-of, Represents}
 use Rattle.session.specs.Promise.{Keeps, Writes}
 use Rattle.session.specs.Standing.{first-rows, standing, in-range, with-table}
 
@@ -73,22 +75,6 @@ keeps-free s c r e m p = absurd (not-made m s p e)
 
 pub writes-free : (s : Session) (c : ℕ → Call) (old new : List ℕ) (r : Reply) → in-range (s .«row_count») (s .«set_count») ≡ false → Writes s c old new r
 writes-free s c old new r e m p = absurd (not-made m s p e)
-
--- no set of an open machine has a round
-map-zero : (l : List ℕ) → map {B = ℕ} (λ P. 0) l ≡ replicate (length l) 0
-map-zero [] = refl
-map-zero (x ∷ l) = ap (λ (k : List ℕ). 0 ∷ k) (map-zero l)
-
-zeros : (l : List ℕ) → length l ≤ 64 → padded {A = ℕ} 64 0 (map (λ P. 0) l) ≡ replicate 64 0
-zeros l h =
-    let e : length l + (64 - length l) ≡ 64 = omega arith in
-    ap (λ (k : List ℕ). padded 64 0 k) (map-zero l)
-    ∙ ap (λ (n : ℕ). replicate (length l) 0 ++ replicate (64 - n) 0) (length-replicate (length l) 0)
-    ∙ replicate-append-replicate (length l) (64 - length l) 0
-    ∙ ap (λ (n : ℕ). replicate n 0) e
-
-pub no-rounds : (rows : List Row) (claim : ℕ → Claim) → length (sets rows) ≤ 64 → rounds-of (open-with rows) claim ≡ replicate 64 0
-no-rounds rows claim h = zeros (sets rows) h
 
 module _ (m : Machine) (s : Session) (p : Represents m s) (o : m .phase ≡ Open) where
   open-is : m ≡ open-with (m .rows)

@@ -3,4 +3,3 @@ pub mod Record
 pub mod Promise
 pub mod Standing
 pub mod Automaton
-pub mod Printing

@@ -1,17 +1,15 @@
 -- The whole record of a machine.
-use Prim.Native.Nat.{ℕ}
 use mathlib.Core.Path.{_≡_}
-use mathlib.Core.Bool.{cond}
-use mathlib.Core.List.{List, [], _∷_, map}
+use mathlib.Core.List.{map}
 use lib.ListN.{length}
 use Rattle.rows.specs.declared.Row.{Row}
 use Rattle.rows.specs.declared.Row.the-variants.{Initial}
 use Rattle.rows.specs.Rows.{sets}
-use Rattle.orderings.specs.Steps.{Claim, loops, mixes}
-use Rattle.orderings.specs.Decide.{same-claim}
-use Rattle.machine.specs.Machine.{Opening, Machine}
+use Rattle.orderings.specs.Steps.{loops, mixes}
+use Rattle.machine.specs.Machine.{Machine}
 use Rattle.machine.specs.WellFormed.{WellFormed}
 use Rattle.table.specs.Arrays.{padded}
+use Rattle.rounds.specs.Arrays.{rounds-of}
 use Rattle.session.specs.declared.Slot.{Slot}
 use Rattle.session.specs.declared.Session.{Session}
 
@@ -21,15 +19,6 @@ slot r = record { row = r }
 -- what an unused place of the row array holds
 abbrev pub blank : Slot
 blank = slot (Initial 0)
-
--- the round that opened the claim, 0 if none did
-abbrev pub round-of : List Opening → Claim → ℕ
-round-of [] c = 0
-round-of (o ∷ l) c = cond (same-claim c (o .claim)) (o .round) (round-of l c)
-
--- the rounds of the claims about the sets
-abbrev pub rounds-of : Machine → (ℕ → Claim) → List ℕ
-rounds-of m claim = padded 64 0 (map (λ P. round-of (m .openings) (claim P)) (sets (m .rows)))
 
 unfoldable pub record-of : Machine → Session
 record-of m =

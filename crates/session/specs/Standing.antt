@@ -9,6 +9,7 @@ use Rattle.rows.specs.declared.Row.{Row}
 use Rattle.rows.specs.Rows.{AllFit}
 use Rattle.machine.specs.declared.Phase.{Phase}
 use Rattle.table.specs.Arrays.{padded, Keyed}
+use Rattle.rounds.specs.declared.Rounds.{Rounds}
 use Rattle.session.specs.declared.Slot.{Slot}
 use Rattle.session.specs.declared.Session.{Session}
 use Rattle.session.specs.declared.Answer.{Answer}
@@ -44,6 +45,10 @@ with-table s rows n sets k =
       rounds = s .rounds;
     }
 
+-- the rounds of the claims, the phase and the count of rounds
+abbrev pub rounds-in : Session → Rounds
+rounds-in s = record { «loop_rounds» = s .«loop_rounds»; «mix_rounds» = s .«mix_rounds»; phase = s .phase; count = s .rounds }
+
 -- the record with other rounds of the claims, another phase and another count of rounds
 abbrev pub with-rounds : Session → List ℕ → List ℕ → Phase → ℕ → Session
 with-rounds s loop-rounds mix-rounds phase rounds =
@@ -61,8 +66,3 @@ with-rounds s loop-rounds mix-rounds phase rounds =
 -- the array of the rows that have the first n keys
 abbrev pub Slotted : List ℕ → List ℕ → ℕ → List Slot → Type 0
 Slotted highs lows n r = (rows : List Row) → AllFit rows → Keyed rows highs lows n → r ≡ padded 256 blank (map slot rows)
-
--- the text stands from a place on in what was old, and next is the place after it
-pub record PutAt (text old : List ℕ) (at : ℕ) (new : List ℕ) (next : ℕ) : Type 0 where
-  pub bytes-are : new ≡ take at old ++ (text ++ drop (at + length text) old)
-  pub next-is : next ≡ at + length text

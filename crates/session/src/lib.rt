@@ -1,9 +1,8 @@
 // The session and its calls.
-mod automaton;
 mod loading;
-mod printing;
+mod prints;
 mod replies;
-mod rounds;
+mod running;
 mod saving;
 mod tables;
 

@@ -9,14 +9,15 @@ ghost use Prim.Native.Nat.{_≤_, _+_};
 ghost use lib.ListN.{length};
 ghost use Rattle.lists.specs.Writing.{Wrote};
 ghost use Rattle.rows.specs.Rows.{row-bytes, batch-of};
+ghost use Rattle.lines.specs.Lines.{Next};
 ghost use Rattle.machine.specs.Calls.{save};
 ghost use Rattle.session.specs.Promise.{Writes};
-ghost use Rattle.session.specs.Standing.{standing, PutAt};
+ghost use Rattle.session.specs.Standing.{standing};
 
 // Writes the row's bytes from `at` on, and returns the next place.
 fn row_at(buf: &mut [u8], at: usize, row: Row) -> usize
     requires { ⌜ at + length (row-bytes row) ≤ length (now buf) ⌝ }
-    ensures { λ r. ⌜ PutAt (row-bytes row) (now (buf .entry)) at (now (buf .exit)) r ⌝ }
+    ensures { λ r. ⌜ Next (row-bytes row) (now (buf .entry)) (now (buf .exit)) at r ⌝ }
 {
     at + rows::write_row(&mut buf[at..], row)
 }

@@ -1,12 +1,14 @@
-// The fresh session; the table of a session as arrays of keys, and a session with another table.
+// The fresh session; the table of a session as arrays of keys, its automaton, and a session with another table.
 use crate::Keys;
 use crate::Session;
 use crate::Slot;
+use automaton::Automaton;
 use machine::Phase;
 use rows::Row;
 ghost use mathlib.Core.Path.{_≡_};
 ghost use Prim.Native.Nat.{_≤_};
 ghost use Rattle.table.specs.Arrays.{Keyed};
+ghost use Rattle.session.specs.Automaton.{Reads};
 ghost use Rattle.session.specs.Promise.{Fresh};
 ghost use Rattle.session.specs.Standing.{standing, with-table, Slotted};
 
@@ -69,6 +71,20 @@ impl Session {
             i += 1;
         }
         Keys { high, low }
+    }
+
+    // The automaton of the standing rows.
+    pub(crate) fn automaton(self) -> Automaton
+        requires { ⌜ (self .«row_count» ≤ 256) × (self .«set_count» ≤ 64) ⌝ }
+        ensures { λ r. ⌜ Reads self r ⌝ }
+    {
+        let words = self.sets;
+        let n = self.row_count;
+        let k = self.set_count;
+        let keys = self.keys();
+        let high = keys.high;
+        let low = keys.low;
+        automaton::of_keys(&high, &low, n, &words, k)
     }
 
     // The session with another table.

@@ -1,13 +1,14 @@
 -- `masks::add_source` meets its contract. The loop's invariant: the source is added at the places of `m` that are not left.
 use Prim.Native.Nat.{ℕ, _^_, _<_}
 use mathlib.Core.Path.{_≡_, refl, subst, _∙_}
+use mathlib.Core.Logic.{_↔_, _≢_}
 use native.Mathlib.Omega.{arith}
 use lib.Count.{ones}
 use lib.ListN.{length, length-set}
 use borrow.Author.Needs.{needs}
 use Rattle.masks.specs.Mask.{_∈_, _⊆_}
 use Rattle.masks.proofs.Count.{ones-grows}
-use Rattle.masks.proofs.Member.{member-lt, with-same, difference-left, difference-not}
+use Rattle.masks.proofs.Member.{member-lt}
 use Rattle.masks.proofs.Turning.{Turning, turning-start, turning-end, turning-more, taken-out, left-as-was}
 use Rattle.masks.proofs.add_source.Statement.{statement}
 use Rattle.masks.proofs.add_source.Tie as tie
@@ -45,40 +46,34 @@ mul-back c = omega (arith, low-lt (c .before .before))
 element-write-back : tie.Need-element-write-back Inv-loop μ-loop
 element-write-back c = low-lt (c .before .before)
 
-with-requires-2 : tie.Need-with-requires-2 Inv-loop μ-loop
-with-requires-2 c κs = low-lt (c .before .before)
+without-lowest-requires : tie.Need-without-lowest-requires Inv-loop μ-loop
+without-lowest-requires c κs = search needs
 
-difference-requires : tie.Need-difference-requires Inv-loop μ-loop
-difference-requires c κs = search needs
+-- the places that are left
+left : (c : tie.After-without-lowest Inv-loop μ-loop) → let low = c .before .before .before in (t : ℕ) → (t ∈ c .without-lowest .result) ↔ ((t ∈ low .before .before .loop .rest) × (t ≢ low .lowest .result))
+left c = let low = c .before .before .before .lowest in c .without-lowest .ensures (low .result) (low .ensures .0) (low .ensures .1)
 
 loop-less : tie.Need-loop-less Inv-loop μ-loop
 loop-less c =
-    let low = c .before .before .before .before in
-    let k = low .lowest .result in
-    let rest = low .before .before .loop .rest in
-    let w = c .before .with2 .result in
-    let r = c .difference .result in
-    let is = c .difference .ensures in
-    ones-grows r rest (c .difference .ok) (low .before .before .loop .inv .0) (difference-left rest w r is)
-    (λ e. difference-not rest w r is k (rw e (low .lowest .ensures .0)) (with-same 0 k w (c .before .with2 .ensures)))
+    let low = c .before .before .before in
+    let at = low .before .before .loop in
+    ones-grows (c .without-lowest .result) (at .rest) (c .without-lowest .ok) (at .inv .0) (λ t h. left c t .0 h .0)
+    (λ e. left c (low .lowest .result) .0 (rw e (low .lowest .ensures .0)) .1 refl)
 
 loop-again : tie.Need-loop-again Inv-loop μ-loop
 loop-again c =
-    let low = c .before .before .before .before in
+    let low = c .before .before .before in
     let at = low .before .before in
     let inv = at .loop .inv in
     let a = at .before .args in
     let k = low .lowest .result in
     let rest = at .loop .rest in
-    let w = c .before .with2 .result in
-    let less = c .difference .result in
-    let is = c .difference .ensures in (
-      c .difference .ok,
-      λ t h. inv .1 t (difference-left rest w less is t h),
-      length-set (at .loop .back) k (c .before .before .with .result) ∙ inv .2,
+    let less = c .without-lowest .result in (
+      c .without-lowest .ok,
+      λ t h. inv .1 t (left c t .0 h .0),
+      length-set (at .loop .back) k (c .before .with .result) ∙ inv .2,
       λ e. turning-more (a .back .now) (a .m) (a .i) (at .loop .back) rest k (inv .3 e) (omega (arith, low-lt low, inv .2)) (inv .1 k (low .lowest .ensures .0)) (low .lowest .ensures .0)
-          (c .before .before .with .result) (c .before .before .with .ensures) less
-          (taken-out rest w less k is (c .before .with2 .ensures)) (left-as-was rest w less k is (c .before .with2 .ensures)),
+          (c .before .with .result) (c .before .with .ensures) less (taken-out rest less k (left c)) (left-as-was rest less k (left c)),
     )
 
 returns : tie.Need-returns Inv-loop μ-loop
@@ -102,8 +97,7 @@ add-source-spec =
     with-requires
     mul-back
     element-write-back
-    with-requires-2
-    difference-requires
+    without-lowest-requires
     loop-less
     loop-again
     returns)

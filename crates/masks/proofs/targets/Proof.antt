@@ -1,16 +1,18 @@
 -- `masks::targets` meets its contract. The loop's invariant: the states left are in m, what is gathered are targets of m, and a state of m
 -- is left or its targets are gathered. The measure is the number of states left.
 use Prim.Native.Nat.{ℕ, _^_, _<_}
-use mathlib.Core.Path.{subst}
-use mathlib.Core.Logic.{_⊎_, inl, inr, ⊎-elim}
+use mathlib.Core.Path.{refl, subst}
+use mathlib.Core.Logic.{_⊎_, inl, inr, ⊎-elim, _↔_, _≢_}
 use native.Mathlib.Omega.{arith}
 use lib.Count.{ones}
 use lib.ListN.{getD}
+use lib.Dec.{eqb}
 use borrow.Author.Needs.{needs}
+use borrow.Author.Tests.{eqb-true, eqb-false}
 use Rattle.masks.specs.Graph.{Target}
 use Rattle.masks.specs.Mask.{_∈_, _⊆_}
 use Rattle.masks.proofs.Count.{ones-grows}
-use Rattle.masks.proofs.Member.{in-none, member-lt, with-same, with-none, union-left, union-right, union-cases, difference-left, difference-not, difference-cases}
+use Rattle.masks.proofs.Member.{in-none, member-lt, true-or-false, union-left, union-right, union-cases}
 use Rattle.masks.proofs.targets.Statement.{statement}
 use Rattle.masks.proofs.targets.Tie as tie
 
@@ -43,46 +45,38 @@ element-copy-out-union c = low-lt c
 union-requires : tie.Need-union-requires Inv-loop μ-loop
 union-requires c κs = search needs
 
-with-requires : tie.Need-with-requires Inv-loop μ-loop
-with-requires c κs = low-lt (c .before .before)
+without-lowest-requires : tie.Need-without-lowest-requires Inv-loop μ-loop
+without-lowest-requires c κs = search needs
 
-difference-requires : tie.Need-difference-requires Inv-loop μ-loop
-difference-requires c κs = search needs
+-- the states that are left
+left : (c : tie.After-without-lowest Inv-loop μ-loop) → let low = c .before .before .before in (t : ℕ) → (t ∈ c .without-lowest .result) ↔ ((t ∈ low .before .before .loop .rest) × (t ≢ low .lowest .result))
+left c = let low = c .before .before .before .lowest in c .without-lowest .ensures (low .result) (low .ensures .0) (low .ensures .1)
 
 loop-less : tie.Need-loop-less Inv-loop μ-loop
 loop-less c =
-    let low = c .before .before .before .before in
-    let i = low .lowest .result in
-    let rest = low .before .before .loop .rest in
-    let w = c .before .with .result in
-    let r = c .difference .result in
-    let is = c .difference .ensures in
-    ones-grows r rest (c .difference .ok) (low .before .before .loop .inv .0) (difference-left rest w r is)
-    (λ e. difference-not rest w r is i (rw e (low .lowest .ensures .0)) (with-same 0 i w (c .before .with .ensures)))
+    let low = c .before .before .before in
+    let at = low .before .before .loop in
+    ones-grows (c .without-lowest .result) (at .rest) (c .without-lowest .ok) (at .inv .0) (λ t h. left c t .0 h .0)
+    (λ e. left c (low .lowest .result) .0 (rw e (low .lowest .ensures .0)) .1 refl)
 
 loop-again : tie.Need-loop-again Inv-loop μ-loop
 loop-again c =
-    let low = c .before .before .before .before in
+    let low = c .before .before .before in
     let at = low .before .before in
     let inv = at .loop .inv in
     let succ = at .before .args .succ .now in
     let i = low .lowest .result in
-    let rest = at .loop .rest in
     let r = at .loop .r in
-    let r′ = c .before .before .union .result in
-    let is-r = c .before .before .union .ensures in
-    let w = c .before .with .result in
-    let rest′ = c .difference .result in
-    let is-rest = c .difference .ensures in (
-      c .difference .ok,
-      λ t h. inv .1 t (difference-left rest w rest′ is-rest t h),
+    let r′ = c .before .union .result in
+    let is-r = c .before .union .ensures in (
+      c .without-lowest .ok,
+      λ t h. inv .1 t (left c t .0 h .0),
       λ t h. ⊎-elim (inv .2 t) (λ e. record { source = i; is = inv .1 i (low .lowest .ensures .0); edge = e })
           (union-cases r (getD succ i 0) r′ is-r t h),
       λ k h. ⊎-elim
-          (λ (g : k ∈ rest). ⊎-elim
-          (λ (q : k ∈ w). inr (λ t x. union-right r (getD succ i 0) r′ is-r t
-          (subst (λ (j : ℕ). t ∈ getD succ j 0) (with-none i w (c .before .with .ensures) k q) x)))
-          inl (difference-cases rest w rest′ is-rest k g))
+          (λ (g : k ∈ at .loop .rest). ⊎-elim
+          (λ q. inr (λ t x. union-right r (getD succ i 0) r′ is-r t (subst (λ (j : ℕ). t ∈ getD succ j 0) (eqb-true k i q) x)))
+          (λ q. inl (left c k .1 (g, eqb-false k i q))) (true-or-false (eqb k i)))
           (λ f. inr (λ t x. union-left r (getD succ i 0) r′ is-r t (f t x))) (inv .3 k h),
     )
 
@@ -105,8 +99,7 @@ targets-spec =
     mul-union
     element-copy-out-union
     union-requires
-    with-requires
-    difference-requires
+    without-lowest-requires
     loop-less
     loop-again
     returns)

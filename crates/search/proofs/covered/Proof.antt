@@ -1,66 +1,41 @@
 -- `search::covered` meets its contract: forward from m, backward from n.
 use borrow.Author.Needs.{needs}
-use borrow.Author.Tests.{not-true}
 use Rattle.lists.proofs.Deciding.{iff·}
 use Rattle.search.proofs.Hops.{hop-back, hop-turn}
-use Rattle.search.proofs.Joining.{covered-iff, fails, covered-enters, covered-leaves}
+use Rattle.search.proofs.Joining.{covered-iff}
 use Rattle.search.proofs.covered.Statement.{statement}
 use Rattle.search.proofs.covered.Tie as tie
 
--- src/lib.rt:209:9
-entered-requires : tie.Need-entered-requires
-entered-requires c κs = search needs
-
--- src/lib.rt:210:9
-returns : tie.Need-returns
-returns c turned = let a = c .before .before .args in fails (covered-enters (a .p) (a .m) (a .n)) (c .before .entered .ensures) (not-true _ (c .if1 .taken))
-
--- src/lib.rt:212:9
-entered-requires-2 : tie.Need-entered-requires-2
-entered-requires-2 c κs = search needs
-
--- src/lib.rt:213:9
-returns-2 : tie.Need-returns-2
-returns-2 c turned = let a = c .before .before .before .before .args in fails (covered-leaves (hop-turn turned) (a .p) (a .m) (a .n)) (c .before .entered2 .ensures) (not-true _ (c .if2 .taken))
-
--- src/lib.rt:215:9
 reach-requires : tie.Need-reach-requires
 reach-requires c κs = search needs
 
--- src/lib.rt:216:9
 reach-requires-2 : tie.Need-reach-requires-2
 reach-requires-2 c κs = search needs
 
--- src/lib.rt:217:9
 intersection-requires : tie.Need-intersection-requires
 intersection-requires c κs = search needs
 
--- src/lib.rt:218:37
 union-requires : tie.Need-union-requires
 union-requires c κs = search needs
 
--- src/lib.rt:218:9
 intersection-requires-2 : tie.Need-intersection-requires-2
 intersection-requires-2 c κs = search needs
 
--- src/lib.rt:219:18
 union-requires-2 : tie.Need-union-requires-2
 union-requires-2 c κs = search needs
 
--- src/lib.rt:219:5
 is-subset-requires : tie.Need-is-subset-requires
 is-subset-requires c κs = search needs
 
--- src/lib.rt:195:1
-returns-3 : tie.Need-returns-3
-returns-3 c turned =
+returns : tie.Need-returns
+returns c turned =
     let u = c .before .union2 in
     let z = c .before .before .intersection2 in
     let y = c .before .before .before .union in
     let x = c .before .before .before .before .intersection in
     let before = c .before .before .before .before .before .reach2 in
     let after = c .before .before .before .before .before .before .reach in
-    let args = c .before .before .before .before .before .before .before .before .before .before .before .args in
+    let args = c .before .before .before .before .before .before .before .args in
     let all = covered-iff (hop-back turned) (hop-turn turned) (args .m) (args .n) (after .result) (before .result)
     (x .result) (y .result) (z .result) (u .result) (after .ensures) (before .ensures) (x .ensures) (y .ensures) (z .ensures) (u .ensures) in
     iff· (λ f s h. all s .0 (f s h)) (λ f s h. all s .1 (f s h)) (c .is-subset .ensures)
@@ -69,10 +44,6 @@ pub covered-spec : {M : Type 1} → statement M
 covered-spec =
     tie.close
     (tie.spec
-    entered-requires
-    returns
-    entered-requires-2
-    returns-2
     reach-requires
     reach-requires-2
     intersection-requires
@@ -80,4 +51,4 @@ covered-spec =
     intersection-requires-2
     union-requires-2
     is-subset-requires
-    returns-3)
+    returns)

@@ -2,39 +2,45 @@
 use Prim.Native.Nat.{_-_, _≤_}
 use mathlib.Core.Path.{_≡_}
 use native.Mathlib.Omega.{arith}
-use borrow.Author.Needs.{needs}
 use Rattle.masks.proofs.Member.{in-none}
-use Rattle.search.specs.Hops.{Ends}
 use Rattle.search.specs.Promises.{OpensBelow}
 use Rattle.search.proofs.Opening.{below-next}
+use borrow.Author.Needs.{needs}
 use Rattle.search.proofs.open_next.Statement.{statement}
 use Rattle.search.proofs.open_next.Tie as tie
 
 abbrev Inv-loop : tie.InvT-loop
-Inv-loop letters back words lefts rights loop-mask mix-mask n to from loops₀ mixes₀ i₀ loops mixes i =
+Inv-loop letters back words lefts rights to from n loop-mask mix-mask loops₀ mixes₀ i₀ loops mixes i =
     (i ≤ n) × OpensBelow letters back words lefts rights loop-mask mix-mask n i loops mixes
-    × Ends letters words lefts rights loop-mask mix-mask to × Ends back words rights lefts loop-mask mix-mask from
 
 abbrev μ-loop : tie.MeasureT-loop
-μ-loop letters back words lefts rights loop-mask mix-mask n to from loops₀ mixes₀ i₀ loops mixes i = n - i
-
-ends-requires : tie.Need-ends-requires Inv-loop μ-loop
-ends-requires c κs = search needs
-
-ends-requires-2 : tie.Need-ends-requires-2 Inv-loop μ-loop
-ends-requires-2 c κs = search needs
+μ-loop letters back words lefts rights to from n loop-mask mix-mask loops₀ mixes₀ i₀ loops mixes i = n - i
 
 loop-holds : tie.Need-loop-holds Inv-loop μ-loop
 loop-holds c = (
   omega arith,
   λ turned rows claims is count.
       ((λ t. ((λ h. absurd (in-none t h)), λ h. absurd (omega (arith, h .0)))), λ t. ((λ h. absurd (in-none t h)), λ h. absurd (omega (arith, h .0)))),
-  c .before .ends .ensures,
-  c .ends2 .ensures,
 )
 
+mul-opened-at : tie.Need-mul-opened-at Inv-loop μ-loop
+mul-opened-at c = search needs
+
+element-copy-out-opened-at : tie.Need-element-copy-out-opened-at Inv-loop μ-loop
+element-copy-out-opened-at c = search needs
+
+mul-opened-at-2 : tie.Need-mul-opened-at-2 Inv-loop μ-loop
+mul-opened-at-2 c = search needs
+
+element-copy-out-opened-at-2 : tie.Need-element-copy-out-opened-at-2 Inv-loop μ-loop
+element-copy-out-opened-at-2 c = search needs
+
+cast-opened-at : tie.Need-cast-opened-at Inv-loop μ-loop
+cast-opened-at c = search needs
+
 opened-at-requires : tie.Need-opened-at-requires Inv-loop μ-loop
-opened-at-requires c κs = let at = c .before .loop in (omega arith, at .inv .2, at .inv .3)
+opened-at-requires c κs = let in-loop = c .before .before in let at = in-loop .before in
+    (omega arith, at .before .pre .1 (at .loop .i) (in-loop .loop-test .taken), at .before .pre .2 (at .loop .i) (in-loop .loop-test .taken))
 
 union-requires : tie.Need-union-requires Inv-loop μ-loop
 union-requires c κs = search needs
@@ -53,7 +59,7 @@ loop-again c =
     let u = c .before .union in
     let u2 = c .union2 in
     let new = c .before .before .opened-at in
-    let inside = c .before .before .before in
+    let inside = c .before .before .before .before .before in
     let at = inside .before .loop in (
       omega arith,
       λ turned rows claims is count.
@@ -62,13 +68,11 @@ loop-again c =
             below-next (at .i) (at .loops) (new .result .loops) (u .result) (old .0) (more .0) (u .ensures),
             below-next (at .i) (at .mixes) (new .result .mixes) (u2 .result) (old .1) (more .1) (u2 .ensures),
           ),
-      at .inv .2,
-      at .inv .3,
     )
 
 returns : tie.Need-returns Inv-loop μ-loop
 returns c =
-    let e : c .before .loop .i ≡ c .before .before .before .before .args .n = omega arith in
+    let e : c .before .loop .i ≡ c .before .before .args .n = omega arith in
     rw e at (c .before .loop .inv .1)
 
 pub open-next-spec : {M : Type 1} → statement M
@@ -77,9 +81,12 @@ open-next-spec =
     (tie.spec
     Inv-loop
     μ-loop
-    ends-requires
-    ends-requires-2
     loop-holds
+    mul-opened-at
+    element-copy-out-opened-at
+    mul-opened-at-2
+    element-copy-out-opened-at-2
+    cast-opened-at
     opened-at-requires
     union-requires
     union-requires-2

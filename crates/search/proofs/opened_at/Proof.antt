@@ -3,7 +3,7 @@ use lib.ListN.{getD}
 use borrow.Author.Needs.{needs}
 use Rattle.masks.specs.Mask.{_⊆_}
 use Rattle.search.specs.Hops.{Threaded}
-use Rattle.search.proofs.Claims.{entrance-iff, exit-iff, loops-iff, mixes-iff}
+use Rattle.search.proofs.Saying.{entrance-iff, exit-iff, loops-iff, mixes-iff}
 use Rattle.search.proofs.Filtering.{looping-passes, mixing-passes}
 use Rattle.search.proofs.Opening.{set-at, opens-iff, opens-not}
 use Rattle.search.proofs.opened_at.Statement.{statement}
@@ -60,8 +60,8 @@ returns c turned rows claims n is count l =
     let p = getD (args .words .now) i 0 in
     let is-m = entrance-iff (is .masked) i (entrances .result) l (entrances .ensures) in
     let is-n = exit-iff (is .masked) i (exits .result) l (exits .ensures) in
-    let loop-shows = looping-passes (is .masked) turned (is .forced) (args .to) (args .from) (start .pre .1) (start .pre .2) p in
-    let mix-shows = mixing-passes (is .masked) turned (is .forced) (args .to) (args .from) (start .pre .1) (start .pre .2) p (entrances .result) (exits .result) is-m is-n in
+    let loop-shows = looping-passes (is .masked) turned (is .forced) (args .to) (args .from) p (start .pre .1) (start .pre .2) in
+    let mix-shows = mixing-passes (is .masked) turned (is .forced) (args .to) (args .from) p (start .pre .1) (start .pre .2) (entrances .result) (exits .result) is-m is-n in
     let none = c .before .neither .ensures .to (c .if1 .taken) in (
       opens-not {F = (p ⊆ args .to) × (p ⊆ args .from)} i (args .loop-mask) l (is .forced .loop-iff i)
           (loop-test .before .has .ensures) (loop-test .may-loop .ensures) (λ h. loop-shows (h .1)) (none .0),
@@ -101,8 +101,8 @@ returns-2 c turned rows claims n is count l =
     let p = getD (args .words .now) i 0 in
     let is-m = entrance-iff (is .masked) i (entrances .result) l (entrances .ensures) in
     let is-n = exit-iff (is .masked) i (exits .result) l (exits .ensures) in
-    let loop-shows = looping-passes (is .masked) turned (is .forced) (args .to) (args .from) (start .pre .1) (start .pre .2) p in
-    let mix-shows = mixing-passes (is .masked) turned (is .forced) (args .to) (args .from) (start .pre .1) (start .pre .2) p (entrances .result) (exits .result) is-m is-n in
+    let loop-shows = looping-passes (is .masked) turned (is .forced) (args .to) (args .from) p (start .pre .1) (start .pre .2) in
+    let mix-shows = mixing-passes (is .masked) turned (is .forced) (args .to) (args .from) p (start .pre .1) (start .pre .2) (entrances .result) (exits .result) is-m is-n in
     let set = set-at (is .masked) count i l in
     let loop = loops-iff (is .masked) (is .forced) p (a .result) (b .result) (a .ensures) (b .ensures) in
     let mix = mixes-iff (is .masked) (is .forced) p (a .result) (b .result) (a .ensures) (b .ensures) (entrances .result) (exits .result) is-m is-n in (

@@ -7,7 +7,6 @@ use Rattle.rows.specs.Rows.{batch-of}
 use Rattle.session.specs.Standing.{first-rows}
 use Rattle.lists.specs.Writing.{Wrote}
 use Rattle.session.proofs.Standing.{bytes-more, bytes-within}
-use Rattle.session.proofs.Writing.{wrote-none, wrote-more}
 use Rattle.session.proofs.Session.write_rows.Statement.{statement}
 use Rattle.session.proofs.Session.write_rows.Tie as tie
 
@@ -23,7 +22,7 @@ long c = simp length-map at (c .good .0 .1 .1 .0 .1 .0 .1)
 
 loop-holds : tie.Need-loop-holds Inv-loop μ-loop
 unfolding first-rows
-loop-holds c = (omega arith, refl, wrote-none (c .before .args .buffer .now))
+loop-holds c = (omega arith, refl, record { length-is = refl; bytes-are = refl })
 
 mul-slot : tie.Need-mul-slot Inv-loop μ-loop
 mul-slot c = omega arith
@@ -53,7 +52,7 @@ loop-again c =
     let e : h .loop .next < length l = omega (arith, long s, s .pre .0, h .loop .inv .0, c .before .before .before .before .before .loop-test .taken) in (
       omega arith,
       c .before .before .row-at .kept .0 ∙ h .loop .inv .1,
-      rw (bytes-more l (h .loop .next) e) (wrote-more _ _ _ _ _ (h .loop .inv .2) (c .before .before .row-at .ensures)),
+      rw (bytes-more l (h .loop .next) e) (c .before .before .row-at .ensures .follows _ _ (h .loop .inv .2)),
     )
 
 same-length : tie.Need-same-length Inv-loop μ-loop

@@ -1,0 +1,2 @@
+-- What the masks of some rows are, and the promises of the functions that make them.
+pub mod Promise

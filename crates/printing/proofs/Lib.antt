@@ -1,0 +1,2 @@
+-- The laws that the proofs of `printing` share.
+pub mod Printing

@@ -1,0 +1,132 @@
+-- What print answers, and what it leaves in the buffer.
+use Prim.Native.Nat.{ℕ, _+_, _<_, _≤_}
+use mathlib.Core.Path.{_≡_, refl, ap, sym, _∙_}
+use mathlib.Core.Bool.{Bool, true, false, cond}
+use mathlib.Core.Logic.{_⊎_, inl, inr, ⊎-elim}
+use mathlib.Core.Option.{some}
+use mathlib.Core.List.{List, [], _∷_, _++_, map, append-assoc, List·Memᴰ·head, List·Memᴰ·tail, List·Memᴰ·not-nil, List·Memᴰ·cases-cons}
+use native.Mathlib.Omega.{arith}
+use borrow.Author.Tests.{lt-ltb, le-ltb}
+use lib.ListN.{length, length-append}
+use Rattle.lists.specs.Tests.{Decides, _among_, gather}
+use Rattle.lists.specs.Writing as Writing
+use Rattle.lists.proofs.Deciding.{yes·, no·}
+use Rattle.masks.specs.Graph.{Turned}
+use Rattle.orderings.specs.Steps.{Claim}
+use Rattle.orderings.specs.Decide.{same-claim}
+use Rattle.orderings.proofs.Deciding.{same-claim·}
+use Rattle.machine.specs.declared.Verdict.{Verdict}
+use Rattle.machine.specs.declared.Verdict.the-variants.{NonEmpty, Empty}
+use Rattle.machine.specs.declared.Phase.the-variants.{Settled}
+use Rattle.machine.specs.Machine.{Opening, Machine, open-claims}
+use Rattle.machine.specs.WellFormed.{WellFormed}
+use Rattle.machine.specs.Sheet.{verdict-line, opening-line, walk-lines, sheet}
+use Rattle.machine.specs.Calls.{Next, print, wrote, refuse, write, call, buffer-after}
+use Rattle.machine.specs.Causes.{sheets}
+use Rattle.machine.proofs.Outcomes.{writing}
+use Rattle.machine.proofs.Text.{number-length}
+use Rattle.table.specs.Arrays.{Worded}
+use Rattle.automaton.specs.declared.Automaton.{Automaton}
+use Rattle.rounds.specs.declared.Rounds.{Rounds}
+use Rattle.rounds.specs.Arrays.{round-of, OpenPlaces}
+use Rattle.rounds.specs.Promises.{Kept}
+use Rattle.rounds.proofs.Settled.{forced-of}
+use Rattle.walks.specs.declared.Walk.{Walk}
+use Rattle.walks.specs.Walks.{walk-of, Answers, FirstWalk}
+use Rattle.sheets.specs.Openings.{opened, openings-in, Recorded}
+use Rattle.sheets.proofs.Sheet.{recorded, sheet-empty, sheet-nonempty}
+use Rattle.printing.specs.declared.Printed.{Printed}
+use Rattle.printing.specs.declared.Printed.the-variants.{Wrote, Short}
+use Rattle.printing.specs.Text.{openings-text, head-text, walked-text}
+use Rattle.printing.specs.Promise.{printed-of, Puts, Finds, Prints}
+
+-- ---- the walk
+
+pub finds : (highs lows : List ℕ) (n : ℕ) (words : List ℕ) (k : ℕ) (a : Automaton) (rounds : Rounds) (back : List ℕ) (loop-mask mix-mask : ℕ) (w : Walk)
+    → Turned (a .letters) back → OpenPlaces (rounds .«loop_rounds») k loop-mask → OpenPlaces (rounds .«mix_rounds») k mix-mask
+    → FirstWalk highs lows n back words (a .lefts) (a .rights) loop-mask mix-mask (a .initials) (a .finals) w
+    → Finds highs lows n words k a rounds w
+finds highs lows n words k a rounds back loop-mask mix-mask w turned h g f m formed filed gives kept =
+    f (a .letters) (m .rows) (open-claims m) k turned
+    (record {
+      masked = gives .masked;
+      forced = forced-of m formed words k (filed .1) (rounds .«loop_rounds») (rounds .«mix_rounds») (kept .loops-are) (kept .mixes-are) loop-mask mix-mask h g;
+    })
+    (sym (filed .1 .count)) (filed .0) (formed .table) (gives .initial-iff) (gives .final-iff)
+
+-- ---- the text
+
+-- the round of a claim is that of its opening, or 0
+noted-in : (c : Claim) (l : List Opening) → (¬ (c among map (λ (o : Opening). o .claim) l) × (round-of l c ≡ 0)) ⊎ (opened (round-of l c) c among l)
+noted-in c [] = inl ((λ m. List·Memᴰ·not-nil m), refl)
+noted-in c (o ∷ l) = go (same-claim c (o .claim)) (same-claim· c (o .claim)) (noted-in c l)
+  where
+    go : (b : Bool) → Decides b (c ≡ o .claim) → (¬ (c among map (λ (o : Opening). o .claim) l) × (round-of l c ≡ 0)) ⊎ (opened (round-of l c) c among l)
+        → (¬ (c among (o .claim ∷ map (λ (o : Opening). o .claim) l)) × (cond b (o .round) (round-of l c) ≡ 0)) ⊎ (opened (cond b (o .round) (round-of l c)) c among (o ∷ l))
+    go true d r = inr (List·Memᴰ·head (ap (λ (e : Claim). opened (o .round) e) (yes· d)))
+    go false d r = ⊎-elim (λ p. inl ((λ m. ⊎-elim (λ e. no· d e) (λ i. p .0 i) (List·Memᴰ·cases-cons m)), p .1)) (λ i. inr (List·Memᴰ·tail i)) r
+
+module _ (m : Machine) (formed : WellFormed m) (words : List ℕ) (k : ℕ) (worded : Worded (m .rows) words k)
+    (rounds : Rounds) (kept : Kept m (rounds .«loop_rounds») (rounds .«mix_rounds») (rounds .phase) (rounds .count)) where
+  recorded-of : Recorded m (rounds .«loop_rounds») (rounds .«mix_rounds») words k
+  recorded-of = rw (kept .loops-are, kept .mixes-are, worded .words-are, worded .count) (recorded m (round-of (m .openings)) (λ c. noted-in c (m .openings)) 64)
+
+  pub empty-sheet : m .phase ≡ Settled Empty → sheet Empty m ≡ head-text Empty words k rounds
+  unfolding head-text
+  empty-sheet e = sheet-empty m formed (rounds .«loop_rounds») (rounds .«mix_rounds») words k recorded-of e
+      ∙ ap (λ (c : ℕ). verdict-line Empty c ++ gather opening-line (openings-in (rounds .«loop_rounds») (rounds .«mix_rounds») words k c)) (sym (kept .count-is))
+
+  pub nonempty-sheet : (w : Walk) → Answers (m .rows) (open-claims m) w → m .phase ≡ Settled NonEmpty → sheet NonEmpty m ≡ walked-text words k rounds w
+  unfolding head-text walked-text
+  nonempty-sheet w f e =
+      let l = walk-lines (some (walk-of w)) in
+      sheet-nonempty m formed (rounds .«loop_rounds») (rounds .«mix_rounds») words k recorded-of e w f
+      ∙ ap (λ (c : ℕ). verdict-line NonEmpty c ++ (gather opening-line (openings-in (rounds .«loop_rounds») (rounds .«mix_rounds») words k c) ++ l)) (sym (kept .count-is))
+      ∙ sym (append-assoc (verdict-line NonEmpty (rounds .count)) (openings-text words k rounds) l)
+
+-- how long the verdict's line is
+pub verdict-short : (v : Verdict) (k : ℕ) → k < 256 → length (verdict-line v k) ≤ 64
+verdict-short NonEmpty k h = simp length-append (omega (arith, number-length 3 k (omega arith) (omega arith)))
+verdict-short Empty k h = simp length-append (omega (arith, number-length 3 k (omega arith) (omega arith)))
+
+module _ (words : List ℕ) (k : ℕ) (rounds : Rounds) where
+  pub head-length : (v : Verdict) → length (head-text v words k rounds) ≡ length (verdict-line v (rounds .count)) + length (openings-text words k rounds)
+  unfolding head-text
+  head-length v = length-append (verdict-line v (rounds .count)) (openings-text words k rounds)
+
+  pub walked-length : (w : Walk) → length (walked-text words k rounds w) ≡ length (head-text NonEmpty words k rounds) + length (walk-lines (some (walk-of w)))
+  unfolding walked-text
+  walked-length w = length-append (head-text NonEmpty words k rounds) (walk-lines (some (walk-of w)))
+
+  -- the openings after the verdict, and the walk after both
+  pub head-wrote : (v : Verdict) (old new : List ℕ) {r : ℕ} → Writing.Wrote (verdict-line v (rounds .count) ++ openings-text words k rounds) old new r → Writing.Wrote (head-text v words k rounds) old new r
+  unfolding head-text
+  head-wrote v old new p = p
+
+  pub walked-wrote : (w : Walk) (old new : List ℕ) {r : ℕ} → Writing.Wrote (head-text NonEmpty words k rounds ++ walk-lines (some (walk-of w))) old new r → Writing.Wrote (walked-text words k rounds w) old new r
+  unfolding walked-text
+  walked-wrote w old new p = p
+
+-- ---- what is answered
+
+-- a text that is the machine's sheet
+prints-text : (m : Machine) (v : Verdict) (text old new : List ℕ) (r : Printed) → m .phase ≡ Settled v → sheet v m ≡ text → Puts text old new r
+    → (r ≡ printed-of (call m (print (length old)) .answer)) × (new ≡ buffer-after (call m (print (length old)) .answer) old)
+prints-text m v text old new r e is p = go r p
+  where
+    calls : call m (print (length old)) ≡ write m (length old) text
+    calls = writing m (sheets v (length old) e) ∙ ap (λ (l : List ℕ). write m (length old) l) is
+
+    go : (r : Printed) → Puts text old new r → (r ≡ printed-of (call m (print (length old)) .answer)) × (new ≡ buffer-after (call m (print (length old)) .answer) old)
+    go (Wrote count) p = let c : call m (print (length old)) ≡ record { machine = m; answer = wrote text } = calls ∙ rw (le-ltb (length old) (length text) (p .0)) in
+        (ap Wrote (p .1 .length-is) ∙ ap (λ (x : Next). printed-of (x .answer)) (sym c), p .1 .bytes-are ∙ ap (λ (x : Next). buffer-after (x .answer) old) (sym c))
+    go Short p = let c : call m (print (length old)) ≡ refuse m 12 = calls ∙ rw (lt-ltb (length old) (length text) (p .0)) in
+        (ap (λ (x : Next). printed-of (x .answer)) (sym c), p .1 ∙ ap (λ (x : Next). buffer-after (x .answer) old) (sym c))
+
+module _ (highs lows : List ℕ) (n : ℕ) (words : List ℕ) (k : ℕ) (a : Automaton) (rounds : Rounds) (old new : List ℕ) (r : Printed) where
+  pub prints-empty : Puts (head-text Empty words k rounds) old new r → Prints Empty highs lows n words k a rounds old new r
+  prints-empty p m formed e filed gives kept = prints-text m Empty (head-text Empty words k rounds) old new r e (empty-sheet m formed words k (filed .1) rounds kept e) p
+
+  pub prints-nonempty : (w : Walk) → Finds highs lows n words k a rounds w → Puts (walked-text words k rounds w) old new r → Prints NonEmpty highs lows n words k a rounds old new r
+  prints-nonempty w f p m formed e filed gives kept =
+      prints-text m NonEmpty (walked-text words k rounds w) old new r e (nonempty-sheet m formed words k (filed .1) rounds kept w (f m formed filed gives kept) e) p

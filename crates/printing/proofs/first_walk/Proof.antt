@@ -1,0 +1,38 @@
+-- `first_walk` meets its contract: the arrays stand for the rows and the open claims of the machine.
+use Rattle.printing.proofs.Printing.{finds}
+use borrow.Author.Needs.{needs}
+use Rattle.printing.proofs.first_walk.Statement.{statement}
+use Rattle.printing.proofs.first_walk.Tie as tie
+
+transpose-requires : tie.Need-transpose-requires
+transpose-requires c κs = search needs
+
+open-mask-requires : tie.Need-open-mask-requires
+open-mask-requires c κs = search needs
+
+open-mask-requires-2 : tie.Need-open-mask-requires-2
+open-mask-requires-2 c κs = search needs
+
+first-walk-requires : tie.Need-first-walk-requires
+first-walk-requires c κs = search needs
+
+returns : tie.Need-returns
+returns c =
+    let mixes = c .before .before .before .before in
+    let loops = mixes .before .before in
+    let turned = loops .before .before in
+    let a = turned .before .before .before .before .before .before .before .args in (
+      c .first-walk .ensures .0,
+      finds (a .high .now) (a .low .now) (a .n) (a .words .now) (a .k) (a .a) (a .rounds) (turned .transpose .result) (loops .open-mask .result) (mixes .open-mask2 .result) (c .first-walk .result)
+          (turned .transpose .ensures) (loops .open-mask .ensures) (mixes .open-mask2 .ensures) (c .first-walk .ensures .1),
+    )
+
+pub first-walk-spec : {M : Type 1} → statement M
+first-walk-spec =
+    tie.close
+    (tie.spec
+    transpose-requires
+    open-mask-requires
+    open-mask-requires-2
+    first-walk-requires
+    returns)

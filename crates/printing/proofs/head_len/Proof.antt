@@ -1,0 +1,44 @@
+-- `head_len` meets its contract: the lengths of both parts.
+use Prim.Native.Nat.{_<_}
+use native.Mathlib.Omega.{arith}
+use Rattle.printing.proofs.Printing.{verdict-short, head-length}
+use borrow.Author.Needs.{needs}
+use Rattle.printing.proofs.head_len.Statement.{statement}
+use Rattle.printing.proofs.head_len.Tie as tie
+
+-- the count of rounds is a byte
+low-count : (c : tie.Start) → c .args .rounds .count < 256
+low-count c = search needs
+
+cast-verdict-line-len : tie.Need-cast-verdict-line-len
+cast-verdict-line-len c = search needs
+
+verdict-line-len-requires : tie.Need-verdict-line-len-requires
+verdict-line-len-requires c κs = search needs
+
+openings-len-requires : tie.Need-openings-len-requires
+openings-len-requires c κs = search needs
+
+add-result : tie.Need-add-result
+add-result c =
+    let t = c .before .before .before in
+    let s = t .before .before .before in
+    omega (arith, t .verdict-line-len .ensures, verdict-short (s .args .v) (s .args .rounds .count) (low-count s), c .openings-len .ensures .1, low-count s)
+
+returns : tie.Need-returns
+returns c =
+    let t = c .before .before .before in
+    let s = t .before .before .before in (
+      omega (arith, t .verdict-line-len .ensures, c .openings-len .ensures .0, head-length (s .args .words .now) (s .args .k) (s .args .rounds) (s .args .v)),
+      omega (arith, t .verdict-line-len .ensures, verdict-short (s .args .v) (s .args .rounds .count) (low-count s), c .openings-len .ensures .1, low-count s),
+    )
+
+pub head-len-spec : {M : Type 1} → statement M
+head-len-spec =
+    tie.close
+    (tie.spec
+    cast-verdict-line-len
+    verdict-line-len-requires
+    openings-len-requires
+    add-result
+    returns)

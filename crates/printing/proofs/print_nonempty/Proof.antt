@@ -1,0 +1,59 @@
+-- `print_nonempty` meets its contract, with a buffer that is too short, and with one that is long enough.
+use mathlib.Core.Path.{refl}
+use native.Mathlib.Omega.{arith}
+use Rattle.machine.specs.declared.Verdict.the-variants.{NonEmpty}
+use Rattle.printing.specs.Text.{head-text}
+use Rattle.printing.proofs.Printing.{walked-length, walked-wrote}
+use borrow.Author.Needs.{needs}
+use Rattle.printing.proofs.print_nonempty.Statement.{statement}
+use Rattle.printing.proofs.print_nonempty.Tie as tie
+
+head-len-requires : tie.Need-head-len-requires
+head-len-requires c κs = search needs
+
+walk-len-requires : tie.Need-walk-len-requires
+walk-len-requires c κs = search needs
+
+add-len : tie.Need-add-len
+add-len c = search needs
+
+returns : tie.Need-returns
+returns c =
+    let l = c .before in
+    let h = l .before in
+    let a = h .before .before .args in
+    (omega (arith, h .head-len .ensures .0, l .walk-len .ensures .0, walked-length (a .words .now) (a .k) (a .rounds) (a .walk), c .if1 .taken), refl)
+
+put-head-requires : tie.Need-put-head-requires
+put-head-requires c κs = search needs
+
+walk-at-requires : tie.Need-walk-at-requires
+walk-at-requires c κs = search needs
+
+same-length : tie.Need-same-length
+same-length c = search needs
+
+returns-2 : tie.Need-returns-2
+returns-2 c =
+    let w = c .before .before in
+    let p = w .before .before .before .before in
+    let e = p .before .before in
+    let l = e .before in
+    let h = l .before in
+    let a = h .before .before .args in (
+      omega (arith, h .head-len .ensures .0, l .walk-len .ensures .0, walked-length (a .words .now) (a .k) (a .rounds) (a .walk), e .if1 .left),
+      walked-wrote (a .words .now) (a .k) (a .rounds) (a .walk) (a .buffer .now) (w .walk-at .last .0) (w .walk-at .ensures .follows (head-text NonEmpty (a .words .now) (a .k) (a .rounds)) (a .buffer .now) (p .put-head .ensures)),
+    )
+
+pub print-nonempty-spec : {M : Type 1} → statement M
+print-nonempty-spec =
+    tie.close
+    (tie.spec
+    head-len-requires
+    walk-len-requires
+    add-len
+    returns
+    put-head-requires
+    walk-at-requires
+    same-length
+    returns-2)

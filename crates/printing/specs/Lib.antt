@@ -1,0 +1,3 @@
+-- What is printed, as the arrays have it, and the promises of printing.
+pub mod Text
+pub mod Promise

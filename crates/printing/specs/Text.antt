@@ -1,0 +1,24 @@
+-- What is printed, as the arrays have it.
+use Prim.Native.Nat.{ℕ}
+use mathlib.Core.Option.{some}
+use mathlib.Core.List.{List, _++_}
+use Rattle.lists.specs.Tests.{gather}
+use Rattle.machine.specs.declared.Verdict.{Verdict}
+use Rattle.machine.specs.declared.Verdict.the-variants.{NonEmpty}
+use Rattle.machine.specs.Sheet.{verdict-line, opening-line, walk-lines}
+use Rattle.rounds.specs.declared.Rounds.{Rounds}
+use Rattle.walks.specs.declared.Walk.{Walk}
+use Rattle.walks.specs.Walks.{walk-of}
+use Rattle.sheets.specs.Openings.{openings-in}
+
+-- the lines of the openings
+abbrev pub openings-text : List ℕ → ℕ → Rounds → List ℕ
+openings-text words k rounds = gather opening-line (openings-in (rounds .«loop_rounds») (rounds .«mix_rounds») words k (rounds .count))
+
+-- the line of the verdict, and those of the openings
+unfoldable pub head-text : Verdict → List ℕ → ℕ → Rounds → List ℕ
+head-text v words k rounds = verdict-line v (rounds .count) ++ openings-text words k rounds
+
+-- these lines with the verdict that there is a walk, and then those of the walk
+unfoldable pub walked-text : List ℕ → ℕ → Rounds → Walk → List ℕ
+walked-text words k rounds w = head-text NonEmpty words k rounds ++ walk-lines (some (walk-of w))

@@ -1,0 +1,169 @@
+// The sheet of a settled automaton, written from its keys, its sets, its masks and its rounds into a lent buffer.
+use automaton::Automaton;
+use machine::Verdict;
+use rounds::Rounds;
+use walks::Walk;
+ghost use mathlib.Core.Path.{_≡_};
+ghost use mathlib.Core.Option.{some};
+ghost use Prim.Native.Nat.{_≤_, _+_};
+ghost use lib.ListN.{length};
+ghost use Rattle.lists.specs.Tests.{gather};
+ghost use Rattle.lists.specs.Writing.{Wrote};
+ghost use Rattle.machine.specs.declared.Verdict.the-variants.{NonEmpty, Empty};
+ghost use Rattle.machine.specs.Sheet.{opening-line, walk-lines};
+ghost use Rattle.lines.specs.Lines.{Next};
+ghost use Rattle.walks.specs.Walks.{walk-of, Bounded};
+ghost use Rattle.sheets.specs.Openings.{openings-in};
+ghost use Rattle.printing.specs.Text.{head-text, walked-text};
+ghost use Rattle.printing.specs.Promise.{Puts, Finds, Prints};
+
+// The count of bytes written; or the buffer is too short, and stays as it was.
+pub enum Printed {
+    Wrote(usize),
+    Short,
+}
+
+// Writes the lines of the openings from `at` on, and returns the next place.
+fn openings_at(
+    buf: &mut [u8],
+    at: usize,
+    looped: &[u8; 64],
+    mixed: &[u8; 64],
+    words: &[u64; 64],
+    k: usize,
+    count: u8,
+) -> usize
+    requires { ⌜ (k ≤ 64) × (at + length (gather opening-line (openings-in (now looped) (now mixed) (now words) k count)) ≤ length (now buf)) ⌝ }
+    ensures { λ r. ⌜ Next (gather opening-line (openings-in (now (looped .entry)) (now (mixed .entry)) (now (words .entry)) k count)) (now (buf .entry)) (now (buf .exit)) at r ⌝ }
+{
+    at + sheets::put_openings(&mut buf[at..], looped, mixed, words, k, count)
+}
+
+// Writes the lines of a walk from `at` on, and returns the next place.
+fn walk_at(buf: &mut [u8], at: usize, walk: Walk) -> usize
+    requires { ⌜ Bounded walk × (at + length (walk-lines (some (walk-of walk))) ≤ length (now buf)) ⌝ }
+    ensures { λ r. ⌜ Next (walk-lines (some (walk-of walk))) (now (buf .entry)) (now (buf .exit)) at r ⌝ }
+{
+    at + sheets::put_walk(&mut buf[at..], walk)
+}
+
+// How long the lines of the verdict and of the openings are.
+fn head_len(v: Verdict, words: &[u64; 64], k: usize, rounds: Rounds) -> usize
+    requires { ⌜ k ≤ 64 ⌝ }
+    ensures { λ r. ⌜ (r ≡ length (head-text v (now (words .entry)) k rounds)) × (r ≤ 1100000) ⌝ }
+{
+    let looped = rounds.loop_rounds;
+    let mixed = rounds.mix_rounds;
+    let count = rounds.count;
+    let first = lines::verdict_line_len(v, count as u64);
+    first + sheets::openings_len(&looped, &mixed, words, k, count)
+}
+
+// Writes the lines of the verdict and of the openings.
+fn put_head(buffer: &mut [u8], v: Verdict, words: &[u64; 64], k: usize, rounds: Rounds) -> usize
+    requires { ⌜ (k ≤ 64) × (length (head-text v (now words) k rounds) ≤ length (now buffer)) ⌝ }
+    ensures { λ r. ⌜ Wrote (head-text v (now (words .entry)) k rounds) (now (buffer .entry)) (now (buffer .exit)) r ⌝ }
+{
+    let looped = rounds.loop_rounds;
+    let mixed = rounds.mix_rounds;
+    let count = rounds.count;
+    let at = lines::put_verdict_line(buffer, v, count as u64);
+    openings_at(buffer, at, &looped, &mixed, words, k, count)
+}
+
+// The first of the shortest walks from an initial to a final state, with the claims that are open.
+fn first_walk(
+    high: &[u64; 256],
+    low: &[u64; 256],
+    n: usize,
+    words: &[u64; 64],
+    k: usize,
+    a: Automaton,
+    rounds: Rounds,
+) -> Walk
+    requires { ⌜ (n ≤ 256) × (k ≤ 64) ⌝ }
+    ensures bounded { λ r. ⌜ Bounded r ⌝ }
+    ensures finds { λ r. ⌜ Finds (now (high .entry)) (now (low .entry)) n (now (words .entry)) k a rounds r ⌝ }
+{
+    let letters = a.letters;
+    let lefts = a.lefts;
+    let rights = a.rights;
+    let starts = a.initials;
+    let ends = a.finals;
+    let looped = rounds.loop_rounds;
+    let mixed = rounds.mix_rounds;
+    let back = masks::transpose(&letters);
+    let loops = rounds::open_mask(&looped, k);
+    let mixes = rounds::open_mask(&mixed, k);
+    walks::first_walk(
+        high,
+        low,
+        n,
+        &back,
+        words,
+        &lefts,
+        &rights,
+        loops,
+        mixes,
+        starts,
+        ends,
+    )
+}
+
+// The sheet of an empty automaton: the verdict and the openings.
+fn print_empty(buffer: &mut [u8], words: &[u64; 64], k: usize, rounds: Rounds) -> Printed
+    requires { ⌜ k ≤ 64 ⌝ }
+    ensures { λ r. ⌜ Puts (head-text Empty (now (words .entry)) k rounds) (now (buffer .entry)) (now (buffer .exit)) r ⌝ }
+{
+    let head = head_len(Verdict::Empty, words, k, rounds);
+    if buffer.len() < head {
+        return Printed::Short;
+    }
+    let wrote = put_head(buffer, Verdict::Empty, words, k, rounds);
+    Printed::Wrote(wrote)
+}
+
+// The sheet of a non-empty one: the verdict, the openings and the walk.
+fn print_nonempty(
+    buffer: &mut [u8],
+    words: &[u64; 64],
+    k: usize,
+    rounds: Rounds,
+    walk: Walk,
+) -> Printed
+    requires { ⌜ (k ≤ 64) × Bounded walk ⌝ }
+    ensures { λ r. ⌜ Puts (walked-text (now (words .entry)) k rounds walk) (now (buffer .entry)) (now (buffer .exit)) r ⌝ }
+{
+    let head = head_len(Verdict::NonEmpty, words, k, rounds);
+    let len = head + sheets::walk_len(walk);
+    if buffer.len() < len {
+        return Printed::Short;
+    }
+    let at = put_head(buffer, Verdict::NonEmpty, words, k, rounds);
+    let wrote = walk_at(buffer, at, walk);
+    Printed::Wrote(wrote)
+}
+
+// The sheet of the automaton, settled with the verdict, into the buffer; nothing where the buffer is too short.
+pub fn print(
+    buffer: &mut [u8],
+    verdict: Verdict,
+    high: &[u64; 256],
+    low: &[u64; 256],
+    n: usize,
+    words: &[u64; 64],
+    k: usize,
+    a: Automaton,
+    rounds: Rounds,
+) -> Printed
+    requires { ⌜ (n ≤ 256) × (k ≤ 64) ⌝ }
+    ensures { λ r. ⌜ Prints verdict (now (high .entry)) (now (low .entry)) n (now (words .entry)) k a rounds (now (buffer .entry)) (now (buffer .exit)) r ⌝ }
+{
+    match verdict {
+        Verdict::NonEmpty => {
+            let walk = first_walk(high, low, n, words, k, a, rounds);
+            print_nonempty(buffer, words, k, rounds, walk)
+        }
+        Verdict::Empty => print_empty(buffer, words, k, rounds),
+    }
+}

@@ -1,0 +1,127 @@
+-- The claims that are open are those whose rounds are not 0.
+use Prim.Native.Nat.{ℕ, zero, suc, _<_, _≤_, _+_, _-_}
+use mathlib.Core.Path.{_≡_, refl, ap, sym, _∙_, subst}
+use mathlib.Core.Bool.{Bool, true, false, cond, _||_}
+use mathlib.Core.Logic.{⊎-elim, _↔_}
+use mathlib.Core.List.{List, [], _∷_, _++_, map, List·Memᴰ·head, List·Memᴰ·tail, List·Memᴰ·not-nil, List·Memᴰ·cases-cons}
+use lib.ListN.{length, getD, replicate, length-map, length-replicate, replicate-append-replicate, List·getD-append}
+use native.Mathlib.Omega.{arith}
+use native.Mathlib.Nat.{eq-or-lt-of-le}
+use lib.Dec.{eqb}
+use Rattle.lists.specs.Tests.{Decides, _among_}
+use Rattle.lists.proofs.Deciding.{yes·, no·}
+use Rattle.lists.proofs.Places.{getD-map}
+use Rattle.masks.specs.Mask.{member, _∈_}
+use Rattle.masks.proofs.Member.{with-same, with-cases}
+use Rattle.rows.specs.declared.Row.{Row}
+use Rattle.rows.specs.Rows.{sets}
+use Rattle.orderings.specs.Steps.{Claim, loops, mixes}
+use Rattle.orderings.specs.Decide.{same-claim}
+use Rattle.orderings.specs.Rounds.{Opens}
+use Rattle.orderings.specs.Timelines.{timelines}
+use Rattle.orderings.proofs.Deciding.{same-claim·}
+use Rattle.machine.specs.declared.Phase.{Phase}
+use Rattle.machine.specs.declared.Phase.the-variants.{Open, Running, Settled}
+use Rattle.machine.specs.Machine.{Opening, Machine, open-with, open-claims}
+use Rattle.machine.specs.WellFormed.{Worked, Made, WellFormed}
+use Rattle.machine.proofs.Settling.{after-after}
+use Rattle.table.specs.Arrays.{padded}
+use Rattle.rounds.specs.Arrays.{round-of, rounds-of, OpenPlaces}
+
+-- ---- the mask of the places with a round
+
+-- r is the mask of the places below i
+abbrev Below : List ℕ → ℕ → ℕ → Type 0
+Below rounds r i = (k : ℕ) → (k ∈ r) ↔ ((k < i) × (0 < getD rounds k 0))
+
+-- one place more, with a round
+pub one-more : (rounds : List ℕ) (r i w : ℕ) → Below rounds r i → 0 < getD rounds i 0 → ((t : ℕ) → member t w ≡ (member t r || eqb t i)) → Below rounds w (i + 1)
+one-more rounds r i w h g is k = (
+  (λ j. ⊎-elim (λ o. let p = h k .0 o in (omega (arith, p .0), p .1)) (λ e. (omega arith, subst (λ n. 0 < getD rounds n 0) (sym e) g)) (with-cases r i w is k j)),
+  λ p. ⊎-elim (λ e. subst (λ n. n ∈ w) (sym e) (with-same r i w is)) (λ l. is k ∙ ap (λ (b : Bool). b || eqb k i) (h k .1 (omega arith, p .1))) (eq-or-lt-of-le (below-suc (p .0))),
+)
+  where
+    below-suc : k < i + 1 → k ≤ i
+    below-suc l = omega arith
+
+-- one place more, without
+pub none-more : (rounds : List ℕ) (r i : ℕ) → Below rounds r i → getD rounds i 0 ≡ 0 → Below rounds r (i + 1)
+none-more rounds r i h g k = (
+  (λ j. let p = h k .0 j in (omega (arith, p .0), p .1)),
+  λ p. ⊎-elim (λ e. absurd (omega (arith, p .1, ap (λ n. getD rounds n 0) e))) (λ l. h k .1 (omega arith, p .1)) (eq-or-lt-of-le (below-suc (p .0))),
+)
+  where
+    below-suc : k < i + 1 → k ≤ i
+    below-suc l = omega arith
+
+-- ---- the claims that are open
+
+-- every opening has a round of 1 or more
+abbrev Counted : List Opening → Type 0
+Counted l = (o : Opening) → o among l → 0 < o .round
+
+-- among such openings the round of a claim is not 0 just where one opened it
+round-iff : (c : Claim) (l : List Opening) → Counted l → (0 < round-of l c) ↔ c among map (λ (o : Opening). o .claim) l
+round-iff c [] h = ((λ p. absurd (omega arith)), λ m. absurd (List·Memᴰ·not-nil m))
+round-iff c (o ∷ l) h = go (same-claim c (o .claim)) (same-claim· c (o .claim)) (round-iff c l (λ x m. h x (List·Memᴰ·tail m)))
+  where
+    go : (b : Bool) → Decides b (c ≡ o .claim) → (0 < round-of l c) ↔ c among map (λ (o : Opening). o .claim) l
+        → (0 < cond b (o .round) (round-of l c)) ↔ c among (o .claim ∷ map (λ (o : Opening). o .claim) l)
+    go true d r = ((λ p. List·Memᴰ·head (yes· d)), λ m. h o (List·Memᴰ·head refl))
+    go false d r = ((λ p. List·Memᴰ·tail (r .0 p)), λ m. r .1 (⊎-elim (λ e. absurd (no· d e)) (λ i. i) (List·Memᴰ·cases-cons m)))
+
+-- no claim is opened in round 0
+later : (rows : List Row) (k : ℕ) (c : Claim) → Opens (timelines rows) k c → 0 < k
+later rows zero c o = absurd o
+later rows (suc k) c o = omega arith
+
+-- the openings of a machine that calls made
+counted : (m : Machine) → WellFormed m → Counted (m .openings)
+counted m w = go (m .phase) (w .made)
+  where
+    worked : Worked m → Counted (m .openings)
+    worked k o i = later (m .rows) (o .round) (o .claim) (after-after (m .rows) (k .0) .numbers o .0 (subst (λ (x : Machine). o among x .openings) (k .1) i) .1)
+
+    go : (p : Phase) → Made m p → Counted (m .openings)
+    go Open e o i = absurd (List·Memᴰ·not-nil (subst (λ (x : Machine). o among x .openings) e i))
+    go Running k o i = worked k o i
+    go (Settled v) k o i = worked k o i
+
+-- what an array holds below the length of the list that it is filled up from
+pub filled-at : (l : List ℕ) (i : ℕ) → i < length l → getD (padded 64 0 l) i 0 ≡ getD l i 0
+filled-at l i h = List·getD-append l (replicate (64 - length l) 0) 0 i h
+
+-- the set at a place
+abbrev pub set-at : Machine → ℕ → ℕ
+set-at m i = getD (padded 64 0 (sets (m .rows))) i 0
+
+-- at the place of a set stands the round of its claim
+pub round-at : (m : Machine) (claim : ℕ → Claim) (i : ℕ) → i < length (sets (m .rows)) → getD (rounds-of m claim) i 0 ≡ round-of (m .openings) (claim (set-at m i))
+round-at m claim i h = let f : ℕ → ℕ = λ P. round-of (m .openings) (claim P) in let l = sets (m .rows) in
+    filled-at (map f l) i (omega (arith, length-map l f)) ∙ getD-map f l i 0 0 h ∙ ap f (sym (filled-at l i h))
+
+-- the mask of the places with a round is that of the claims that are open
+pub open-iff : (m : Machine) → WellFormed m → (claim : ℕ → Claim) (mask : ℕ) → OpenPlaces (rounds-of m claim) (length (sets (m .rows))) mask
+    → (i : ℕ) → (i ∈ mask) ↔ ((i < length (sets (m .rows))) × claim (set-at m i) among open-claims m)
+open-iff m w claim mask is i = let q = round-iff (claim (set-at m i)) (m .openings) (counted m w) in (
+  (λ k. let p = is i .0 k in (p .0, q .0 (subst (λ n. 0 < n) (round-at m claim i (p .0)) (p .1)))),
+  λ p. is i .1 (p .0, subst (λ n. 0 < n) (sym (round-at m claim i (p .0))) (q .1 (p .1))),
+)
+
+-- ---- no openings
+
+map-zero : (l : List ℕ) → map {B = ℕ} (λ P. 0) l ≡ replicate (length l) 0
+map-zero [] = refl
+map-zero (x ∷ l) = ap (λ (k : List ℕ). 0 ∷ k) (map-zero l)
+
+zeros : (l : List ℕ) → length l ≤ 64 → padded {A = ℕ} 64 0 (map (λ P. 0) l) ≡ replicate 64 0
+zeros l h =
+    let e : length l + (64 - length l) ≡ 64 = omega arith in
+    ap (λ (k : List ℕ). padded 64 0 k) (map-zero l)
+    ∙ ap (λ (n : ℕ). replicate (length l) 0 ++ replicate (64 - n) 0) (length-replicate (length l) 0)
+    ∙ replicate-append-replicate (length l) (64 - length l) 0
+    ∙ ap (λ (n : ℕ). replicate n 0) e
+
+-- no set of an open machine has a round
+pub no-rounds : (rows : List Row) (claim : ℕ → Claim) → length (sets rows) ≤ 64 → rounds-of (open-with rows) claim ≡ replicate 64 0
+no-rounds rows claim h = zeros (sets rows) h

@@ -1,0 +1,24 @@
+-- `close` meets its contract.
+use mathlib.Core.Path.{sym, subst}
+use lib.ListN.{replicate}
+use Rattle.machine.specs.declared.Phase.{Phase}
+use Rattle.machine.specs.Machine.{closed}
+use Rattle.rounds.specs.Promises.{Kept}
+use Rattle.rounds.proofs.Settled.{closed-kept}
+use borrow.Author.Needs.{needs}
+use Rattle.rounds.proofs.close.Statement.{statement}
+use Rattle.rounds.proofs.close.Tie as tie
+
+accepts-requires : tie.Need-accepts-requires
+accepts-requires c κs = search needs
+
+judge-requires : tie.Need-judge-requires
+judge-requires c κs = search needs
+
+returns : tie.Need-returns
+returns c m n g = let a = c .before .before .args in
+    subst (λ (p : Phase). Kept (closed m) (replicate 64 0) (replicate 64 0) p 0) (sym (c .judge .ensures))
+    (closed-kept m (a .letters .now) (a .words .now) (a .lefts .now) (a .rights .now) (a .starts) (a .ends) n g (c .before .accepts .result) (c .before .accepts .ensures))
+
+pub close-spec : {M : Type 1} → statement M
+close-spec = tie.close (tie.spec accepts-requires judge-requires returns)

@@ -1,0 +1,76 @@
+-- `round` meets its contract.
+use Prim.Native.Nat.{_+_}
+use mathlib.Core.Path.{sym, subst}
+use Rattle.machine.specs.declared.Phase.{Phase}
+use Rattle.machine.specs.Machine.{next-round}
+use Rattle.search.specs.declared.Claims.{Claims}
+use Rattle.rounds.specs.Promises.{Kept}
+use Rattle.rounds.proofs.Settled.{round-kept}
+use borrow.Author.Needs.{needs}
+use Rattle.rounds.proofs.round.Statement.{statement}
+use Rattle.rounds.proofs.round.Tie as tie
+
+open-mask-requires : tie.Need-open-mask-requires
+open-mask-requires c κs = search needs
+
+open-mask-requires-2 : tie.Need-open-mask-requires-2
+open-mask-requires-2 c κs = search needs
+
+opened-requires : tie.Need-opened-requires
+opened-requires c κs = search needs
+
+with-new-requires : tie.Need-with-new-requires
+with-new-requires c κs = search needs
+
+accepts-requires : tie.Need-accepts-requires
+accepts-requires c κs = search needs
+
+nothing-requires : tie.Need-nothing-requires
+nothing-requires c κs = search needs
+
+judge-requires : tie.Need-judge-requires
+judge-requires c κs = search needs
+
+add-count : tie.Need-add-count
+add-count c = search needs
+
+mark-requires : tie.Need-mark-requires
+mark-requires c κs = search needs
+
+mark-requires-2 : tie.Need-mark-requires-2
+mark-requires-2 c κs = search needs
+
+returns : tie.Need-returns
+returns c m w g kept =
+    let looped = c .before .before in
+    let phased = looped .before .before .before in
+    let vain = phased .before in
+    let tested = vain .before in
+    let all = tested .before in
+    let new = all .before in
+    let mixes = new .before in
+    let loops = mixes .before .before in
+    let a = loops .before .before .before .before .args in
+    let b = a .before in
+    let force : Claims = record { loops = loops .open-mask .result; mixes = mixes .open-mask2 .result } in
+    subst (λ (p : Phase). Kept (next-round m) (looped .mark .last .0) (c .mark2 .last .0) p (b .count + 1)) (sym (phased .judge .ensures))
+    (round-kept m w (a .letters .now) (a .words .now) (a .lefts .now) (a .rights .now) (a .starts) (a .ends) (a .n) g force (new .opened .result) (all .with-new .result)
+    (b .«loop_rounds») (b .«mix_rounds») (b .phase) (b .count) kept (loops .open-mask .ensures) (mixes .open-mask2 .ensures) (new .opened .ensures)
+    (tested .accepts .result) (vain .nothing .result) (looped .mark .last .0) (c .mark2 .last .0) (all .with-new .ensures .0) (all .with-new .ensures .1)
+    (tested .accepts .ensures) (vain .nothing .ensures) (looped .mark .ensures) (c .mark2 .ensures))
+
+pub round-spec : {M : Type 1} → statement M
+round-spec =
+    tie.close
+    (tie.spec
+    open-mask-requires
+    open-mask-requires-2
+    opened-requires
+    with-new-requires
+    accepts-requires
+    nothing-requires
+    judge-requires
+    add-count
+    mark-requires
+    mark-requires-2
+    returns)

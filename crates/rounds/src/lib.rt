@@ -1,0 +1,215 @@
+// Rounds on masks and arrays: what each opens, the rounds in which claims opened, and all of them one after another.
+use machine::Phase;
+use machine::Verdict;
+use search::Claims;
+ghost use mathlib.Core.Path.{_≡_};
+ghost use Prim.Native.Nat.{ℕ, _≤_, _<_};
+ghost use Rattle.lists.specs.Tests.{Decides};
+ghost use Rattle.masks.specs.Mask.{_∈_};
+ghost use Rattle.machine.specs.declared.Phase.the-variants.{Running};
+ghost use Rattle.machine.specs.Machine.{judged};
+ghost use Rattle.search.specs.Hops.{Unites};
+ghost use Rattle.rounds.specs.Arrays.{OpenPlaces, Marks};
+ghost use Rattle.rounds.specs.Promises.{Closes, OpensNext, DoesRound, Settles};
+
+// The rounds in which the loop and the mix of each set opened, 0 for not open; the phase and the count of rounds.
+pub struct Rounds {
+    pub loop_rounds: [u8; 64],
+    pub mix_rounds: [u8; 64],
+    pub phase: Phase,
+    pub count: u8,
+}
+
+// The phase after a close or a round: `accepted`, a walk leads from an initial to a final state; `vain`, nothing opened.
+fn judge(accepted: bool, vain: bool) -> Phase
+    ensures { λ r. ⌜ r ≡ judged accepted vain ⌝ }
+{
+    if accepted {
+        return Phase::Settled(Verdict::NonEmpty);
+    }
+    if vain {
+        return Phase::Settled(Verdict::Empty);
+    }
+    Phase::Running
+}
+
+// Is the phase running?
+fn is_running(phase: Phase) -> bool
+    ensures { λ r. ⌜ Decides r (phase ≡ Running) ⌝ }
+{
+    match phase {
+        Phase::Open => false,
+        Phase::Running => true,
+        Phase::Settled(_) => false,
+    }
+}
+
+// Are both masks without a place?
+fn nothing(a: u64, b: u64) -> bool
+    ensures { λ r. ⌜ Decides r ((t : ℕ) → (¬ (t ∈ a)) × (¬ (t ∈ b))) ⌝ }
+{
+    masks::union(a, b) == 0
+}
+
+// The claims in force, and new ones.
+fn with_new(force: Claims, new: Claims) -> Claims
+    ensures loops { λ r. ⌜ Unites (force .loops) (new .loops) (r .loops) ⌝ }
+    ensures mixes { λ r. ⌜ Unites (force .mixes) (new .mixes) (r .mixes) ⌝ }
+{
+    Claims {
+        loops: masks::union(force.loops, new.loops),
+        mixes: masks::union(force.mixes, new.mixes),
+    }
+}
+
+// The places below `n` whose round is not 0.
+pub fn open_mask(rounds: &[u8; 64], n: usize) -> u64
+    requires { ⌜ n ≤ 64 ⌝ }
+    ensures { λ r. ⌜ OpenPlaces (now (rounds .entry)) n r ⌝ }
+{
+    let mut r: u64 = 0;
+    let mut i = 0;
+    while i < n {
+        if rounds[i] != 0 {
+            r = masks::with(r, i as u8);
+        }
+        i += 1;
+    }
+    r
+}
+
+// Round `k` at the places of `opened`, and at the others what `rounds` had.
+fn mark(rounds: &mut [u8; 64], opened: u64, k: u8)
+    ensures { λ _. ⌜ Marks (now (rounds .entry)) opened k (now (rounds .exit)) ⌝ }
+{
+    let mut rest = opened;
+    while rest != 0 {
+        let i = masks::lowest(rest);
+        rounds[i as usize] = k;
+        rest = masks::without_lowest(rest);
+    }
+}
+
+// Close: no claim is open.
+pub fn close(
+    letters: &[u64; 64],
+    words: &[u64; 64],
+    lefts: &[u64; 64],
+    rights: &[u64; 64],
+    starts: u64,
+    ends: u64,
+) -> Rounds
+    ensures { λ r. ⌜ Closes (now (letters .entry)) (now (words .entry)) (now (lefts .entry)) (now (rights .entry)) starts ends r ⌝ }
+{
+    let force = Claims { loops: 0, mixes: 0 };
+    let accepted = search::accepts(letters, words, lefts, rights, force, starts, ends);
+    let phase = judge(accepted, false);
+    let loop_rounds = [0u8; 64];
+    let mix_rounds = [0u8; 64];
+    Rounds {
+        loop_rounds,
+        mix_rounds,
+        phase,
+        count: 0,
+    }
+}
+
+// The claims that a round opens, with the claims in force before it.
+fn opened(
+    letters: &[u64; 64],
+    words: &[u64; 64],
+    lefts: &[u64; 64],
+    rights: &[u64; 64],
+    force: Claims,
+    n: usize,
+) -> Claims
+    requires { ⌜ n ≤ 64 ⌝ }
+    ensures { λ r. ⌜ OpensNext (now (letters .entry)) (now (words .entry)) (now (lefts .entry)) (now (rights .entry)) force n r ⌝ }
+{
+    let back = masks::transpose(letters);
+    let to = search::all_ends(letters, words, lefts, rights, force, n);
+    let from = search::all_ends(&back, words, rights, lefts, force, n);
+    search::open_next(letters, &back, words, lefts, rights, force, &to, &from, n)
+}
+
+// One round: what it opens depends on the claims that were open before it, and on no other.
+pub fn round(
+    letters: &[u64; 64],
+    words: &[u64; 64],
+    lefts: &[u64; 64],
+    rights: &[u64; 64],
+    starts: u64,
+    ends: u64,
+    n: usize,
+    before: Rounds,
+) -> Rounds
+    requires { ⌜ (n ≤ 64) × (before .count < 129) ⌝ }
+    ensures { λ r. ⌜ DoesRound (now (letters .entry)) (now (words .entry)) (now (lefts .entry)) (now (rights .entry)) starts ends n before r ⌝ }
+{
+    let mut loop_rounds = before.loop_rounds;
+    let mut mix_rounds = before.mix_rounds;
+    let loops = open_mask(&loop_rounds, n);
+    let mixes = open_mask(&mix_rounds, n);
+    let force = Claims { loops, mixes };
+    let new = opened(letters, words, lefts, rights, force, n);
+    let all = with_new(force, new);
+    let accepted = search::accepts(letters, words, lefts, rights, all, starts, ends);
+    let phase = judge(accepted, nothing(new.loops, new.mixes));
+    let count = before.count + 1;
+    mark(&mut loop_rounds, new.loops, count);
+    mark(&mut mix_rounds, new.mixes, count);
+    Rounds {
+        loop_rounds,
+        mix_rounds,
+        phase,
+        count,
+    }
+}
+
+// Close, and rounds until the automaton is settled: none needs more than 129.
+pub fn settle(
+    letters: &[u64; 64],
+    words: &[u64; 64],
+    lefts: &[u64; 64],
+    rights: &[u64; 64],
+    starts: u64,
+    ends: u64,
+    n: usize,
+) -> Rounds
+    requires { ⌜ n ≤ 64 ⌝ }
+    ensures { λ r. ⌜ Settles (now (letters .entry)) (now (words .entry)) (now (lefts .entry)) (now (rights .entry)) starts ends n r ⌝ }
+{
+    let back = masks::transpose(letters);
+    let none = Claims { loops: 0, mixes: 0 };
+    let mut force = none;
+    let mut new = none;
+    let mut to = search::all_ends(letters, words, lefts, rights, none, n);
+    let mut from = search::all_ends(&back, words, rights, lefts, none, n);
+    let mut seen = search::reached(letters, words, lefts, rights, none, starts);
+    let mut phase = judge(search::accepted(starts, seen, ends), false);
+    let mut loop_rounds = [0u8; 64];
+    let mut mix_rounds = [0u8; 64];
+    let mut count: u8 = 0;
+    while count < 129 {
+        if !is_running(phase) {
+            break;
+        }
+        search::add_ends(&mut to, &mut from, words, lefts, rights, new, n);
+        new = search::open_next(letters, &back, words, lefts, rights, force, &to, &from, n);
+        force = with_new(force, new);
+        seen = search::reached_more(letters, words, lefts, rights, force, new, starts, seen);
+        phase = judge(
+            search::accepted(starts, seen, ends),
+            nothing(new.loops, new.mixes),
+        );
+        count += 1;
+        mark(&mut loop_rounds, new.loops, count);
+        mark(&mut mix_rounds, new.mixes, count);
+    }
+    Rounds {
+        loop_rounds,
+        mix_rounds,
+        phase,
+        count,
+    }
+}
