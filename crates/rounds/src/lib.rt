@@ -2,6 +2,8 @@
 use machine::Phase;
 use machine::Verdict;
 use search::Claims;
+use search::openings;
+use search::searches;
 ghost use mathlib.Core.Path.{_≡_};
 ghost use Prim.Native.Nat.{ℕ, _≤_, _<_};
 ghost use Rattle.lists.specs.Tests.{Decides};
@@ -102,7 +104,7 @@ pub fn close(
     ensures { λ r. ⌜ Closes (now (letters .entry)) (now (words .entry)) (now (lefts .entry)) (now (rights .entry)) starts ends r ⌝ }
 {
     let force = Claims { loops: 0, mixes: 0 };
-    let accepted = search::accepts(letters, words, lefts, rights, force, starts, ends);
+    let accepted = searches::accepts(letters, words, lefts, rights, force, starts, ends);
     let phase = judge(accepted, false);
     let loop_rounds = [0u8; 64];
     let mix_rounds = [0u8; 64];
@@ -127,9 +129,9 @@ fn opened(
     ensures { λ r. ⌜ OpensNext (now (letters .entry)) (now (words .entry)) (now (lefts .entry)) (now (rights .entry)) force n r ⌝ }
 {
     let back = masks::transpose(letters);
-    let to = search::all_ends(letters, words, lefts, rights, force, n);
-    let from = search::all_ends(&back, words, rights, lefts, force, n);
-    search::open_next(letters, &back, words, lefts, rights, force, &to, &from, n)
+    let to = openings::all_ends(letters, words, lefts, rights, force, n);
+    let from = openings::all_ends(&back, words, rights, lefts, force, n);
+    openings::open_next(letters, &back, words, lefts, rights, force, &to, &from, n)
 }
 
 // One round: what it opens depends on the claims that were open before it, and on no other.
@@ -153,7 +155,7 @@ pub fn round(
     let force = Claims { loops, mixes };
     let new = opened(letters, words, lefts, rights, force, n);
     let all = with_new(force, new);
-    let accepted = search::accepts(letters, words, lefts, rights, all, starts, ends);
+    let accepted = searches::accepts(letters, words, lefts, rights, all, starts, ends);
     let phase = judge(accepted, nothing(new.loops, new.mixes));
     let count = before.count + 1;
     mark(&mut loop_rounds, new.loops, count);
@@ -183,10 +185,10 @@ pub fn settle(
     let none = Claims { loops: 0, mixes: 0 };
     let mut force = none;
     let mut new = none;
-    let mut to = search::all_ends(letters, words, lefts, rights, none, n);
-    let mut from = search::all_ends(&back, words, rights, lefts, none, n);
-    let mut seen = search::reached(letters, words, lefts, rights, none, starts);
-    let mut phase = judge(search::accepted(starts, seen, ends), false);
+    let mut to = openings::all_ends(letters, words, lefts, rights, none, n);
+    let mut from = openings::all_ends(&back, words, rights, lefts, none, n);
+    let mut seen = searches::reached(letters, words, lefts, rights, none, starts);
+    let mut phase = judge(searches::accepted(starts, seen, ends), false);
     let mut loop_rounds = [0u8; 64];
     let mut mix_rounds = [0u8; 64];
     let mut count: u8 = 0;
@@ -194,12 +196,12 @@ pub fn settle(
         if !is_running(phase) {
             break;
         }
-        search::add_ends(&mut to, &mut from, words, lefts, rights, new, n);
-        new = search::open_next(letters, &back, words, lefts, rights, force, &to, &from, n);
+        openings::add_ends(&mut to, &mut from, words, lefts, rights, new, n);
+        new = openings::open_next(letters, &back, words, lefts, rights, force, &to, &from, n);
         force = with_new(force, new);
-        seen = search::reached_more(letters, words, lefts, rights, force, new, starts, seen);
+        seen = searches::reached_more(letters, words, lefts, rights, force, new, starts, seen);
         phase = judge(
-            search::accepted(starts, seen, ends),
+            searches::accepted(starts, seen, ends),
             nothing(new.loops, new.mixes),
         );
         count += 1;

@@ -1,5 +1,6 @@
 // The walk that a sheet prints: the first of the shortest from an initial to a final state.
 
+use search::moves;
 ghost use mathlib.Core.Path.{_≡_};
 ghost use mathlib.Core.Bool.{false};
 ghost use mathlib.Core.Logic.{_↔_};
@@ -52,7 +53,7 @@ fn spread(
             return Distance::At(k);
         }
         let next = difference(
-            search::targets(back, words, rights, lefts, loops, mixes, !0u64, layer),
+            moves::targets(back, words, rights, lefts, loops, mixes, !0u64, layer),
             seen,
         );
         if next == 0 {

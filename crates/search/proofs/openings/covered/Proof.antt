@@ -1,0 +1,54 @@
+-- `search::openings::covered` meets its contract: forward from m, backward from n.
+use borrow.Author.Needs.{needs}
+use Rattle.lists.proofs.Deciding.{iff·}
+use Rattle.search.proofs.Hops.{hop-back, hop-turn}
+use Rattle.search.proofs.Joining.{covered-iff}
+use Rattle.search.proofs.openings.covered.Statement.{statement}
+use Rattle.search.proofs.openings.covered.Tie as tie
+
+reach-requires : tie.Need-reach-requires
+reach-requires c κs = search needs
+
+reach-requires-2 : tie.Need-reach-requires-2
+reach-requires-2 c κs = search needs
+
+intersection-requires : tie.Need-intersection-requires
+intersection-requires c κs = search needs
+
+union-requires : tie.Need-union-requires
+union-requires c κs = search needs
+
+intersection-requires-2 : tie.Need-intersection-requires-2
+intersection-requires-2 c κs = search needs
+
+union-requires-2 : tie.Need-union-requires-2
+union-requires-2 c κs = search needs
+
+is-subset-requires : tie.Need-is-subset-requires
+is-subset-requires c κs = search needs
+
+returns : tie.Need-returns
+returns c turned =
+    let u = c .before .union2 in
+    let z = c .before .before .intersection2 in
+    let y = c .before .before .before .union in
+    let x = c .before .before .before .before .intersection in
+    let before = c .before .before .before .before .before .reach2 in
+    let after = c .before .before .before .before .before .before .reach in
+    let args = c .before .before .before .before .before .before .before .args in
+    let all = covered-iff (hop-back turned) (hop-turn turned) (args .m) (args .n) (after .result) (before .result)
+    (x .result) (y .result) (z .result) (u .result) (after .ensures) (before .ensures) (x .ensures) (y .ensures) (z .ensures) (u .ensures) in
+    iff· (λ f s h. all s .0 (f s h)) (λ f s h. all s .1 (f s h)) (c .is-subset .ensures)
+
+pub covered-spec : {M : Type 1} → statement M
+covered-spec =
+    tie.close
+    (tie.spec
+    reach-requires
+    reach-requires-2
+    intersection-requires
+    union-requires
+    intersection-requires-2
+    union-requires-2
+    is-subset-requires
+    returns)

@@ -1,0 +1,30 @@
+-- `search::openings::may_loop` meets its contract.
+use mathlib.Core.Bool.{false≢true}
+use borrow.Author.Needs.{needs}
+use Rattle.lists.proofs.Deciding.{iff·}
+use Rattle.masks.proofs.Member.{not-both, intersection-left, intersection-right, intersection-both}
+use Rattle.search.proofs.openings.may_loop.Statement.{statement}
+use Rattle.search.proofs.openings.may_loop.Tie as tie
+
+returns : tie.Need-returns
+returns c = record { to = λ e. absurd (false≢true e); of = λ h. absurd (not-both (c .if1 .taken) (h .0)) }
+
+intersection-requires : tie.Need-intersection-requires
+intersection-requires c κs = search needs
+
+is-subset-requires : tie.Need-is-subset-requires
+is-subset-requires c κs = search needs
+
+returns-2 : tie.Need-returns-2
+returns-2 c =
+    let args = c .before .before .before .args in
+    let a = args .to in
+    let b = args .from in
+    let r = c .before .intersection .result in
+    let is = c .before .intersection .ensures in
+    let free = c .before .before .if1 .left in
+    iff· (λ f. (free, ((λ s h. intersection-left a b r is s (f s h)), λ s h. intersection-right a b r is s (f s h))))
+    (λ f s h. intersection-both a b r is s (f .1 .0 s h) (f .1 .1 s h)) (c .is-subset .ensures)
+
+pub may-loop-spec : {M : Type 1} → statement M
+may-loop-spec = tie.close (tie.spec returns intersection-requires is-subset-requires returns-2)

@@ -1,0 +1,16 @@
+-- `search::openings::neither` meets its contract.
+use mathlib.Core.Path.{ap}
+use mathlib.Core.Bool.{not, false≢true}
+use borrow.Author.Tests.{not-true}
+use Rattle.masks.proofs.Member.{not-both}
+use Rattle.search.proofs.openings.neither.Statement.{statement}
+use Rattle.search.proofs.openings.neither.Tie as tie
+
+returns : tie.Need-returns
+returns c = record { to = λ e. absurd (false≢true e); of = λ h. absurd (not-both (c .if1 .taken) (h .0)) }
+
+returns-2 : tie.Need-returns-2
+returns-2 c = record { to = λ e. (c .if1 .left, not-true _ e); of = λ h. ap not (h .1) }
+
+pub neither-spec : {M : Type 1} → statement M
+neither-spec = tie.close (tie.spec returns returns-2)

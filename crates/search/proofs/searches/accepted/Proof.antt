@@ -1,0 +1,19 @@
+-- `search::searches::accepted` meets its contract.
+use Rattle.search.proofs.Accepting.{accepted-iff}
+use borrow.Author.Needs.{needs}
+use Rattle.search.proofs.searches.accepted.Statement.{statement}
+use Rattle.search.proofs.searches.accepted.Tie as tie
+
+union-requires : tie.Need-union-requires
+union-requires c κs = search needs
+
+meets-requires : tie.Need-meets-requires
+meets-requires c κs = search needs
+
+returns : tie.Need-returns
+returns c letters words lefts rights loop-mask mix-mask reached rows claims n is fit is-starts is-ends =
+    let a = c .before .before .args in
+    accepted-iff fit (is .masked) (is .forced) (a .starts) (a .ends) is-starts is-ends (a .seen) (c .before .union .result) reached (c .before .union .ensures) (c .meets .ensures)
+
+pub accepted-spec : {M : Type 1} → statement M
+accepted-spec = tie.close (tie.spec union-requires meets-requires returns)

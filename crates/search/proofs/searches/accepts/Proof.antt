@@ -1,0 +1,17 @@
+-- `search::searches::accepts` meets its contract.
+use borrow.Author.Needs.{needs}
+use Rattle.search.proofs.searches.accepts.Statement.{statement}
+use Rattle.search.proofs.searches.accepts.Tie as tie
+
+reached-requires : tie.Need-reached-requires
+reached-requires c κs = search needs
+
+accepted-requires : tie.Need-accepted-requires
+accepted-requires c κs = search needs
+
+returns : tie.Need-returns
+returns c = let a = c .before .before .args in
+    c .accepted .ensures (a .letters .now) (a .words .now) (a .lefts .now) (a .rights .now) (a .force .loops) (a .force .mixes) (c .before .reached .ensures)
+
+pub accepts-spec : {M : Type 1} → statement M
+accepts-spec = tie.close (tie.spec reached-requires accepted-requires returns)

@@ -1,0 +1,68 @@
+-- `search::searches::reached_more` meets its contract: the new claims from what was seen, and then all steps from what is new.
+use Prim.Native.Nat.{ℕ}
+use borrow.Author.Needs.{needs}
+use Rattle.search.specs.Hops.{Hop, Followed, Explored, all, Reached}
+use Rattle.search.proofs.Chains.{explored-none}
+use Rattle.search.proofs.Reaching.{followed-now, reached-now}
+use Rattle.search.proofs.searches.reached_more.Statement.{statement}
+use Rattle.search.proofs.searches.reached_more.Tie as tie
+
+union-requires : tie.Need-union-requires
+union-requires c κs = search needs
+
+claimed-requires : tie.Need-claimed-requires
+claimed-requires c κs = search needs
+
+difference-requires : tie.Need-difference-requires
+difference-requires c κs = search needs
+
+union-requires-2 : tie.Need-union-requires-2
+union-requires-2 c κs = search needs
+
+-- what was seen and what is new
+module _ (c : tie.After-union2) where
+  abbrev Steps : ℕ → ℕ → Type 0
+  Steps = let a = c .before .before .before .before .args in Hop (a .letters .now) (a .words .now) (a .lefts .now) (a .rights .now) (a .force .loops) (a .force .mixes) all
+
+  followed : Followed Steps (c .union2 .result) (c .before .difference .result)
+  followed =
+      let d = c .before in
+      let cl = d .before in
+      let a = cl .before .before .args in
+      followed-now (a .letters .now) (a .words .now) (a .lefts .now) (a .rights .now) (a .force) (a .new) (a .starts) (a .seen) (cl .before .before .pre)
+      (cl .before .union .result) (cl .claimed .result) (d .difference .result) (c .union2 .result) (cl .before .union .ensures) (cl .claimed .ensures) (d .difference .ensures) (c .union2 .ensures)
+
+  ended : (r : ℕ) → Explored Steps (c .union2 .result) (c .before .difference .result) r
+      → let a = c .before .before .before .before .args in Reached (a .letters .now) (a .words .now) (a .lefts .now) (a .rights .now) (a .force .loops) (a .force .mixes) (a .starts) r
+  ended r x =
+      let d = c .before in
+      let cl = d .before in
+      let a = cl .before .before .args in
+      reached-now (a .letters .now) (a .words .now) (a .lefts .now) (a .rights .now) (a .force) (a .new) (a .starts) (a .seen) (cl .before .before .pre)
+      (cl .before .union .result) (cl .claimed .result) (d .difference .result) (c .union2 .result) (cl .before .union .ensures) (cl .claimed .ensures) (d .difference .ensures) (c .union2 .ensures) r x
+
+returns : tie.Need-returns
+returns c = ended (c .before) (c .before .union2 .result)
+    (explored-none (Steps (c .before)) (c .before .union2 .result) (c .before .before .difference .result) (followed (c .before)) (c .if1 .taken))
+
+all-states-requires : tie.Need-all-states-requires
+all-states-requires c κs = search needs
+
+explore-requires : tie.Need-explore-requires
+explore-requires c κs = rw (c .all-states .ensures) (followed (c .before .before))
+
+returns-2 : tie.Need-returns-2
+returns-2 c = ended (c .before .before .before) (c .explore .result) (rw (c .before .all-states .ensures) at (c .explore .ensures))
+
+pub reached-more-spec : {M : Type 1} → statement M
+reached-more-spec =
+    tie.close
+    (tie.spec
+    union-requires
+    claimed-requires
+    difference-requires
+    union-requires-2
+    returns
+    all-states-requires
+    explore-requires
+    returns-2)
