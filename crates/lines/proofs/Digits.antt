@@ -12,12 +12,18 @@ use native.Mathlib.Nat.{div-div-eq-div-mul, div-one, pow-succ', mod-eq-of-lt}
 use Rattle.lists.specs.Tests.{Decides}
 use Rattle.lists.specs.Writing.{Wrote}
 use Rattle.lists.proofs.Deciding.{ltb·, yes·, no·, so, not-so}
-use Rattle.machine.specs.Text.{digit, hex, decimal, number-text}
-use Rattle.machine.proofs.Text.{number-length}
+use Rattle.machine.specs.Text.{digit, hex, set-text, decimal, number-text}
+use Rattle.machine.specs.Sheet.{line}
+use Rattle.machine.proofs.Text.{hex-length, number-length}
 use Rattle.lines.specs.Digits.{low-digits}
 
 pub number-short : (x : ℕ) → x < 2 ^ 64 → length (number-text x) ≤ 20
 number-short x h = number-length 20 x (omega arith) (omega arith)
+
+-- a number and a set, each after a word
+pub two-length : (first second : List ℕ) (k P : ℕ)
+    → length (line (first ++ (number-text k ++ (second ++ set-text P)))) ≡ length first + length second + length (number-text k) + 17
+two-length first second k P = simp (length-append, hex-length) (omega arith)
 
 -- one digit, or digits and a last one
 abbrev ends : Bool → ℕ → List ℕ → List ℕ

@@ -6,10 +6,10 @@ ghost use mathlib.Core.List.{_++_};
 ghost use lib.ListN.{length};
 ghost use Rattle.lists.specs.Writing.{Wrote};
 ghost use Rattle.machine.specs.Text.{digit, set-text, number-text};
-ghost use Rattle.machine.specs.Sheet.{verdict-line, opening-line, start-line, step-line};
+ghost use Rattle.machine.specs.Sheet.{verdict-text, label-text, verdict-line, opening-line, start-line, step-line};
 ghost use Rattle.machine.specs.Program.{refusal-line};
 ghost use Rattle.lines.specs.Digits.{low-digits};
-ghost use Rattle.lines.specs.Lines.{Next, item-text, one-line, two-line, claim-of, step-to};
+ghost use Rattle.lines.specs.Lines.{Next, item-text, one-line, two-line, claim-of, label-of, step-to};
 
 // What a step reads: a letter, or a limit at a set.
 pub enum Label {
@@ -63,7 +63,8 @@ fn put_digits(buf: &mut [u8], count: usize, base: u64, n: u64) -> usize
 
 // How many digits a number has.
 pub fn number_len(n: u64) -> usize
-    ensures { λ r. ⌜ r ≡ length (number-text n) ⌝ }
+    ensures is { λ r. ⌜ r ≡ length (number-text n) ⌝ }
+    ensures short { λ r. ⌜ r ≤ 20 ⌝ }
 {
     let mut v = n;
     let mut k = 1;
@@ -88,16 +89,6 @@ pub fn put_set(buf: &mut [u8], set: u64) -> usize
     ensures { λ r. ⌜ Wrote (set-text set) (now (buf .entry)) (now (buf .exit)) r ⌝ }
 {
     put_digits(buf, 16, 16, set)
-}
-
-// How long the text of a number or a set is.
-fn item_len(item: Item) -> usize
-    ensures { λ r. ⌜ (r ≡ length (item-text item)) × (r ≤ 20) ⌝ }
-{
-    match item {
-        Item::Number(n) => number_len(n),
-        Item::Set(_) => 16,
-    }
 }
 
 // Writes a number or a set.
@@ -136,14 +127,6 @@ fn pair_at(buf: &mut [u8], at: usize, word: &[u8], item: Item) -> usize
     item_at(buf, a, item)
 }
 
-// How long a line of one word is.
-fn one_len(word: &[u8], item: Item) -> usize
-    requires { ⌜ length (now word) ≤ 64 ⌝ }
-    ensures { λ r. ⌜ r ≡ length (one-line (now (word .entry)) item) ⌝ }
-{
-    word.len() + item_len(item) + 1
-}
-
 // Writes a line of one word.
 fn put_one(buf: &mut [u8], word: &[u8], item: Item) -> usize
     requires { ⌜ length (one-line (now word) item) ≤ length (now buf) ⌝ }
@@ -151,14 +134,6 @@ fn put_one(buf: &mut [u8], word: &[u8], item: Item) -> usize
 {
     let a = pair_at(buf, 0, word, item);
     text_at(buf, a, b"\n")
-}
-
-// How long a line of two words is.
-fn two_len(first: &[u8], x: Item, second: &[u8], y: Item) -> usize
-    requires { ⌜ (length (now first) ≤ 64) × (length (now second) ≤ 64) ⌝ }
-    ensures { λ r. ⌜ r ≡ length (two-line (now (first .entry)) x (now (second .entry)) y) ⌝ }
-{
-    first.len() + item_len(x) + second.len() + item_len(y) + 1
 }
 
 // Writes a line of two words.
@@ -171,14 +146,21 @@ fn put_two(buf: &mut [u8], first: &[u8], x: Item, second: &[u8], y: Item) -> usi
     text_at(buf, b, b"\n")
 }
 
+// How long the word of a verdict is.
+fn verdict_len(v: Verdict) -> usize
+    ensures { λ r. ⌜ (r ≡ length (verdict-text v)) × (r ≤ 8) ⌝ }
+{
+    match v {
+        Verdict::NonEmpty => b"nonempty".len(),
+        Verdict::Empty => b"empty".len(),
+    }
+}
+
 // How long the line `verdict nonempty rounds K` or `verdict empty rounds K` is.
 pub fn verdict_line_len(v: Verdict, k: u64) -> usize
     ensures { λ r. ⌜ r ≡ length (verdict-line v k) ⌝ }
 {
-    match v {
-        Verdict::NonEmpty => one_len(b"verdict nonempty rounds ", Item::Number(k)),
-        Verdict::Empty => one_len(b"verdict empty rounds ", Item::Number(k)),
-    }
+    b"verdict  rounds \n".len() + verdict_len(v) + number_len(k)
 }
 
 // Writes the line of a verdict.
@@ -196,10 +178,11 @@ pub fn put_verdict_line(buf: &mut [u8], v: Verdict, k: u64) -> usize
 pub fn opening_line_len(round: u64, mixes: bool, set: u64) -> usize
     ensures { λ r. ⌜ r ≡ length (opening-line (record { round = round; claim = claim-of mixes set })) ⌝ }
 {
+    let digits = number_len(round) + 16;
     if mixes {
-        two_len(b"open ", Item::Number(round), b" mix ", Item::Set(set))
+        b"open  mix \n".len() + digits
     } else {
-        two_len(b"open ", Item::Number(round), b" loop ", Item::Set(set))
+        b"open  loop \n".len() + digits
     }
 }
 
@@ -221,7 +204,7 @@ pub fn put_opening_line(buf: &mut [u8], round: u64, mixes: bool, set: u64) -> us
 pub fn start_line_len(s: u64) -> usize
     ensures { λ r. ⌜ r ≡ length (start-line s) ⌝ }
 {
-    one_len(b"start ", Item::Number(s))
+    b"start \n".len() + number_len(s)
 }
 
 // Writes the line of the state where the walk starts.
@@ -232,21 +215,23 @@ pub fn put_start_line(buf: &mut [u8], s: u64) -> usize
     put_one(buf, b"start ", Item::Number(s))
 }
 
+// How long a label's word and its letter or set are.
+fn label_len(label: Label) -> usize
+    ensures { λ r. ⌜ (r ≡ length (label-text (label-of label))) × (r ≤ 27) ⌝ }
+{
+    match label {
+        Label::Letter(a) => b"letter ".len() + number_len(a as u64),
+        Label::Omega(_) => b"omega ".len() + 16,
+        Label::Back(_) => b"back ".len() + 16,
+        Label::Mix(_) => b"mix ".len() + 16,
+    }
+}
+
 // How long the line `step letter L to S`, or with `omega SET`, `back SET` or `mix SET`, is.
 pub fn step_line_len(label: Label, to: u64) -> usize
     ensures { λ r. ⌜ r ≡ length (step-line (step-to label to)) ⌝ }
 {
-    match label {
-        Label::Letter(a) => two_len(
-            b"step letter ",
-            Item::Number(a as u64),
-            b" to ",
-            Item::Number(to),
-        ),
-        Label::Omega(set) => two_len(b"step omega ", Item::Set(set), b" to ", Item::Number(to)),
-        Label::Back(set) => two_len(b"step back ", Item::Set(set), b" to ", Item::Number(to)),
-        Label::Mix(set) => two_len(b"step mix ", Item::Set(set), b" to ", Item::Number(to)),
-    }
+    b"step  to \n".len() + label_len(label) + number_len(to)
 }
 
 // Writes the line of a step.
@@ -261,13 +246,6 @@ pub fn put_step_line(buf: &mut [u8], label: Label, to: u64) -> usize
         Label::Back(set) => put_two(buf, b"step back ", Item::Set(set), b" to ", end),
         Label::Mix(set) => put_two(buf, b"step mix ", Item::Set(set), b" to ", end),
     }
-}
-
-// How long the line `refused N at PLACE` is.
-pub fn refusal_line_len(n: u64, place: u64) -> usize
-    ensures { λ r. ⌜ r ≡ length (refusal-line n place) ⌝ }
-{
-    two_len(b"refused ", Item::Number(n), b" at ", Item::Number(place))
 }
 
 // Writes the line of a refusal.

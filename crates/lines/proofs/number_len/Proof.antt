@@ -27,7 +27,10 @@ loop-again : tie.Need-loop-again Inv-loop μ-loop
 loop-again c = omega (arith, number-longer (c .before .loop .v) (omega arith))
 
 returns : tie.Need-returns Inv-loop μ-loop
-returns c = omega (arith, ap length (number-one (c .before .loop .v) (omega arith)))
+returns c =
+    let h = number-short (c .before .before .args .n) (omega arith) in
+    let one = ap length (number-one (c .before .loop .v) (omega arith)) in
+    (omega arith, omega arith)
 
 pub number-len-spec : {M : Type 1} → statement M
 number-len-spec =
