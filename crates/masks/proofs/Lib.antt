@@ -1,7 +1,8 @@
 -- The laws that the proofs of `masks` share.
 pub mod Count
 pub mod Digit
-pub mod Member
-pub mod Walks
-pub mod Turning
+pub mod Gathering
 pub mod Leaving
+pub mod Member
+pub mod Storing
+pub mod Turning

@@ -1,15 +1,14 @@
-// Sets of states as masks, graphs on the states, and what walks inside a set reach.
+// Sets of states as masks, and graphs on the states.
 
 ghost use mathlib.Core.Path.{_≡_};
 ghost use mathlib.Core.Bool.{not, _&&_, _||_};
 ghost use mathlib.Core.Logic.{_↔_, _≢_};
 ghost use Prim.Native.Nat.{ℕ, _≤_, _<_};
 ghost use lib.Dec.{eqb};
-ghost use lib.Count.{ones};
-ghost use lib.ListN.{getD};
+ghost use lib.ListN.{length};
 ghost use Rattle.lists.specs.Tests.{Decides};
-ghost use Rattle.masks.specs.Graph.{Targets, Reaches, SourceAdded, Turned, StronglyConnected};
-ghost use Rattle.masks.specs.Mask.{member, _∈_, _⊆_};
+ghost use Rattle.masks.specs.Graph.{Targets, SourceAdded, Turned};
+ghost use Rattle.masks.specs.Mask.{member, _∈_, _⊆_, TakesLowest};
 
 // Is state `s` in the set `m`?
 pub fn has(m: u64, s: u8) -> bool
@@ -55,14 +54,6 @@ pub fn is_subset(a: u64, b: u64) -> bool
     difference(a, b) == 0
 }
 
-// How many states are in `m`.
-pub fn size(m: u64) -> u32
-    ensures is { λ r. ⌜ r ≡ ones m ⌝ }
-    ensures fits { λ r. ⌜ r ≤ 64 ⌝ }
-{
-    u64::count_ones(m)
-}
-
 // The lowest state of `m`, which is not empty.
 pub fn lowest(m: u64) -> u8
     requires { ⌜ 0 < m ⌝ }
@@ -80,35 +71,36 @@ pub fn without_lowest(m: u64) -> u64
     intersection(m, m - 1)
 }
 
-// The targets of all the states of `m`.
-pub fn targets(succ: &[u64; 64], m: u64) -> u64
+// The lowest state of a set, and the others.
+pub struct Taken {
+    pub low: u8,
+    pub rest: u64,
+}
+
+// Takes the lowest state out of `m`, which is not empty.
+pub fn take_lowest(m: u64) -> Taken
+    requires { ⌜ 0 < m ⌝ }
+    ensures { λ r. ⌜ TakesLowest m (r .low) (r .rest) ⌝ }
+{
+    Taken {
+        low: lowest(m),
+        rest: without_lowest(m),
+    }
+}
+
+// The targets of all the states of `m`. What stands in `succ` past the 64 states is not read.
+pub fn targets(succ: &[u64], m: u64) -> u64
+    requires { ⌜ 64 ≤ length (now succ) ⌝ }
     ensures { λ r. ⌜ Targets (now (succ .entry)) m r ⌝ }
 {
     let mut r: u64 = 0;
     let mut rest = m;
     while rest != 0 {
-        let i = lowest(rest);
-        r = union(r, succ[i as usize]);
-        rest = without_lowest(rest);
+        let next = take_lowest(rest);
+        r = union(r, succ[next.low as usize]);
+        rest = next.rest;
     }
     r
-}
-
-// The states that a walk of one or more edges inside `p` reaches from `s`.
-pub fn reach(succ: &[u64; 64], p: u64, s: u8) -> u64
-    requires { ⌜ s < 64 ⌝ }
-    ensures { λ r. ⌜ Reaches (now (succ .entry)) p s r ⌝ }
-{
-    let mut found: u64 = 0;
-    let mut last = intersection(with(0, s), p);
-    loop {
-        let next = difference(intersection(targets(succ, last), p), found);
-        if next == 0 {
-            return found;
-        }
-        found = union(found, next);
-        last = next;
-    }
 }
 
 // Adds `i` to the masks at the places of `m`.
@@ -118,15 +110,16 @@ fn add_source(back: &mut [u64; 64], m: u64, i: u8)
 {
     let mut rest = m;
     while rest != 0 {
-        let j = lowest(rest);
-        let at = j as usize;
+        let next = take_lowest(rest);
+        let at = next.low as usize;
         back[at] = with(back[at], i);
-        rest = without_lowest(rest);
+        rest = next.rest;
     }
 }
 
-// The graph with every edge turned round.
-pub fn transpose(succ: &[u64; 64]) -> [u64; 64]
+// The graph with every edge turned round. What stands in `succ` past the 64 states is not read.
+pub fn transpose(succ: &[u64]) -> [u64; 64]
+    requires { ⌜ 64 ≤ length (now succ) ⌝ }
     ensures { λ r. ⌜ Turned (now (succ .entry)) r ⌝ }
 {
     let mut back = [0u64; 64];
@@ -136,19 +129,4 @@ pub fn transpose(succ: &[u64; 64]) -> [u64; 64]
         i += 1;
     }
     back
-}
-
-// Does a walk of one or more edges inside `p` lead from each state of `p` to each?
-pub fn strongly_connected(succ: &[u64; 64], p: u64) -> bool
-    ensures { λ r. ⌜ Decides r (StronglyConnected (now (succ .entry)) p) ⌝ }
-{
-    if p == 0 {
-        return true;
-    }
-    let s = lowest(p);
-    if reach(succ, p, s) != p {
-        return false;
-    }
-    let back = transpose(succ);
-    reach(&back, p, s) == p
 }

@@ -12,7 +12,7 @@ use borrow.Author.Count.{below-more}
 use Rattle.masks.specs.Graph.{Targets, Turned}
 use Rattle.masks.specs.Mask.{member, _∈_, _⊆_}
 use Rattle.masks.proofs.Member.{member-lt, member-or, union-left, union-right, union-cases, intersection-left, intersection-right, intersection-both}
-use Rattle.masks.proofs.Walks.{turned-back}
+use Rattle.masks.proofs.Turning.{turned-back}
 use Rattle.search.specs.declared.Claims.{Claims}
 use Rattle.search.specs.Promises.{MoreEnds}
 use Rattle.search.specs.Hops.{Passes, Claimed, Hop, LetterHop, Onward, Inner, Unites, Ends}

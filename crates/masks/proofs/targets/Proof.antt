@@ -1,91 +1,53 @@
--- `masks::targets` meets its contract. The loop's invariant: the states left are in m, what is gathered are targets of m, and a state of m
--- is left or its targets are gathered. The measure is the number of states left.
-use Prim.Native.Nat.{ℕ, _^_, _<_}
-use mathlib.Core.Path.{refl, subst}
-use mathlib.Core.Logic.{_⊎_, inl, inr, ⊎-elim, _↔_, _≢_}
+-- `masks::targets` meets its contract. The loop gathers the targets of each state of `m`.
 use native.Mathlib.Omega.{arith}
 use lib.Count.{ones}
 use lib.ListN.{getD}
-use lib.Dec.{eqb}
 use borrow.Author.Needs.{needs}
-use borrow.Author.Tests.{eqb-true, eqb-false}
-use Rattle.masks.specs.Graph.{Target}
-use Rattle.masks.specs.Mask.{_∈_, _⊆_}
-use Rattle.masks.proofs.Count.{ones-grows}
-use Rattle.masks.proofs.Member.{in-none, member-lt, true-or-false, union-left, union-right, union-cases}
+use Rattle.masks.specs.Mask.{_∈_}
+use Rattle.masks.proofs.Gathering.{Gathered, gather-start, gather-more, gather-end}
 use Rattle.masks.proofs.targets.Statement.{statement}
 use Rattle.masks.proofs.targets.Tie as tie
 
 abbrev Inv-loop : tie.InvT-loop
-Inv-loop succ m r₀ rest₀ r rest =
-    (rest < 2 ^ 64) × (rest ⊆ m) × ((t : ℕ) → t ∈ r → Target succ m t)
-    × ((k : ℕ) → k ∈ m → (k ∈ rest) ⊎ (getD succ k 0 ⊆ r))
+Inv-loop succ m r₀ rest₀ r rest = Gathered (λ i t. t ∈ getD succ i 0) m rest r
 
 abbrev μ-loop : tie.MeasureT-loop
 μ-loop succ m r₀ rest₀ r rest = ones rest
 
 loop-holds : tie.Need-loop-holds Inv-loop μ-loop
-loop-holds c = (c .fits .m .fits, λ t h. h, λ t h. absurd (in-none t h), λ k h. inl h)
+loop-holds c = gather-start
 
-lowest-requires : tie.Need-lowest-requires Inv-loop μ-loop
-lowest-requires c κs = search needs
-
-low-lt : (c : tie.After-lowest Inv-loop μ-loop) → c .lowest .result < 64
-low-lt c = member-lt (c .lowest .result) (c .before .before .loop .rest) (c .lowest .ensures .0)
+take-lowest-requires : tie.Need-take-lowest-requires Inv-loop μ-loop
+take-lowest-requires c κs = search needs
 
 cast-union : tie.Need-cast-union Inv-loop μ-loop
-cast-union c = omega (arith, low-lt c)
+cast-union c = search needs
 
 mul-union : tie.Need-mul-union Inv-loop μ-loop
-mul-union c = omega (arith, low-lt c)
+mul-union c = search needs
 
-element-copy-out-union : tie.Need-element-copy-out-union Inv-loop μ-loop
-element-copy-out-union c = low-lt c
+shared-slice-read-union : tie.Need-shared-slice-read-union Inv-loop μ-loop
+shared-slice-read-union c = search needs
 
 union-requires : tie.Need-union-requires Inv-loop μ-loop
 union-requires c κs = search needs
 
-without-lowest-requires : tie.Need-without-lowest-requires Inv-loop μ-loop
-without-lowest-requires c κs = search needs
-
--- the states that are left
-left : (c : tie.After-without-lowest Inv-loop μ-loop) → let low = c .before .before .before in (t : ℕ) → (t ∈ c .without-lowest .result) ↔ ((t ∈ low .before .before .loop .rest) × (t ≢ low .lowest .result))
-left c = let low = c .before .before .before .lowest in c .without-lowest .ensures (low .result) (low .ensures .0) (low .ensures .1)
-
 loop-less : tie.Need-loop-less Inv-loop μ-loop
-loop-less c =
-    let low = c .before .before .before in
-    let at = low .before .before .loop in
-    ones-grows (c .without-lowest .result) (at .rest) (c .without-lowest .ok) (at .inv .0) (λ t h. left c t .0 h .0)
-    (λ e. left c (low .lowest .result) .0 (rw e (low .lowest .ensures .0)) .1 refl)
+loop-less c = c .before .before .before .take-lowest .ensures .fewer
 
 loop-again : tie.Need-loop-again Inv-loop μ-loop
 loop-again c =
     let low = c .before .before .before in
     let at = low .before .before in
-    let inv = at .loop .inv in
-    let succ = at .before .args .succ .now in
-    let i = low .lowest .result in
-    let r = at .loop .r in
-    let r′ = c .before .union .result in
-    let is-r = c .before .union .ensures in (
-      c .without-lowest .ok,
-      λ t h. inv .1 t (left c t .0 h .0),
-      λ t h. ⊎-elim (inv .2 t) (λ e. record { source = i; is = inv .1 i (low .lowest .ensures .0); edge = e })
-          (union-cases r (getD succ i 0) r′ is-r t h),
-      λ k h. ⊎-elim
-          (λ (g : k ∈ at .loop .rest). ⊎-elim
-          (λ q. inr (λ t x. union-right r (getD succ i 0) r′ is-r t (subst (λ (j : ℕ). t ∈ getD succ j 0) (eqb-true k i q) x)))
-          (λ q. inl (left c k .1 (g, eqb-false k i q))) (true-or-false (eqb k i)))
-          (λ f. inr (λ t x. union-left r (getD succ i 0) r′ is-r t (f t x))) (inv .3 k h),
-    )
+    gather-more (at .loop .r) (getD (at .before .before .args .succ .now) (low .take-lowest .result .low) 0) (c .union .result)
+    (low .take-lowest .ensures) (at .loop .inv) (λ t. (λ h. h, λ h. h)) (c .union .ensures)
 
 returns : tie.Need-returns Inv-loop μ-loop
-returns c = record {
-  sound = c .before .loop .inv .2;
-  complete = λ t w. ⊎-elim (λ h. absurd (in-none (w .source) (rw (c .loop-test .left) at h))) (λ f. f t (w .edge))
-      (c .before .loop .inv .3 (w .source) (w .is));
-}
+returns c =
+    let all = gather-end (c .before .loop .inv) (c .loop-test .left) in record {
+      sound = λ t h. let x = all t .0 h in record { source = x .0; is = x .1; edge = x .2 };
+      complete = λ t w. all t .1 (w .source, w .is, w .edge);
+    }
 
 pub targets-spec : {M : Type 1} → statement M
 targets-spec =
@@ -94,12 +56,11 @@ targets-spec =
     Inv-loop
     μ-loop
     loop-holds
-    lowest-requires
+    take-lowest-requires
     cast-union
     mul-union
-    element-copy-out-union
+    shared-slice-read-union
     union-requires
-    without-lowest-requires
     loop-less
     loop-again
     returns)

@@ -15,7 +15,7 @@ abbrev μ-loop : tie.MeasureT-loop
 μ-loop succ back₀ i₀ back i = 64 - i
 
 loop-holds : tie.Need-loop-holds Inv-loop μ-loop
-loop-holds c = (omega arith, refl, sources-start (c .args .succ .now))
+loop-holds c = (omega arith, refl, sources-start (c .before .args .succ .now))
 
 cast-add-source : tie.Need-cast-add-source Inv-loop μ-loop
 cast-add-source c = search needs
@@ -23,8 +23,8 @@ cast-add-source c = search needs
 mul-add-source : tie.Need-mul-add-source Inv-loop μ-loop
 mul-add-source c = search needs
 
-element-copy-out-add-source : tie.Need-element-copy-out-add-source Inv-loop μ-loop
-element-copy-out-add-source c = search needs
+shared-slice-read-add-source : tie.Need-shared-slice-read-add-source Inv-loop μ-loop
+shared-slice-read-add-source c = search needs
 
 add-source-requires : tie.Need-add-source-requires Inv-loop μ-loop
 add-source-requires c κs = search needs
@@ -42,11 +42,11 @@ loop-again c =
     let e = c .add-source .ensures in (
       omega arith,
       e .length-is ∙ inv .1,
-      sources-more (at .before .args .succ .now) (at .loop .back) (c .add-source .last .0) (at .loop .i) (inv .2) (e .masks-are (inv .1)),
+      sources-more (at .before .before .args .succ .now) (at .loop .back) (c .add-source .last .0) (at .loop .i) (inv .2) (e .masks-are (inv .1)),
     )
 
 returns : tie.Need-returns Inv-loop μ-loop
-returns c = sources-end (c .before .before .args .succ .now) (c .before .loop .back) (c .before .loop .i) (c .before .loop .inv .2) (omega arith)
+returns c = sources-end (c .before .before .before .args .succ .now) (c .before .loop .back) (c .before .loop .i) (c .before .loop .inv .2) (omega arith)
 
 pub transpose-spec : {M : Type 1} → statement M
 transpose-spec =
@@ -57,7 +57,7 @@ transpose-spec =
     loop-holds
     cast-add-source
     mul-add-source
-    element-copy-out-add-source
+    shared-slice-read-add-source
     add-source-requires
     add-i
     loop-less

@@ -23,8 +23,8 @@ returns : tie.Need-returns
 returns c =
     let u = c .before .union in
     let d = c .before .before in
-    let near = d .before .before .intersection in
-    let m = d .before .before .before .args .m in
+    let near = d .before .before .before .intersection in
+    let m = d .before .before .before .before .args .m in
     let x = near .result in
     onward-hop m x (u .result) (c .intersection2 .result) (near .ensures)
     (onward-or x _ _ (u .result) (onward-letter (d .before .targets .ensures)) (d .claimed .ensures) (u .ensures)) (c .intersection2 .ensures)

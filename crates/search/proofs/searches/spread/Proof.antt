@@ -29,10 +29,10 @@ intersection-requires-2 : tie.Need-intersection-requires-2 Inv-loop μ-loop
 intersection-requires-2 c κs = search needs
 
 -- one pass
-steps : (c : tie.After-intersection2 Inv-loop μ-loop) → Onward (LetterHop (c .before .before .before .before .args .letters .now) (c .before .before .before .before .args .p))
-    (c .before .before .before .loop .front) (c .intersection2 .result)
+steps : (c : tie.After-intersection2 Inv-loop μ-loop) → Onward (LetterHop (c .before .before .before .before .before .args .letters .now) (c .before .before .before .before .before .args .p))
+    (c .before .before .before .before .loop .front) (c .intersection2 .result)
 steps c =
-    let n = c .before .before in
+    let n = c .before .before .before in
     onward-inside (n .before .before .args .p) (n .before .loop .front) (n .intersection .result) (c .before .targets .result) (c .intersection2 .result)
     (n .intersection .ensures) (onward-letter (c .before .targets .ensures)) (c .intersection2 .ensures)
 
@@ -43,7 +43,7 @@ returns : tie.Need-returns Inv-loop μ-loop
 returns c =
     let d = c .before in
     let near = d .before in
-    let at = near .before .before .before in
+    let at = near .before .before .before .before in
     let a = at .before .args in
     search-end (LetterHop (a .letters .now) (a .p)) (a .found) (a .last) (at .before .pre) (near .intersection2 .result) (d .difference .result) (at .loop .inv .1)
     (steps near) (d .difference .ensures) (c .if1 .taken)
@@ -54,7 +54,7 @@ union-requires c κs = search needs
 loop-less : tie.Need-loop-less Inv-loop μ-loop
 loop-less c =
     let d = c .before .before in
-    let at = d .before .before .before .before in
+    let at = d .before .before .before .before .before in
     omega (
       arith,
       ones-le 64 (c .union .result) (c .union .ok),
@@ -66,7 +66,7 @@ loop-again : tie.Need-loop-again Inv-loop μ-loop
 loop-again c =
     let d = c .before .before in
     let near = d .before in
-    let at = near .before .before .before in
+    let at = near .before .before .before .before in
     let a = at .before .args in (
       c .union .ok,
       search-more (LetterHop (a .letters .now) (a .p)) (a .found) (a .last) (at .before .pre) (near .intersection2 .result) (d .difference .result) (at .loop .inv .1)
