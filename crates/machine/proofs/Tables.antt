@@ -19,8 +19,8 @@ use Rattle.rows.proofs.Same.{same-row·, stands·}
 use Rattle.rows.proofs.Reading.{bytes-apart}
 use Rattle.rows.proofs.Batch.{feed-runs, feed-batch}
 use Rattle.rows.proofs.Sets.{sets-iff, sets-once, sets-fewer, sets-new}
-use Rattle.machine.specs.Machine.{load-row, withdraw-row}
-use Rattle.machine.specs.Causes.{LoadStops, full, sets-full, WithdrawStops, absent}
+use Rattle.machine.specs.Machine.{most-rows, most-sets, admit-row, load-row, withdraw-row}
+use Rattle.machine.specs.Causes.{AdmitStops, LoadStops, full, sets-full, WithdrawStops, absent}
 use Rattle.machine.specs.WellFormed.{Table}
 
 pub no-rows : Table []
@@ -31,51 +31,64 @@ no-rows = record { sorted = tt; once = tt; fit = λ r m. absurd (List·Memᴰ·n
 abbrev pub with-row : Row → List Row → List Row
 with-row r rows = insert-by row-bytes r rows
 
--- what loading a row comes to
-abbrev pub Loads : Row → List Row → Turn (List Row) → Type 0
-Loads r rows (go rows′) = ((r among rows) × (rows′ ≡ rows)) ⊎ (¬ (r among rows) × (length rows < 256) × (length (sets rows′) ≤ 64) × (rows′ ≡ with-row r rows))
-Loads r rows (stop n) = length (sets rows) ≤ 64 → LoadStops rows r n
+-- a row under any limits
+module _ (max-rows max-sets : ℕ) (r : Row) (rows : List Row) where
+  -- what admitting it comes to
+  abbrev pub Admission : Turn (List Row) → Type 0
+  Admission (go rows′) = ((r among rows) × (rows′ ≡ rows)) ⊎ (¬ (r among rows) × (length rows < max-rows) × (length (sets rows′) ≤ max-sets) × (rows′ ≡ with-row r rows))
+  Admission (stop n) = length (sets rows) ≤ max-sets → AdmitStops max-rows max-sets rows r n
 
-loads : (r : Row) (rows : List Row) → Loads r rows (load-row r rows)
+  pub admission : Admission (admit-row max-rows max-sets r rows)
+  admission = by (stands? r rows) (ltb (length rows) max-rows) (leb (length (sets (with-row r rows))) max-sets) (stands· r rows) (ltb· _ _) (leb· _ _)
+    where
+      by : (a b c : Bool) → Decides a (r among rows) → Decides b (length rows < max-rows) → Decides c (length (sets (with-row r rows)) ≤ max-sets)
+          → Admission (cond a (go rows) (cond b (cond c (go (with-row r rows)) (stop 7)) (stop 6)))
+      by true b c p q s = inl (yes· p, refl)
+      by false true true p q s = inr (no· p, yes· q, yes· s, refl)
+      by false false c p q s = λ h. let n = no· q in full (no· p) (omega arith)
+      by false true false p q s = λ h. let n = no· s in ⊎-elim (λ e. absurd (omega arith)) (λ x. sets-full (x .0) (no· p) (yes· q) (x .1) (x .2) (omega (arith, x .3)))
+          (sets-new rows (with-row r rows) r (insert-iff row-bytes r rows) .1)
+
+  -- a row that stands
+  pub admitted-same : r among rows → admit-row max-rows max-sets r rows ≡ go rows
+  admitted-same m = rw (so (stands· r rows) m)
+
+  -- a row for which there is room
+  pub admitted-new : ¬ (r among rows) → length rows < max-rows → length (sets (with-row r rows)) ≤ max-sets → admit-row max-rows max-sets r rows ≡ go (with-row r rows)
+  admitted-new n k s = rw (not-so (stands· r rows) n, so (ltb· (length rows) max-rows) k, so (leb· (length (sets (with-row r rows))) max-sets) s)
+
+  -- a set that no row has is one more
+  more-sets : (P : ℕ) → P among sets-of r → ¬ (P among sets rows) → length (sets rows) < length (sets (with-row r rows))
+  more-sets P i k = once-length (P ∷ sets rows) (sets (with-row r rows)) (k, sets-once rows) (λ Q m. ⊎-elim
+      (λ e. sets-iff (with-row r rows) Q .1 (r, insert-iff row-bytes r rows r .1 (inl refl), rw e i))
+      (λ j. let s = sets-iff rows Q .0 j in sets-iff (with-row r rows) Q .1 (s .0, insert-iff row-bytes r rows (s .0) .1 (inr (s .1)), s .2))
+      (List·Memᴰ·cases-cons m))
+
+  -- a row that is refused
+  pub admit-stops : (n : ℕ) → length (sets rows) ≤ max-sets → (admit-row max-rows max-sets r rows ≡ stop n) ↔ AdmitStops max-rows max-sets rows r n
+  admit-stops n h = ((λ e. subst Admission e admission h), of)
+    where
+      of : {n : ℕ} → AdmitStops max-rows max-sets rows r n → admit-row max-rows max-sets r rows ≡ stop n
+      of (full k l) = rw (not-so (stands· r rows) k, not-so (ltb· (length rows) max-rows) (λ i. omega arith))
+      of (sets-full P k l i j s) =
+          rw (not-so (stands· r rows) k, so (ltb· (length rows) max-rows) l, not-so (leb· (length (sets (with-row r rows))) max-sets) (λ q. omega (arith, more-sets P i j)))
+
+-- loading a row: under document 01's limits
+pub load-go : (r : Row) (rows rows′ : List Row) → load-row r rows ≡ go rows′ → Admission most-rows most-sets r rows (go rows′)
 unfolding load-row
-loads r rows = by (stands? r rows) (ltb (length rows) 256) (leb (length (sets (with-row r rows))) 64) (stands· r rows) (ltb· _ _) (leb· _ _)
-  where
-    by : (a b c : Bool) → Decides a (r among rows) → Decides b (length rows < 256) → Decides c (length (sets (with-row r rows)) ≤ 64)
-        → Loads r rows (cond a (go rows) (cond b (cond c (go (with-row r rows)) (stop 7)) (stop 6)))
-    by true b c p q s = inl (yes· p, refl)
-    by false true true p q s = inr (no· p, yes· q, yes· s, refl)
-    by false false c p q s = λ h. let n = no· q in full (no· p) (omega arith)
-    by false true false p q s = λ h. let n = no· s in ⊎-elim (λ e. absurd (omega arith)) (λ x. sets-full (x .0) (no· p) (yes· q) (x .1) (x .2) (omega (arith, x .3)))
-        (sets-new rows (with-row r rows) r (insert-iff row-bytes r rows) .1)
+load-go r rows rows′ e = subst (Admission most-rows most-sets r rows) e (admission most-rows most-sets r rows)
 
-pub load-go : (r : Row) (rows rows′ : List Row) → load-row r rows ≡ go rows′ → Loads r rows (go rows′)
-load-go r rows rows′ e = subst (Loads r rows) e (loads r rows)
-
--- a row that stands
 pub load-same : (r : Row) (rows : List Row) → r among rows → load-row r rows ≡ go rows
 unfolding load-row
-load-same r rows m = rw (so (stands· r rows) m)
+load-same r rows m = admitted-same most-rows most-sets r rows m
 
--- a row for which there is room
-pub load-new : (r : Row) (rows : List Row) → ¬ (r among rows) → length rows < 256 → length (sets (with-row r rows)) ≤ 64 → load-row r rows ≡ go (with-row r rows)
+pub load-new : (r : Row) (rows : List Row) → ¬ (r among rows) → length rows < most-rows → length (sets (with-row r rows)) ≤ most-sets → load-row r rows ≡ go (with-row r rows)
 unfolding load-row
-load-new r rows n k s = rw (not-so (stands· r rows) n, so (ltb· (length rows) 256) k, so (leb· (length (sets (with-row r rows))) 64) s)
+load-new r rows n k s = admitted-new most-rows most-sets r rows n k s
 
-pub load-stops : (r : Row) (rows : List Row) (n : ℕ) → length (sets rows) ≤ 64 → (load-row r rows ≡ stop n) ↔ LoadStops rows r n
+pub load-stops : (r : Row) (rows : List Row) (n : ℕ) → length (sets rows) ≤ most-sets → (load-row r rows ≡ stop n) ↔ LoadStops rows r n
 unfolding load-row
-load-stops r rows n h = ((λ e. subst (Loads r rows) e (loads r rows) h), of)
-  where
-    -- a set that no row has is one more
-    more : (P : ℕ) → P among sets-of r → ¬ (P among sets rows) → length (sets rows) < length (sets (with-row r rows))
-    more P i k = once-length (P ∷ sets rows) (sets (with-row r rows)) (k, sets-once rows) (λ Q m. ⊎-elim
-        (λ e. sets-iff (with-row r rows) Q .1 (r, insert-iff row-bytes r rows r .1 (inl refl), rw e i))
-        (λ j. let s = sets-iff rows Q .0 j in sets-iff (with-row r rows) Q .1 (s .0, insert-iff row-bytes r rows (s .0) .1 (inr (s .1)), s .2))
-        (List·Memᴰ·cases-cons m))
-
-    of : {n : ℕ} → LoadStops rows r n → load-row r rows ≡ stop n
-    of (full k l) = rw (not-so (stands· r rows) k, not-so (ltb· (length rows) 256) (λ i. omega arith))
-    of (sets-full P k l i j s) =
-        rw (not-so (stands· r rows) k, so (ltb· (length rows) 256) l, not-so (leb· (length (sets (with-row r rows))) 64) (λ q. omega (arith, more P i j)))
+load-stops r rows n h = admit-stops most-rows most-sets r rows n h
 
 -- the rows without one
 abbrev pub without : Row → List Row → List Row

@@ -10,7 +10,7 @@ use Rattle.rows.specs.Rows.{row-bytes, batch-of, Bytes}
 use Rattle.rows.specs.Batch.{Fed, fed, failed, feed}
 use Rattle.machine.specs.declared.Phase.{Phase}
 use Rattle.machine.specs.declared.Phase.the-variants.{Open, Running, Settled}
-use Rattle.machine.specs.Machine.{Machine, fresh, load-row, withdraw-row, closed, next-round, reopened}
+use Rattle.machine.specs.Machine.{most-rounds, Machine, fresh, load-row, withdraw-row, closed, next-round, reopened}
 use Rattle.machine.specs.Sheet.{sheet}
 
 -- a call, with what its caller brings beside the session: a batch, the length of a buffer
@@ -65,7 +65,7 @@ call-in Open m (save size) = write m size (saved m)
 call-in Running m (load l) = refuse m 1
 call-in Running m (withdraw l) = refuse m 1
 call-in Running m close = refuse m 1
-call-in Running m round = cond (ltb (m .rounds) 129) (accept (next-round m)) (refuse m 13)
+call-in Running m round = cond (ltb (m .rounds) most-rounds) (accept (next-round m)) (refuse m 13)
 call-in Running m reopen = accept (reopened m)
 call-in Running m (print size) = refuse m 11
 call-in Running m (save size) = write m size (saved m)
@@ -103,7 +103,7 @@ Brings (save size) = Unit {0}
 
 -- close, then rounds until settled: at most 129 are done, and a settled machine refuses the others
 abbrev pub settle : List Call
-settle = close ∷ replicate 129 round
+settle = close ∷ replicate most-rounds round
 
 -- the second machine of demand 3: fresh, it loads the rows in one batch, sorted as byte strings, closes and does rounds until settled
 unfoldable pub second : List Row → Machine

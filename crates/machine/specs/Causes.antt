@@ -11,7 +11,7 @@ use Rattle.rows.specs.Batch.{Fails}
 use Rattle.machine.specs.declared.Verdict.{Verdict}
 use Rattle.machine.specs.declared.Phase.{Phase}
 use Rattle.machine.specs.declared.Phase.the-variants.{Open, Running, Settled}
-use Rattle.machine.specs.Machine.{Machine, load-row, withdraw-row}
+use Rattle.machine.specs.Machine.{most-rows, most-sets, most-rounds, Machine, load-row, withdraw-row}
 use Rattle.machine.specs.Sheet.{sheet}
 use Rattle.machine.specs.Calls.{Call, load, withdraw, close, round, reopen, print, save, saved}
 
@@ -52,12 +52,16 @@ pub data Cause (m : Machine) : Call → ℕ → ℕ → Type 0 where
   -- print or save: buffer too short
   short-buffer : (c : Call) (l : List ℕ) (size : ℕ) → Writes m c l size → size < length l → Cause m c 12 0
   -- a 130th round
-  last-round : m .phase ≡ Running → 129 ≤ m .rounds → Cause m round 13 0
+  last-round : m .phase ≡ Running → most-rounds ≤ m .rounds → Cause m round 13 0
+
+-- 6: row not standing, as many stand as may; 7: a set more than there may be
+pub data AdmitStops (max-rows max-sets : ℕ) (rows : List Row) (r : Row) : ℕ → Type 0 where
+  full : ¬ (r among rows) → max-rows ≤ length rows → AdmitStops max-rows max-sets rows r 6
+  sets-full : (P : ℕ) → ¬ (r among rows) → length rows < max-rows → P among sets-of r → ¬ (P among sets rows) → max-sets ≤ length (sets rows) → AdmitStops max-rows max-sets rows r 7
 
 -- 6: row not standing, 256 stand; 7: a 65th set
-pub data LoadStops (rows : List Row) (r : Row) : ℕ → Type 0 where
-  full : ¬ (r among rows) → 256 ≤ length rows → LoadStops rows r 6
-  sets-full : (P : ℕ) → ¬ (r among rows) → length rows < 256 → P among sets-of r → ¬ (P among sets rows) → 64 ≤ length (sets rows) → LoadStops rows r 7
+abbrev pub LoadStops : List Row → Row → ℕ → Type 0
+LoadStops rows r n = AdmitStops most-rows most-sets rows r n
 
 -- 8: row not standing
 pub data WithdrawStops (rows : List Row) (r : Row) : ℕ → Type 0 where

@@ -14,10 +14,9 @@ use Rattle.orderings.specs.Timelines.{Accepting, timelines}
 use Rattle.machine.specs.declared.Verdict.{Verdict}
 use Rattle.machine.specs.declared.Verdict.the-variants.{NonEmpty as NonEmptyV, Empty as EmptyV}
 use Rattle.machine.specs.declared.Phase.the-variants.{Open, Running, Settled}
-use Rattle.machine.specs.Machine.{Opening, Machine, open-claims}
+use Rattle.machine.specs.Machine.{most-rounds, Opening, Machine, fresh, open-claims}
 use Rattle.machine.specs.Sheet.{sheet}
 use Rattle.machine.specs.Calls.{Call, load, withdraw, print, save, Answer, done, wrote, refused, call, run, second, Brings}
-use Rattle.machine.specs.Machine.{fresh}
 
 -- a walk of zero or more steps, with letter steps and steps of the claims l, leads from an initial to a final state
 abbrev pub SomeWalk : List Row → List Claim → Type 0
@@ -76,7 +75,7 @@ pub record Prints (m : Machine) (size : ℕ) : Type 0 where
       ↔ ((v : Verdict) × (m .phase ≡ Settled v) × (l ≡ sheet v (second (m .rows))) × (length l ≤ size))
   -- the second machine is settled with the same verdict, and its round number is the depth that the demand names
   pub numbered : (v : Verdict) → m .phase ≡ Settled v
-      → (second (m .rows) .phase ≡ Settled v) × Number (m .rows) v (second (m .rows) .rounds) × (second (m .rows) .rounds ≤ 129)
+      → (second (m .rows) .phase ≡ Settled v) × Number (m .rows) v (second (m .rows) .rounds) × (second (m .rows) .rounds ≤ most-rounds)
 
 -- demand 3 of the plain machine: at every print of every list of calls
 abbrev pub EveryPrint : Type 0

@@ -36,11 +36,31 @@ open-with rows = record { rows = rows; phase = Open; openings = []; rounds = 0 }
 abbrev pub fresh : Machine
 fresh = open-with []
 
--- a row that stands already changes nothing; 6: 256 stand; 7: a 65th set
-unfoldable pub load-row : Row → List Row → Turn (List Row)
-load-row r rows = let new = insert-by row-bytes r rows in
+-- document 01's limits: standing rows, different sets, rounds done, bytes of a sheet, bytes of a batch
+abbrev pub most-rows : ℕ
+most-rows = 256
+
+abbrev pub most-sets : ℕ
+most-sets = 64
+
+abbrev pub most-rounds : ℕ
+most-rounds = 129
+
+abbrev pub longest-sheet : ℕ
+longest-sheet = 6400
+
+abbrev pub longest-batch : ℕ
+longest-batch = 65536
+
+-- a row that stands already changes nothing; 6: as many rows as may stand do; 7: it would bring a set too many
+abbrev pub admit-row : ℕ → ℕ → Row → List Row → Turn (List Row)
+admit-row max-rows max-sets r rows = let new = insert-by row-bytes r rows in
     cond (stands? r rows) (go rows)
-    (cond (ltb (length rows) 256) (cond (leb (length (sets new)) 64) (go new) (stop 7)) (stop 6))
+    (cond (ltb (length rows) max-rows) (cond (leb (length (sets new)) max-sets) (go new) (stop 7)) (stop 6))
+
+-- 6: 256 stand; 7: a 65th set
+unfoldable pub load-row : Row → List Row → Turn (List Row)
+load-row r rows = admit-row most-rows most-sets r rows
 
 -- 8: the row does not stand
 unfoldable pub withdraw-row : Row → List Row → Turn (List Row)

@@ -6,10 +6,9 @@ use lib.ListN.{length}
 use Rattle.lists.specs.Tests.{_among_, gather}
 use Rattle.lists.specs.Order.{_≺_}
 use Rattle.rows.specs.declared.Row.{Row}
-use Rattle.rows.specs.declared.Row.the-variants.{Initial, Final}
 use Rattle.orderings.specs.Steps.{Claim, Label, letter, ω, back, mix, Step, Walk, Leads}
 use Rattle.orderings.specs.Systems.{Allowed}
-use Rattle.orderings.specs.Timelines.{timelines}
+use Rattle.orderings.specs.Timelines.{IsInitial, IsFinal, timelines}
 
 -- by kind: letter, omega, back, mix
 abbrev pub kind : Label → ℕ
@@ -40,8 +39,8 @@ walk-key f = f .start ∷ gather step-key (f .walk)
 
 -- a walk from an initial to a final state, with letter steps and steps of the claims l
 abbrev pub Candidate : List Row → List Claim → Found → Type 0
-Candidate rows l f = Initial (f .start) among rows
-    × ((b : ℕ) × Final b among rows × Leads (f .start) (f .walk) b)
+Candidate rows l f = IsInitial rows (f .start)
+    × ((b : ℕ) × IsFinal rows b × Leads (f .start) (f .walk) b)
     × Allowed (timelines rows) (λ c. c among l) (f .walk)
 
 -- no other such walk has fewer steps, and among equals it is the first

@@ -7,7 +7,7 @@ use lib.Dec.{ltb}
 use lib.ListN.{length}
 use Rattle.machine.specs.declared.Verdict.{Verdict}
 use Rattle.machine.specs.declared.Phase.the-variants.{Settled}
-use Rattle.machine.specs.Machine.{Machine, fresh}
+use Rattle.machine.specs.Machine.{longest-sheet, longest-batch, Machine, fresh}
 use Rattle.machine.specs.Text.{text, number-text}
 use Rattle.machine.specs.Sheet.{line, sheet}
 use Rattle.machine.specs.Calls.{load, print, Answer, done, wrote, refused, Next, call, run, settle, second}
@@ -34,10 +34,10 @@ outcome l size = ending (call fresh (load l) .machine) size (call fresh (load l)
 
 -- one batch of at most 65,536 bytes; longer input prints the line `too long`
 unfoldable pub program : List ℕ → List ℕ
-program l = elim (ltb 65536 (length l)) [ true ↦ line (text "too long") | false ↦ shown (outcome l 6400) ]
+program l = elim (ltb longest-batch (length l)) [ true ↦ line (text "too long") | false ↦ shown (outcome l longest-sheet) ]
 
 -- what the program writes for each input: `too long`, the line of the cause that refuses the batch, or the sheet of its rows
 pub data Shows (l : List ℕ) : List ℕ → Type 0 where
-  too-long : 65536 < length l → Shows l (line (text "too long"))
-  refusal : (n place : ℕ) → length l ≤ 65536 → Cause fresh (load l) n place → Shows l (refusal-line n place)
-  sheet-of : (m : Machine) (v : Verdict) → length l ≤ 65536 → call fresh (load l) ≡ record { machine = m; answer = done } → second (m .rows) .phase ≡ Settled v → Shows l (sheet v (second (m .rows)))
+  too-long : longest-batch < length l → Shows l (line (text "too long"))
+  refusal : (n place : ℕ) → length l ≤ longest-batch → Cause fresh (load l) n place → Shows l (refusal-line n place)
+  sheet-of : (m : Machine) (v : Verdict) → length l ≤ longest-batch → call fresh (load l) ≡ record { machine = m; answer = done } → second (m .rows) .phase ≡ Settled v → Shows l (sheet v (second (m .rows)))

@@ -9,15 +9,15 @@ use Rattle.rows.specs.declared.Row.{Row}
 use Rattle.rows.specs.Rows.{row-bytes, AllFit, sets}
 use Rattle.machine.specs.declared.Phase.{Phase}
 use Rattle.machine.specs.declared.Phase.the-variants.{Open, Running, Settled}
-use Rattle.machine.specs.Machine.{Machine, open-with, closed, next-round}
+use Rattle.machine.specs.Machine.{most-rows, most-sets, Machine, open-with, closed, next-round}
 
 -- at most 256 rows stand, and at most 64 different sets; as a list they are sorted, none twice
 pub record Table (rows : List Row) : Type 0 where
   pub sorted : Sorted row-bytes rows
   pub once : Once rows
   pub fit : AllFit rows
-  pub few : length rows ≤ 256
-  pub few-sets : length (sets rows) ≤ 64
+  pub few : length rows ≤ most-rows
+  pub few-sets : length (sets rows) ≤ most-sets
 
 -- closed, and k rounds done
 abbrev pub after : List Row → ℕ → Machine

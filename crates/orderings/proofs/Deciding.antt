@@ -19,7 +19,7 @@ use Rattle.rows.proofs.Sets.{sets-iff}
 use Rattle.orderings.specs.Steps.{Claim, loops, mixes, set-of, Label, letter, ω, back, mix, Step, Possible, needs, members, content, Walk, Leads, Inside, On}
 use Rattle.orderings.specs.Claims.{Through, Loops, Mixes, OnPiece, Says}
 use Rattle.orderings.specs.Systems.{InForce, Allowed, AtHand, Holds}
-use Rattle.orderings.specs.Timelines.{same, Accepting, timelines}
+use Rattle.orderings.specs.Timelines.{same, IsInitial, IsFinal, Accepting, timelines}
 use Rattle.orderings.specs.Decide.{is, same-claim, claim-in?, step, mix-steps, steps-of, in-force?, steps, steps-in, reaches?, between?, loops?, entrances, exits, mixes?, says?, holds?, both, claims, initial-of, final-of, initials, finals, accepts?}
 use Rattle.orderings.proofs.Timelines.{members-iff}
 use Rattle.orderings.proofs.Reach.{leads-append, reach·}
@@ -216,7 +216,7 @@ module _ (rows : List Row) where
 only-one : (f : Row → List ℕ) (make : ℕ → Row) (rows : List Row) → ((s : ℕ) → s among f (make s)) → ((r : Row) (s : ℕ) → s among f r → r ≡ make s) → (a : ℕ) → a among gather f rows ↔ make a among rows
 only-one f make rows in-it is-it a = ((λ m. let r = gather-out f a rows m in subst (λ x. x among rows) (is-it (r .0) a (r .2)) (r .1)), λ m. gather-in f m (in-it a))
 
-pub initials-iff : (rows : List Row) (a : ℕ) → a among initials rows ↔ Initial a among rows
+pub initials-iff : (rows : List Row) (a : ℕ) → a among initials rows ↔ IsInitial rows a
 initials-iff rows = only-one initial-of Initial rows (λ s. List·Memᴰ·head refl) is-it
   where
     is-it : (r : Row) (s : ℕ) → s among initial-of r → r ≡ Initial s
@@ -226,7 +226,7 @@ initials-iff rows = only-one initial-of Initial rows (λ s. List·Memᴰ·head r
     is-it (LeftLimit P q) s m = absurd (List·Memᴰ·not-nil m)
     is-it (RightLimit q P) s m = absurd (List·Memᴰ·not-nil m)
 
-pub finals-iff : (rows : List Row) (a : ℕ) → a among finals rows ↔ Final a among rows
+pub finals-iff : (rows : List Row) (a : ℕ) → a among finals rows ↔ IsFinal rows a
 finals-iff rows = only-one final-of Final rows (λ s. List·Memᴰ·head refl) is-it
   where
     is-it : (r : Row) (s : ℕ) → s among final-of r → r ≡ Final s

@@ -14,9 +14,17 @@ use Rattle.orderings.specs.Systems.{System}
 abbrev pub same : (c d : Claim) → Dec (c ≡ d)
 same c d = Claim-discrete ℕ-discrete c d
 
+-- the state is initial
+abbrev pub IsInitial : List Row → ℕ → Type 0
+IsInitial rows s = Initial s among rows
+
+-- the state is final
+abbrev pub IsFinal : List Row → ℕ → Type 0
+IsFinal rows s = Final s among rows
+
 -- a walk of zero or more steps from an initial to a final state
 abbrev pub Accepting : List Row → Walk → Type 0
-Accepting rows w = (a : ℕ) × (b : ℕ) × Initial a among rows × Final b among rows × Leads a w b
+Accepting rows w = (a : ℕ) × (b : ℕ) × IsInitial rows a × IsFinal rows b × Leads a w b
 
 -- a claim is about a set of a standing row
 abbrev pub timelines : List Row → System
