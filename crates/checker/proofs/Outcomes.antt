@@ -21,7 +21,7 @@ use Rattle.machine.specs.Text.{text, number-text}
 use Rattle.machine.specs.Sheet.{line}
 use Rattle.machine.specs.Program.{refusal-line, shown, ending, outcome, program}
 use Rattle.machine.proofs.Program.{outcome-size}
-use Rattle.lines.proofs.Digits.{number-short}
+use Rattle.texts.proofs.Digits.{number-short}
 use Rattle.session.specs.declared.Answer.{Answer}
 use Rattle.session.specs.declared.Answer.the-variants.{Done, Wrote as WroteN, Refused}
 use Rattle.session.specs.Promise.{answer-of}

@@ -70,7 +70,7 @@ pub fn show(input: &[u8], out: &mut [u8]) -> usize
         return 0;
     }
     if input.len() > 65536 {
-        return lines::put_text(out, b"too long\n");
+        return texts::put_text(out, b"too long\n");
     }
     match check(input, out) {
         Answer::Done => 0,

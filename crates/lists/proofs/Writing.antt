@@ -5,7 +5,7 @@ use mathlib.Core.List.{List, [], _∷_, _++_, append-assoc, append-nil}
 use native.Mathlib.Omega.{arith}
 use lib.ListN.{length, take, drop, set, length-append, length-drop, drop-of-length-le}
 use lib.Seq.{set-at, append-snoc, take-at, drop-at, take-all, drop-drop}
-use Rattle.lists.specs.Writing.{Wrote}
+use Rattle.lists.specs.Writing.{Wrote, WroteAt}
 
 -- the buffer after the numbers of a text are stored from place i on
 abbrev pub put-all : List ℕ → ℕ → List ℕ → List ℕ
@@ -47,3 +47,26 @@ wrote-part t u old mid part {a} {b} w v =
       length-is = rw length-append (omega (arith, w .length-is, v .length-is));
       bytes-are = rw (front, none, append-nil, body, append-assoc);
     }
+
+-- nothing, from a place on
+pub wrote-at-none : (old : List ℕ) (at : ℕ) → WroteAt [] old old at at
+wrote-at-none old at = record { place-is = omega arith; follows = λ before base w. rw append-nil w }
+
+-- one text after another
+pub wrote-at-more : (t u old mid new : List ℕ) {a b c : ℕ} → WroteAt t old mid a b → WroteAt u mid new b c → WroteAt (t ++ u) old new a c
+wrote-at-more t u old mid new p q = record {
+  place-is = rw length-append (omega (arith, p .place-is, q .place-is));
+  follows = λ before base w. rw append-assoc at (q .follows (before ++ t) base (p .follows before base w));
+}
+
+-- what is written into the part from a place on, said of the whole
+pub wrote-at-part : (u old part : List ℕ) (at : ℕ) {b : ℕ} → Wrote u (take (length old - at) (drop at old)) part b
+    → WroteAt u old (take at old ++ (part ++ drop (length old - at) (drop at old))) at (at + b)
+wrote-at-part u old part at v = record {
+  place-is = omega (arith, v .length-is);
+  follows = λ before base w. wrote-part before u base old part w v;
+}
+
+-- from the front on
+pub wrote-at-front : (t old new : List ℕ) {r : ℕ} → WroteAt t old new 0 r → Wrote t old new r
+wrote-at-front t old new n = n .follows [] old (wrote-nothing old)

@@ -8,10 +8,9 @@ ghost use mathlib.Core.Option.{some};
 ghost use Prim.Native.Nat.{_≤_, _+_};
 ghost use lib.ListN.{length};
 ghost use Rattle.lists.specs.Tests.{gather};
-ghost use Rattle.lists.specs.Writing.{Wrote};
+ghost use Rattle.lists.specs.Writing.{Wrote, WroteAt};
 ghost use Rattle.machine.specs.declared.Verdict.the-variants.{NonEmpty, Empty};
 ghost use Rattle.machine.specs.Sheet.{opening-line, walk-lines};
-ghost use Rattle.lines.specs.Lines.{Next};
 ghost use Rattle.walks.specs.Walks.{walk-of, Bounded};
 ghost use Rattle.sheets.specs.Openings.{openings-in};
 ghost use Rattle.printing.specs.Text.{head-text, walked-text};
@@ -34,7 +33,7 @@ fn openings_at(
     count: u8,
 ) -> usize
     requires { ⌜ (k ≤ 64) × (at + length (gather opening-line (openings-in (now looped) (now mixed) (now words) k count)) ≤ length (now buf)) ⌝ }
-    ensures { λ r. ⌜ Next (gather opening-line (openings-in (now (looped .entry)) (now (mixed .entry)) (now (words .entry)) k count)) (now (buf .entry)) (now (buf .exit)) at r ⌝ }
+    ensures { λ r. ⌜ WroteAt (gather opening-line (openings-in (now (looped .entry)) (now (mixed .entry)) (now (words .entry)) k count)) (now (buf .entry)) (now (buf .exit)) at r ⌝ }
 {
     at + sheets::put_openings(&mut buf[at..], looped, mixed, words, k, count)
 }
@@ -42,7 +41,7 @@ fn openings_at(
 // Writes the lines of a walk from `at` on, and returns the next place.
 fn walk_at(buf: &mut [u8], at: usize, walk: Walk) -> usize
     requires { ⌜ Bounded walk × (at + length (walk-lines (some (walk-of walk))) ≤ length (now buf)) ⌝ }
-    ensures { λ r. ⌜ Next (walk-lines (some (walk-of walk))) (now (buf .entry)) (now (buf .exit)) at r ⌝ }
+    ensures { λ r. ⌜ WroteAt (walk-lines (some (walk-of walk))) (now (buf .entry)) (now (buf .exit)) at r ⌝ }
 {
     at + sheets::put_walk(&mut buf[at..], walk)
 }

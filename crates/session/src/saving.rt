@@ -7,9 +7,8 @@ use rows::Row;
 ghost use mathlib.Core.Path.{_≡_};
 ghost use Prim.Native.Nat.{_≤_, _+_};
 ghost use lib.ListN.{length};
-ghost use Rattle.lists.specs.Writing.{Wrote};
+ghost use Rattle.lists.specs.Writing.{Wrote, WroteAt};
 ghost use Rattle.rows.specs.Rows.{row-bytes, batch-of};
-ghost use Rattle.lines.specs.Lines.{Next};
 ghost use Rattle.machine.specs.Calls.{save};
 ghost use Rattle.session.specs.Promise.{Writes};
 ghost use Rattle.session.specs.Standing.{standing};
@@ -17,7 +16,7 @@ ghost use Rattle.session.specs.Standing.{standing};
 // Writes the row's bytes from `at` on, and returns the next place.
 fn row_at(buf: &mut [u8], at: usize, row: Row) -> usize
     requires { ⌜ at + length (row-bytes row) ≤ length (now buf) ⌝ }
-    ensures { λ r. ⌜ Next (row-bytes row) (now (buf .entry)) (now (buf .exit)) at r ⌝ }
+    ensures { λ r. ⌜ WroteAt (row-bytes row) (now (buf .entry)) (now (buf .exit)) at r ⌝ }
 {
     at + rows::write_row(&mut buf[at..], row)
 }

@@ -2,7 +2,7 @@
 use borrow.Author.Needs.{needs}
 use native.Mathlib.Omega.{arith}
 use Rattle.machine.specs.Text.{text}
-use Rattle.lines.proofs.Digits.{two-length}
+use Rattle.texts.proofs.Digits.{two-length}
 use Rattle.lines.proofs.opening_line_len.Statement.{statement}
 use Rattle.lines.proofs.opening_line_len.Tie as tie
 

@@ -4,7 +4,7 @@ use native.Mathlib.Omega.{arith}
 use mathlib.Core.List.{[], _++_, append-assoc}
 use lib.ListN.{length-append}
 use Rattle.lists.proofs.Writing.{wrote-nothing}
-use Rattle.lines.specs.Lines.{item-text}
+use Rattle.texts.specs.Items.{item-text}
 use Rattle.lines.proofs.put_two.Statement.{statement}
 use Rattle.lines.proofs.put_two.Tie as tie
 

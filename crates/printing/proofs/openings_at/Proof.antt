@@ -2,7 +2,7 @@
 use Rattle.lists.specs.Tests.{gather}
 use Rattle.machine.specs.Sheet.{opening-line}
 use Rattle.sheets.specs.Openings.{openings-in}
-use Rattle.sheets.proofs.Upto.{next-part}
+use Rattle.lists.proofs.Writing.{wrote-at-part}
 use borrow.Author.Needs.{needs}
 use Rattle.printing.proofs.openings_at.Statement.{statement}
 use Rattle.printing.proofs.openings_at.Tie as tie
@@ -29,7 +29,7 @@ returns : tie.Need-returns
 returns c =
     let p = c .before .before in
     let a = p .before .before .before .args in
-    next-part (gather opening-line (openings-in (a .looped .now) (a .mixed .now) (a .words .now) (a .k) (a .count))) (a .buf .now) (p .put-openings .last .0) (a .at) (p .put-openings .ensures)
+    wrote-at-part (gather opening-line (openings-in (a .looped .now) (a .mixed .now) (a .words .now) (a .k) (a .count))) (a .buf .now) (p .put-openings .last .0) (a .at) (p .put-openings .ensures)
 
 pub openings-at-spec : {M : Type 1} → statement M
 openings-at-spec =

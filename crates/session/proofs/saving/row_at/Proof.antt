@@ -1,6 +1,6 @@
 -- `row_at` meets its contract: what is written into the rest stands in the whole.
 use Rattle.rows.specs.Rows.{row-bytes}
-use Rattle.sheets.proofs.Upto.{next-part}
+use Rattle.lists.proofs.Writing.{wrote-at-part}
 use borrow.Author.Needs.{needs}
 use Rattle.session.proofs.saving.row_at.Statement.{statement}
 use Rattle.session.proofs.saving.row_at.Tie as tie
@@ -24,7 +24,7 @@ same-length : tie.Need-same-length
 same-length c = search needs
 
 returns : tie.Need-returns
-returns c = let s = c .before .before .before .before .before in next-part (row-bytes (s .args .row)) (s .args .buf .now) (c .before .before .write-row .last .0) (s .args .at) (c .before .before .write-row .ensures)
+returns c = let s = c .before .before .before .before .before in wrote-at-part (row-bytes (s .args .row)) (s .args .buf .now) (c .before .before .write-row .last .0) (s .args .at) (c .before .before .write-row .ensures)
 
 pub row-at-spec : {M : Type 1} → statement M
 row-at-spec =

@@ -1,8 +1,8 @@
--- `lines::digit_byte` meets its contract: below 10, and from 10 on.
+-- `texts::digit_byte` meets its contract: below 10, and from 10 on.
 use borrow.Author.Needs.{needs}
 use borrow.Author.Tests.{lt-ltb, le-ltb}
-use Rattle.lines.proofs.digit_byte.Statement.{statement}
-use Rattle.lines.proofs.digit_byte.Tie as tie
+use Rattle.texts.proofs.digit_byte.Statement.{statement}
+use Rattle.texts.proofs.digit_byte.Tie as tie
 
 returns : tie.Need-returns
 returns c = simp (lt-ltb _ _ (c .if1 .taken))

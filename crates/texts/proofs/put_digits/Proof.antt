@@ -1,14 +1,14 @@
--- `lines::put_digits` meets its contract: the i low digits of v are left to write, before what is written.
+-- `texts::put_digits` meets its contract: the i low digits of v are left to write, before what is written.
 use Prim.Native.Nat.{_≤_}
 use mathlib.Core.Path.{_≡_, refl, _∙_}
 use mathlib.Core.List.{_++_}
 use native.Mathlib.Omega.{arith}
 use native.Mathlib.Nat.{mod-lt}
 use lib.ListN.{length, drop, length-set}
-use Rattle.lines.specs.Digits.{low-digits}
-use Rattle.lines.proofs.Digits.{low-more, low-done}
-use Rattle.lines.proofs.put_digits.Statement.{statement}
-use Rattle.lines.proofs.put_digits.Tie as tie
+use Rattle.texts.specs.Digits.{low-digits}
+use Rattle.texts.proofs.Digits.{low-more, low-done}
+use Rattle.texts.proofs.put_digits.Statement.{statement}
+use Rattle.texts.proofs.put_digits.Tie as tie
 
 abbrev Inv-loop : tie.InvT-loop
 Inv-loop buf₀ count base n i₀ v₀ buf i v =

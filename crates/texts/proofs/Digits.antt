@@ -15,7 +15,7 @@ use Rattle.lists.proofs.Deciding.{ltb·, yes·, no·, so, not-so}
 use Rattle.machine.specs.Text.{digit, hex, set-text, decimal, number-text}
 use Rattle.machine.specs.Sheet.{line}
 use Rattle.machine.proofs.Text.{hex-length, number-length}
-use Rattle.lines.specs.Digits.{low-digits}
+use Rattle.texts.specs.Digits.{low-digits}
 
 pub number-short : (x : ℕ) → x < 2 ^ 64 → length (number-text x) ≤ 20
 number-short x h = number-length 20 x (omega arith) (omega arith)

@@ -1,8 +1,8 @@
--- `lines::put_number` meets its contract: its text is as many low digits at base 10 as it has.
+-- `texts::put_number` meets its contract: its text is as many low digits at base 10 as it has.
 use borrow.Author.Needs.{needs}
-use Rattle.lines.proofs.Digits.{number-low}
-use Rattle.lines.proofs.put_number.Statement.{statement}
-use Rattle.lines.proofs.put_number.Tie as tie
+use Rattle.texts.proofs.Digits.{number-low}
+use Rattle.texts.proofs.put_number.Statement.{statement}
+use Rattle.texts.proofs.put_number.Tie as tie
 
 returns : tie.Need-returns
 returns c =

@@ -1,12 +1,12 @@
--- `lines::number_len` meets its contract: the digits of n are those of v and the k - 1 that were passed.
+-- `texts::number_len` meets its contract: the digits of n are those of v and the k - 1 that were passed.
 use Prim.Native.Nat.{_+_}
 use mathlib.Core.Path.{_≡_, ap}
 use native.Mathlib.Omega.{arith}
 use lib.ListN.{length}
 use Rattle.machine.specs.Text.{number-text}
-use Rattle.lines.proofs.Digits.{number-short, number-one, number-longer}
-use Rattle.lines.proofs.number_len.Statement.{statement}
-use Rattle.lines.proofs.number_len.Tie as tie
+use Rattle.texts.proofs.Digits.{number-short, number-one, number-longer}
+use Rattle.texts.proofs.number_len.Statement.{statement}
+use Rattle.texts.proofs.number_len.Tie as tie
 
 abbrev Inv-loop : tie.InvT-loop
 Inv-loop n v₀ k₀ v k = length (number-text n) + 1 ≡ k + length (number-text v)

@@ -1,9 +1,9 @@
--- `lines::put_item` meets its contract: by the two kinds of items.
+-- `texts::put_item` meets its contract: by the two kinds of items.
 use borrow.Author.Needs.{needs}
 use native.Mathlib.Omega.{arith}
 use Rattle.machine.proofs.Text.{hex-length}
-use Rattle.lines.proofs.put_item.Statement.{statement}
-use Rattle.lines.proofs.put_item.Tie as tie
+use Rattle.texts.proofs.put_item.Statement.{statement}
+use Rattle.texts.proofs.put_item.Tie as tie
 
 put-number-requires : tie.Need-put-number-requires
 put-number-requires c κs = rw (c .before .before .item .given .1) at (c .before .before .before .before .before .pre)

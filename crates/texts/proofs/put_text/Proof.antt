@@ -1,4 +1,4 @@
--- `lines::put_text` meets its contract: after i turns the first i bytes of the text are copied.
+-- `texts::put_text` meets its contract: after i turns the first i bytes of the text are copied.
 use Prim.Native.Nat.{ℕ, _≤_, _-_}
 use mathlib.Core.Path.{_≡_, ap, refl, sym, _∙_}
 use native.Mathlib.Omega.{arith}
@@ -6,8 +6,8 @@ use native.Mathlib.Nat.{zero-add}
 use native.Mathlib.Numerals.{add-one}
 use lib.ListN.{length, getD, set}
 use lib.Seq.{paste, paste-suc, length-paste, take-length}
-use Rattle.lines.proofs.put_text.Statement.{statement}
-use Rattle.lines.proofs.put_text.Tie as tie
+use Rattle.texts.proofs.put_text.Statement.{statement}
+use Rattle.texts.proofs.put_text.Tie as tie
 
 abbrev Inv-loop : tie.InvT-loop
 Inv-loop buf₀ text i₀ buf i = (i ≤ length text) × (buf ≡ paste buf₀ 0 text i)

@@ -1,8 +1,8 @@
--- `lines::put_set` meets its contract: its text is the 16 low digits at base 16.
+-- `texts::put_set` meets its contract: its text is the 16 low digits at base 16.
 use borrow.Author.Needs.{needs}
-use Rattle.lines.proofs.Digits.{hex-low}
-use Rattle.lines.proofs.put_set.Statement.{statement}
-use Rattle.lines.proofs.put_set.Tie as tie
+use Rattle.texts.proofs.Digits.{hex-low}
+use Rattle.texts.proofs.put_set.Statement.{statement}
+use Rattle.texts.proofs.put_set.Tie as tie
 
 returns : tie.Need-returns
 returns c = rw (hex-low 16 (c .before .before .before .before .before .args .set)) (c .before .before .put-digits .ensures)

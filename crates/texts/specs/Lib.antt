@@ -1,0 +1,3 @@
+-- Texts as the writers make them.
+pub mod Digits
+pub mod Items

@@ -1,0 +1,117 @@
+// Texts, numbers and sets, each written at the front of a lent buffer or from a place on.
+ghost use mathlib.Core.Path.{_≡_};
+ghost use Prim.Native.Nat.{_+_, _≤_, _<_};
+ghost use mathlib.Core.List.{_++_};
+ghost use lib.ListN.{length};
+ghost use Rattle.lists.specs.Writing.{Wrote, WroteAt};
+ghost use Rattle.machine.specs.Text.{digit, set-text, number-text};
+ghost use Rattle.texts.specs.Digits.{low-digits};
+ghost use Rattle.texts.specs.Items.{item-text};
+
+// What stands after a word.
+pub enum Item {
+    Number(u64),
+    Set(u64),
+}
+
+// Writes a text.
+pub fn put_text(buf: &mut [u8], text: &[u8]) -> usize
+    requires { ⌜ length (now text) ≤ length (now buf) ⌝ }
+    ensures { λ r. ⌜ Wrote (now (text .entry)) (now (buf .entry)) (now (buf .exit)) r ⌝ }
+{
+    let mut i = 0;
+    while i < text.len() {
+        buf[i] = text[i];
+        i += 1;
+    }
+    i
+}
+
+// The byte of a digit: 0 to 9, a to f.
+fn digit_byte(d: u8) -> u8
+    requires { ⌜ d < 16 ⌝ }
+    ensures { λ r. ⌜ r ≡ digit d ⌝ }
+{
+    if d < 10 { 48 + d } else { 87 + d }
+}
+
+// Writes the `count` low digits of a number, from the last to the first.
+fn put_digits(buf: &mut [u8], count: usize, base: u64, n: u64) -> usize
+    requires { ⌜ (count ≤ length (now buf)) × ((0 < base) × (base ≤ 16)) ⌝ }
+    ensures { λ r. ⌜ Wrote (low-digits base count n) (now (buf .entry)) (now (buf .exit)) r ⌝ }
+{
+    let mut i = count;
+    let mut v = n;
+    while 0 < i {
+        i -= 1;
+        buf[i] = digit_byte((v % base) as u8);
+        v = v / base;
+    }
+    count
+}
+
+// How many digits a number has.
+pub fn number_len(n: u64) -> usize
+    ensures is { λ r. ⌜ r ≡ length (number-text n) ⌝ }
+    ensures short { λ r. ⌜ r ≤ 20 ⌝ }
+{
+    let mut v = n;
+    let mut k = 1;
+    while 10 <= v {
+        v = v / 10;
+        k += 1;
+    }
+    k
+}
+
+// Writes a number with no leading zeros.
+pub fn put_number(buf: &mut [u8], n: u64) -> usize
+    requires { ⌜ length (number-text n) ≤ length (now buf) ⌝ }
+    ensures { λ r. ⌜ Wrote (number-text n) (now (buf .entry)) (now (buf .exit)) r ⌝ }
+{
+    put_digits(buf, number_len(n), 10, n)
+}
+
+// Writes a set as 16 hex digits.
+pub fn put_set(buf: &mut [u8], set: u64) -> usize
+    requires { ⌜ 16 ≤ length (now buf) ⌝ }
+    ensures { λ r. ⌜ Wrote (set-text set) (now (buf .entry)) (now (buf .exit)) r ⌝ }
+{
+    put_digits(buf, 16, 16, set)
+}
+
+// Writes a number or a set.
+fn put_item(buf: &mut [u8], item: Item) -> usize
+    requires { ⌜ length (item-text item) ≤ length (now buf) ⌝ }
+    ensures { λ r. ⌜ Wrote (item-text item) (now (buf .entry)) (now (buf .exit)) r ⌝ }
+{
+    match item {
+        Item::Number(n) => put_number(buf, n),
+        Item::Set(set) => put_set(buf, set),
+    }
+}
+
+// Writes a text from `at` on, and returns the next place.
+pub fn text_at(buf: &mut [u8], at: usize, text: &[u8]) -> usize
+    requires { ⌜ at + length (now text) ≤ length (now buf) ⌝ }
+    ensures { λ r. ⌜ WroteAt (now (text .entry)) (now (buf .entry)) (now (buf .exit)) at r ⌝ }
+{
+    at + put_text(&mut buf[at..], text)
+}
+
+// Writes a number or a set from `at` on, and returns the next place.
+pub fn item_at(buf: &mut [u8], at: usize, item: Item) -> usize
+    requires { ⌜ at + length (item-text item) ≤ length (now buf) ⌝ }
+    ensures { λ r. ⌜ WroteAt (item-text item) (now (buf .entry)) (now (buf .exit)) at r ⌝ }
+{
+    at + put_item(&mut buf[at..], item)
+}
+
+// Writes a word and what stands after it from `at` on, and returns the next place.
+pub fn pair_at(buf: &mut [u8], at: usize, word: &[u8], item: Item) -> usize
+    requires { ⌜ at + (length (now word) + length (item-text item)) ≤ length (now buf) ⌝ }
+    ensures { λ r. ⌜ WroteAt (now (word .entry) ++ item-text item) (now (buf .entry)) (now (buf .exit)) at r ⌝ }
+{
+    let a = text_at(buf, at, word);
+    item_at(buf, a, item)
+}
