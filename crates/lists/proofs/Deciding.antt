@@ -1,9 +1,9 @@
 -- What tests over lists say.
 use Prim.Native.Nat.{ℕ, zero, suc, _≤_, _<_, _+_}
-use mathlib.Core.Path.{_≡_, refl, ap, sym, _∙_, subst}
+use mathlib.Core.Path.{_≡_, refl, ap, sym, subst}
 use mathlib.Core.Bool.{Bool, true, false, _&&_, _||_, not, false≢true}
 use mathlib.Core.Logic.{_⊎_, inl, inr, ⊎-elim, _↔_}
-use mathlib.Core.List.{List, [], _∷_, _++_, map, List·Memᴰ, List·Memᴰ·head, List·Memᴰ·tail, List·Memᴰ·not-nil, List·Memᴰ·cases-cons, List·Memᴰ·append-cases, Memᴰ·append-left, Memᴰ·append-right}
+use mathlib.Core.List.{List, [], _∷_, map, List·Memᴰ·head, List·Memᴰ·tail, List·Memᴰ·not-nil, List·Memᴰ·cases-cons, List·Memᴰ·append-cases, Memᴰ·append-left, Memᴰ·append-right}
 use lib.Dec.{T, eqb, eqb→eq, eqb-refl, ltb, ltb→lt, lt→ltb, leb, leb→le, le→leb}
 use native.Mathlib.Omega.{arith}
 use native.Mathlib.Nat.{eq-or-lt-of-le}
@@ -32,6 +32,14 @@ dec· {b} d = go b d
     go : {A : Type 0} (b : Bool) → Decides b A → Dec A
     go true d = yes (yes· d)
     go false d = no (no· d)
+
+-- tests of two statements that imply each other are one
+pub alike : {a b : Bool} {A B : Type 0} → Decides a A → Decides b B → (A → B) → (B → A) → a ≡ b
+alike {a} {b} {A} {B} d e f g = go a d
+  where
+    go : (a : Bool) → Decides a A → a ≡ b
+    go true d = sym (so e (f (yes· d)))
+    go false d = sym (not-so e (λ y. no· d (g y)))
 
 pub T→true : (b : Bool) → T b → b ≡ true
 T→true true t = refl

@@ -6,7 +6,7 @@ use mathlib.Core.Logic.{_⊎_, inl, inr, ⊎-elim, _↔_}
 use mathlib.Core.List.{List, [], _∷_, List·Memᴰ·not-nil}
 use lib.ListN.{length}
 use native.Mathlib.Omega.{arith}
-use Rattle.lists.specs.Tests.{Decides, _among_, any, keep}
+use Rattle.lists.specs.Tests.{Decides, _among_, any}
 use Rattle.lists.specs.Growing.{grow, grown}
 use Rattle.lists.proofs.Deciding.{or·, has·, test·, keep·}
 use Rattle.lists.proofs.Counting.{keep-length, keep-grows}

@@ -4,3 +4,4 @@ pub mod Sorting
 pub mod Growing
 pub mod Writing
 pub mod Places
+pub mod Gaps

@@ -1,14 +1,15 @@
 -- What stands at a place of a list, and the place of what stands in it.
 use Prim.Native.Nat.{ℕ, zero, suc, _<_}
 use mathlib.Core.Path.{_≡_, refl, ap, sym, _∙_, subst}
-use mathlib.Core.Logic.{inl, ⊎-elim}
+use mathlib.Core.Bool.{Bool, true, false, false≢true}
+use mathlib.Core.Logic.{⊎-elim}
 use mathlib.Core.List.{List, [], _∷_, _++_, map, append-assoc, List·Memᴰ·head, List·Memᴰ·tail, List·Memᴰ·not-nil, List·Memᴰ·cases-cons}
-use lib.ListN.{length, getD}
+use lib.ListN.{length, getD, take, drop, length-take}
+use lib.Seq.{getD-take}
 use native.Mathlib.Omega.{arith}
-use native.Mathlib.Decide.{decLt}
 use Rattle.lists.specs.Tests.{_among_, Once, gather}
-use Rattle.lists.specs.Order.{Sorted}
-use Rattle.lists.proofs.Sorting.{before·}
+use Rattle.lists.specs.Order.{before, _≺_, Sorted}
+use Rattle.lists.proofs.Sorting.{before·, ≺-connex}
 
 pub getD-among : {A : Type 0} (l : List A) (i : ℕ) (d : A) → i < length l → getD l i d among l
 getD-among [] i d h = absurd (omega arith)
@@ -28,14 +29,50 @@ pub gather-append : {A B : Type 0} (f : A → List B) (l m : List A) → gather 
 gather-append f [] m = refl
 gather-append {A} {B} f (x ∷ l) m = ap (λ (k : List B). f x ++ k) (gather-append f l m) ∙ sym (append-assoc (f x) (gather f l) (gather f m))
 
+-- what the first n places of an array hold, and the place of what they hold
+pub held-at : {A : Type 0} (n : ℕ) (l m : List A) → take n l ≡ m → (i : ℕ) (d : A) → i < n → getD l i d ≡ getD m i d
+held-at {A} n l m e i d h = sym (getD-take n l i d h) ∙ ap (λ (t : List A). getD t i d) e
+
+pub held-place : (n : ℕ) (l : List ℕ) (x : ℕ) → x among take n l → (i : ℕ) × (i < n) × (x ≡ getD l i 0)
+held-place n l x m =
+    let r = place-of (take n l) x m in
+    let h : r .0 < n = omega (arith, r .1, length-take n l) in
+    (r .0, h, sym (r .2) ∙ getD-take n l (r .0) 0 h)
+
+pub map-drop : {A B : Type 0} (f : A → B) (l : List A) (i : ℕ) → drop i (map f l) ≡ map f (drop i l)
+map-drop f l zero = refl
+map-drop f [] (suc i) = refl
+map-drop f (x ∷ l) (suc i) = map-drop f l i
+
+-- some elements behind the first of a list
+pub map-take : {A B : Type 0} (f : A → B) (l : List A) (i : ℕ) (m : List A) → take i (map f l) ++ map f m ≡ map f (take i l ++ m)
+map-take f l zero m = refl
+map-take f [] (suc i) m = refl
+map-take {B = B} f (x ∷ l) (suc i) m = ap (λ (t : List B). f x ∷ t) (map-take f l i m)
+
+-- of two lists the first comes before the other, where it is another and does not come behind
+comes-first : (a b : List ℕ) → ¬ (b ≺ a) → ¬ (a ≡ b) → a ≺ b
+comes-first a b n m = go (before a b) refl
+  where
+    go : (t : Bool) → before a b ≡ t → t ≡ true
+    go true e = refl
+    go false e = absurd (m (≺-connex a b (λ t. false≢true (sym e ∙ t)) n))
+
+-- in a sorted list without repeats each element comes before all behind it
+pub sorted-at : {A : Type 0} (key : A → List ℕ) (d : A) (l : List A) → ((x y : A) → x among l → y among l → key x ≡ key y → x ≡ y)
+    → Sorted key l → Once l → (i j : ℕ) → i < j → j < length l → key (getD l i d) ≺ key (getD l j d)
+sorted-at key d [] apart s o i j g h = absurd (omega arith)
+sorted-at key d (x ∷ l) apart s o i zero g h = absurd (omega arith)
+sorted-at {A} key d (x ∷ l) apart s o zero (suc j) g h =
+    let y = getD l j d in
+    let m : y among l = getD-among l j d (omega arith) in
+    comes-first (key x) (key y) (s .0 y m)
+    (λ e. o .0 (subst (λ (z : A). z among l) (sym (apart x y (List·Memᴰ·head refl) (List·Memᴰ·tail m) e)) m))
+sorted-at key d (x ∷ l) apart s o (suc i) (suc j) g h =
+    sorted-at key d l (λ a b p q. apart a b (List·Memᴰ·tail p) (List·Memᴰ·tail q)) (s .1) (o .1) i j (omega arith) (omega arith)
+
 -- numbers in order, none twice, rise
 pub rising : (l : List ℕ) → Sorted (λ (P : ℕ). P ∷ []) l → Once l → (i j : ℕ) → i < j → j < length l → getD l i 0 < getD l j 0
-rising [] s o i j h k = absurd (omega arith)
-rising (x ∷ l) s o i zero h k = absurd (omega arith)
-rising (x ∷ l) s o zero (suc j) h k = go (getD-among l j 0 (omega arith)) (decLt (getD l j 0) x) (decLt x (getD l j 0))
-  where
-    go : getD l j 0 among l → Dec (getD l j 0 < x) → Dec (x < getD l j 0) → x < getD l j 0
-    go m a (yes g) = g
-    go m (yes g) (no b) = absurd (s .0 (getD l j 0) m (before· (getD l j 0) x [] [] .of (inl g)))
-    go m (no a) (no b) = let e : getD l j 0 ≡ x = omega arith in absurd (o .0 (subst (λ (y : ℕ). y among l) e m))
-rising (x ∷ l) s o (suc i) (suc j) h k = rising l (s .1) (o .1) i j (omega arith) (omega arith)
+rising l s o i j h k =
+    ⊎-elim (λ g. g) (λ p. absurd (false≢true (p .1)))
+    (before· (getD l i 0) (getD l j 0) [] [] .to (sorted-at (λ (P : ℕ). P ∷ []) 0 l (λ x y p q e. cc) s o i j h k))

@@ -28,10 +28,6 @@ wrote-all t l h = record { length-is = refl; bytes-are = put-after [] t l h }
 pub wrote-nothing : (old : List ℕ) → Wrote [] old old 0
 wrote-nothing old = record { length-is = refl; bytes-are = refl }
 
--- a text that fits leaves the length of the buffer
-pub wrote-length : (t old new : List ℕ) {a : ℕ} → Wrote t old new a → length t ≤ length old → length new ≡ length old
-wrote-length t old new w h = omega (arith, simp (length-append, length-drop) at (ap length (w .bytes-are)))
-
 -- a text t, and then u into the part after it: t ++ u
 pub wrote-part : (t u old mid part : List ℕ) {a b : ℕ} → Wrote t old mid a → Wrote u (take (length mid - a) (drop a mid)) part b
     → Wrote (t ++ u) old (take a mid ++ (part ++ drop (length mid - a) (drop a mid))) (a + b)

@@ -1,7 +1,7 @@
 -- Loops over the places of a mask, the lowest first. `gather-less` and `gather-more` answer the loop's needs where what each place gives is
 -- gathered in a mask; `passed-more` where a place passed has a property.
-use Prim.Native.Nat.{ℕ, _<_}
-use mathlib.Core.Path.{_≡_, refl, subst, sym}
+use Prim.Native.Nat.{ℕ}
+use mathlib.Core.Path.{_≡_, subst, sym}
 use mathlib.Core.Bool.{_||_}
 use mathlib.Core.Logic.{_⊎_, inl, inr, ⊎-elim, _↔_, _≢_}
 use lib.Dec.{eqb}

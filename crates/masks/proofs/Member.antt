@@ -1,7 +1,7 @@
 -- Laws of membership: a state and a set, the operations on sets, sets with the same states.
 use Prim.Native.Nat.{ℕ, _-_, _*_, _/_, _%_, _^_, _≤_, _<_}
 use mathlib.Core.Path.{_≡_, refl, sym, ap, ap₂, _∙_}
-use mathlib.Core.Bool.{Bool, true, false, not, _&&_, _||_, and-eq-true-iff, true≢false, or-true, or-false}
+use mathlib.Core.Bool.{Bool, true, false, not, _&&_, _||_, and-eq-true-iff, true≢false, or-true}
 use mathlib.Core.Logic.{_⊎_, inl, inr, ⊎-elim}
 use native.Mathlib.Nat.{one-mul}
 use native.Mathlib.Decide.{decLt}
@@ -94,9 +94,6 @@ has-test m s h = ap (λ (x : ℕ). eqb x 1) (and-mask (m / 2 ^ s) 1) ∙ sym (me
 module _ (m s w : ℕ) (is : (t : ℕ) → member t w ≡ (member t m || eqb t s)) where
   pub with-same : s ∈ w
   with-same = is s ∙ ap (λ (x : Bool). member s m || x) (eq-eqb s s refl) ∙ or-true (member s m)
-
-  pub with-other : (t : ℕ) → (t ≡ s → ⊥) → member t w ≡ member t m
-  with-other t n = is t ∙ ap (λ (x : Bool). member t m || x) (ne-eqb t s n) ∙ or-false (member t m)
 
   pub with-cases : (t : ℕ) → t ∈ w → (t ∈ m) ⊎ (t ≡ s)
   with-cases t h = ⊎-elim inl (λ e. inr (eqb-true t s e)) (or-cases (member t m) (eqb t s) (sym (is t) ∙ h))

@@ -10,20 +10,12 @@ use native.Mathlib.Omega.{arith}
 use native.Mathlib.Decide.{decLt}
 use Rattle.lists.specs.Tests.{Decides}
 use Rattle.lists.specs.Order.{before}
-use Rattle.lists.proofs.Deciding.{so, not-so, yes·, no·, eqb·, ltb·, and·, or·, test·}
+use Rattle.lists.proofs.Deciding.{alike, not-so, yes·, eqb·, ltb·, and·, or·, test·}
 use Rattle.lists.proofs.Sorting.{≺-irreflexive}
 use Rattle.rows.specs.Rows.{Bytes}
 use Rattle.rows.specs.Reading.{number}
 use Rattle.sorted.specs.Keys.{key-less}
 use Rattle.rows.proofs.Reading.{bytes-take, bytes-drop}
-
--- tests of two statements that imply each other are one
-alike : {a b : Bool} {A B : Type 0} → Decides a A → Decides b B → (A → B) → (B → A) → a ≡ b
-alike {a} {b} {A} {B} d e f g = go a d
-  where
-    go : (a : Bool) → Decides a A → a ≡ b
-    go true d = sym (so e (f (yes· d)))
-    go false d = sym (not-so e (λ y. no· d (g y)))
 
 -- one byte more: the numbers ahead decide, then the bytes
 carry : (x y b c : ℕ) (t : Bool) → b < 256 → c < 256

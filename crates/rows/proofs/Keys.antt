@@ -1,30 +1,18 @@
--- A row's key: it fits two words, it gives the row back, and it has the order of the row's bytes.
+-- A row's key: it gives the row back, and it has the order of the row's bytes.
 use Prim.Native.Nat.{ℕ, zero, suc, _-_, _<_, _+_, _*_, _/_, _%_, _^_}
 use mathlib.Core.Path.{_≡_, refl, ap, sym, _∙_}
-use mathlib.Core.Bool.{cond}
 use mathlib.Core.List.{List, [], _∷_, _++_}
-use lib.Dec.{eqb}
 use lib.ListN.{length, take, drop, getD, replicate}
 use native.Mathlib.Omega.{arith}
-use borrow.Author.Tests.{ne-eqb}
 use Rattle.lists.specs.Order.{before}
 use Rattle.rows.specs.declared.Row.{Row}
 use Rattle.rows.specs.declared.Row.the-variants.{Initial, Final, Successor, LeftLimit, RightLimit}
-use Rattle.rows.specs.Rows.{row-bytes, Fits, Bytes, sets-of}
+use Rattle.rows.specs.Rows.{row-bytes, Fits, Bytes}
 use Rattle.rows.specs.Reading.{number, width}
 use Rattle.sorted.specs.Keys.{key-less}
-use Rattle.rows.specs.Keys.{high, low, row-from, set-or-none}
+use Rattle.rows.specs.Keys.{high, low, row-from}
 use Rattle.rows.proofs.Reading.{eight, some-bytes, bytes-append, byte-and, no-bytes, row-bytes-are-bytes}
 use Rattle.rows.proofs.ByteOrder.{split-order, before-filled}
-
--- the first word has eight bytes, the second two
-pub key-words : (r : Row) → Fits r → (high r < 2 ^ 64) × (low r < 2 ^ 16)
-unfolding high low
-key-words (Initial s) f = (omega arith, omega arith)
-key-words (Final s) f = (omega arith, omega arith)
-key-words (Successor p a q) f = (omega arith, omega arith)
-key-words (LeftLimit P q) f = (omega arith, omega arith)
-key-words (RightLimit q P) f = (omega arith, omega arith)
 
 -- a row is that of its key
 pub key-back : (r : Row) → Fits r → row-from (high r) (low r) ≡ r
@@ -121,11 +109,3 @@ key-order r s f g =
     sym (before-filled (row-bytes r) (row-bytes s) (fill r) (fill s) (some-bytes r) (some-bytes s) (fill-alike r s))
     ∙ (split-order 8 (filled r) (filled s) (a .first ∙ sym (b .first)) (a .last ∙ sym (b .last)) (filled-bytes r f) (filled-bytes s g)
     ∙ rw (a .first-is, a .last-is, b .first-is, b .last-is))
-
--- a row without a set has 0, and no set is 0
-pub set-or-none-is : (r : Row) → Fits r → sets-of r ≡ cond (eqb (set-or-none r) 0) [] (set-or-none r ∷ [])
-set-or-none-is (Initial s) f = refl
-set-or-none-is (Final s) f = refl
-set-or-none-is (Successor p a q) f = refl
-set-or-none-is (LeftLimit P q) f = rw (ne-eqb P 0 (omega arith))
-set-or-none-is (RightLimit q P) f = rw (ne-eqb P 0 (omega arith))

@@ -283,6 +283,11 @@ no-bytes b m = absurd (List·Memᴰ·not-nil m)
 pub byte-and : {a : ℕ} {l : List ℕ} → a < 256 → Bytes l → Bytes (a ∷ l)
 byte-and {a} g h b m = ⊎-elim (λ e. omega arith) (h b) (List·Memᴰ·cases-cons m)
 
+-- numbers below 256 at every place
+pub all-bytes : (l : List ℕ) → ((i : ℕ) → getD l i 0 < 256) → Bytes l
+all-bytes [] h = no-bytes
+all-bytes (x ∷ l) h = byte-and (h 0) (all-bytes l (λ i. h (suc i)))
+
 pub bytes-append : (l m : List ℕ) → Bytes l → Bytes m → Bytes (l ++ m)
 bytes-append l m g h b i = ⊎-elim (g b) (h b) (List·Memᴰ·append-cases l i)
 

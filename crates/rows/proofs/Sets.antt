@@ -1,17 +1,19 @@
 -- The different sets of some rows: which they are, their order and their number.
-use Prim.Native.Nat.{ℕ, suc, _≤_}
+use Prim.Native.Nat.{ℕ, suc, _≤_, _<_}
 use mathlib.Core.Path.{_≡_, refl}
 use mathlib.Core.Bool.{Bool, true, false}
 use mathlib.Core.Logic.{_⊎_, inl, inr, ⊎-elim, _↔_}
 use mathlib.Core.List.{List, [], _∷_, List·Memᴰ·head, List·Memᴰ·tail, List·Memᴰ·not-nil, List·Memᴰ·cases-cons, List·Memᴰ·eq-of-singleton, Memᴰ·cast}
 use lib.Dec.{eqb}
-use lib.ListN.{length}
+use lib.ListN.{length, getD, take}
 use native.Mathlib.Omega.{arith}
 use Rattle.lists.specs.Tests.{Decides, _among_, _part-of_, Once, any, gather}
 use Rattle.lists.specs.Order.{Sorted, insert-by}
 use Rattle.lists.proofs.Deciding.{eqb·, has·, yes·, no·, dec·, gather-in, gather-out}
 use Rattle.lists.proofs.Counting.{once-length}
+use Rattle.lists.proofs.Places.{held-at, held-place, rising}
 use Rattle.lists.proofs.Sorting.{insert-iff, insert-sorted, insert-once, sorted-same}
+use Rattle.sorted.specs.Keys.{Rising}
 use Rattle.rows.specs.declared.Row.{Row}
 use Rattle.rows.specs.declared.Row.the-variants.{Initial, Final, Successor, LeftLimit, RightLimit}
 use Rattle.rows.specs.Rows.{sets-of, SetOf, add-new, distinct, sets}
@@ -58,6 +60,15 @@ sets-sorted rows = distinct-sorted (gather sets-of rows)
 pub sets-once : (rows : List Row) → Once (sets rows)
 unfolding sets
 sets-once rows = distinct-once (gather sets-of rows)
+
+-- an array that holds them rises, and each set of the rows has a place in it
+module _ (rows : List Row) (words : List ℕ) (k : ℕ) (are : take k words ≡ sets rows) where
+  pub words-rise : k ≡ length (sets rows) → Rising words k
+  words-rise count i j h l = rw (held-at k words (sets rows) are i 0 (omega arith), held-at k words (sets rows) are j 0 l)
+      (rising (sets rows) (sets-sorted rows) (sets-once rows) i j h (omega arith))
+
+  pub set-place : (P : ℕ) → SetOf rows P → (i : ℕ) × (i < k) × (P ≡ getD words i 0)
+  set-place P h = held-place k words P (rw are (sets-iff rows P .1 h))
 
 sets-part : (rows rows′ : List Row) → rows part-of rows′ → sets rows part-of sets rows′
 sets-part rows rows′ h P m = let s = sets-iff rows P .0 m in sets-iff rows′ P .1 (s .0, h (s .0) (s .1), s .2)

@@ -18,7 +18,7 @@ use Rattle.machine.specs.Order.{Found}
 use Rattle.machine.specs.Sheet.{verdict-line, opening-line, walk-lines, last-lines, sheet}
 use Rattle.machine.proofs.Demands.{printed-walk}
 use Rattle.table.specs.Arrays.{padded}
-use Rattle.table.proofs.Places.{map-at}
+use Rattle.lists.proofs.Places.{getD-map}
 use Rattle.walks.specs.declared.Walk.{Walk}
 use Rattle.walks.specs.Walks.{walk-of, Answers}
 use Rattle.walks.proofs.Answers.{answers-some, answers-none}
@@ -33,7 +33,7 @@ module _ (m : Machine) (round : Claim → ℕ) (is : (c : Claim) → Noted m c (
   round-at : (claim : ℕ → Claim) (size i : ℕ) → i < length (sets (m .rows))
       → getD (padded size 0 (map (λ P. round (claim P)) (sets (m .rows)))) i 0 ≡ round (claim (getD (padded size 0 (sets (m .rows))) i 0))
   round-at claim size i h = List·getD-append (map (λ P. round (claim P)) (sets (m .rows))) _ 0 i (rw length-map h)
-      ∙ map-at (λ P. round (claim P)) (sets (m .rows)) i 0 h ∙ ap (λ P. round (claim P)) (sym (word-at size i h))
+      ∙ getD-map (λ P. round (claim P)) (sets (m .rows)) i 0 0 h ∙ ap (λ P. round (claim P)) (sym (word-at size i h))
 
   pub recorded : (size : ℕ) → Recorded m (padded size 0 (map (λ P. round (loops P)) (sets (m .rows)))) (padded size 0 (map (λ P. round (mixes P)) (sets (m .rows)))) (padded size 0 (sets (m .rows))) (length (sets (m .rows)))
   recorded size = record {

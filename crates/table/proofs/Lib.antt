@@ -1,4 +1,3 @@
-pub mod Places
 pub mod Sets
 pub mod Keys
 pub mod Turns

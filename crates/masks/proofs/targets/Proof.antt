@@ -1,5 +1,4 @@
 -- `masks::targets` meets its contract. The loop gathers the targets of each state of `m`.
-use native.Mathlib.Omega.{arith}
 use lib.Count.{ones}
 use lib.ListN.{getD}
 use borrow.Author.Needs.{needs}
