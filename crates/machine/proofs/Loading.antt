@@ -35,24 +35,6 @@ withdrawn m l b e = by (comes m (withdraw l) done e)
     by : {m′ : Machine} → Done m (withdraw l) m′ → Withdrawn m l m′
     by (withdraw-done k rows p f) = batched withdraw-row (λ s batch t. (r : Row) → r among t ↔ (r among s × ¬ (r among batch))) withdraw-sets (m .rows) rows l b f
 
--- load and withdraw change nothing but the rows
-pub rows-only : (m : Machine) (l : List ℕ) → (call m (load l) .machine ≡ rows-to m (call m (load l) .machine .rows)) × (call m (withdraw l) .machine ≡ rows-to m (call m (withdraw l) .machine .rows))
-rows-only m l = (
-  by (load l) (λ m′ d. loading d) (call m (load l) .answer) refl,
-  by (withdraw l) (λ m′ d. withdrawing d) (call m (withdraw l) .answer) refl,
-)
-  where
-    by : (c : Call) → ((m′ : Machine) → Done m c m′ → m′ ≡ rows-to m (m′ .rows)) → (a : Answer) → call m c .answer ≡ a → call m c .machine ≡ rows-to m (call m c .machine .rows)
-    by c f done e = f (call m c .machine) (comes m c done e)
-    by c f (wrote k) e = rw (comes m c (wrote k) e .0)
-    by c f (refused n place) e = rw (comes m c (refused n place) e .0)
-
-    loading : {m′ : Machine} → Done m (load l) m′ → m′ ≡ rows-to m (m′ .rows)
-    loading (load-done k rows p f) = refl
-
-    withdrawing : {m′ : Machine} → Done m (withdraw l) m′ → m′ ≡ rows-to m (m′ .rows)
-    withdrawing (withdraw-done k rows p f) = refl
-
 -- saved rows, loaded into a fresh machine
 pub loads-back : (m : Machine) → Table (m .rows) → call fresh (load (saved m)) ≡ accept (open-with (m .rows))
 unfolding call-in

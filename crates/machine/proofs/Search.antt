@@ -25,16 +25,17 @@ use Rattle.machine.specs.Search.{first, go-on, only-if, walk-of, from-st
 agree : {A : Type 0} {u v : A} (o : Option A) → o ≡ some u → o ≡ some v → u ≡ v
 agree o p q = cc
 
+-- where numbers come before others, the first three do, or the third are equal and the rest come before
+pub split-three : (a b c x y z : ℕ) (l m : List ℕ) → (a ∷ b ∷ c ∷ l) ≺ (x ∷ y ∷ z ∷ m) → ((a ∷ b ∷ c ∷ []) ≺ (x ∷ y ∷ z ∷ [])) ⊎ ((c ≡ z) × l ≺ m)
+split-three a b c x y z l m h = let d = before· a x (b ∷ c ∷ []) (y ∷ z ∷ []) in let e = before· b y (c ∷ []) (z ∷ []) in
+    ⊎-elim (λ i. inl (d .of (inl i))) (λ p. ⊎-elim
+    (λ i. inl (d .of (inr (p .0, e .of (inl i)))))
+    (λ q. ⊎-elim (λ i. inl (d .of (inr (p .0, e .of (inr (q .0, before· c z [] [] .of (inl i))))))) inr (before· c z l m .to (q .1)))
+    (before· b y (c ∷ l) (z ∷ m) .to (p .1))) (before· a x (b ∷ c ∷ l) (y ∷ z ∷ m) .to h)
+
 -- where the key of a walk is less, its first step's is less, or that leads to the same state and the rest's is less
 split : (t s : Step) (v w : Walk) → gather step-key (t ∷ v) ≺ gather step-key (s ∷ w) → (step-key t ≺ step-key s) ⊎ ((t .to ≡ s .to) × gather step-key v ≺ gather step-key w)
-split t s v w h = three (kind (t .label)) (value (t .label)) (t .to) (kind (s .label)) (value (s .label)) (s .to) (gather step-key v) (gather step-key w) h
-  where
-    three : (a b c x y z : ℕ) (l m : List ℕ) → (a ∷ b ∷ c ∷ l) ≺ (x ∷ y ∷ z ∷ m) → ((a ∷ b ∷ c ∷ []) ≺ (x ∷ y ∷ z ∷ [])) ⊎ ((c ≡ z) × l ≺ m)
-    three a b c x y z l m h = let d = before· a x (b ∷ c ∷ []) (y ∷ z ∷ []) in let e = before· b y (c ∷ []) (z ∷ []) in
-        ⊎-elim (λ i. inl (d .of (inl i))) (λ p. ⊎-elim
-        (λ i. inl (d .of (inr (p .0, e .of (inl i)))))
-        (λ q. ⊎-elim (λ i. inl (d .of (inr (p .0, e .of (inr (q .0, before· c z [] [] .of (inl i))))))) inr (before· c z l m .to (q .1)))
-        (before· b y (c ∷ l) (z ∷ m) .to (p .1))) (before· a x (b ∷ c ∷ l) (y ∷ z ∷ m) .to h)
+split t s v w h = split-three (kind (t .label)) (value (t .label)) (t .to) (kind (s .label)) (value (s .label)) (s .to) (gather step-key v) (gather step-key w) h
 
 -- of a sorted list, the first try that succeeds comes after no other that does
 first-least : {A B : Type 0} (key : A → List ℕ) (f : A → Option B) (l : List A) → Sorted key l → (x : A) → x among l → (y : B) → f x ≡ some y

@@ -31,7 +31,7 @@ verdict-length : (v : Verdict) (k : ℕ) → k ≤ 999 → length (verdict-line 
 verdict-length NonEmpty k h = simp length-append (omega (arith, number-length 3 k (omega arith) (omega arith)))
 verdict-length Empty k h = simp length-append (omega (arith, number-length 3 k (omega arith) (omega arith)))
 
-claim-length : (c : Claim) → length (claim-text c) ≤ 21
+pub claim-length : (c : Claim) → length (claim-text c) ≤ 21
 claim-length (loops P) = omega (arith, hex-length 16 P)
 claim-length (mixes P) = omega (arith, hex-length 16 P)
 

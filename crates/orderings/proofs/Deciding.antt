@@ -22,7 +22,9 @@ use Rattle.orderings.specs.Systems.{InForce, Allowed, AtHand, Holds}
 use Rattle.orderings.specs.Timelines.{same, IsInitial, IsFinal, Accepting, timelines}
 use Rattle.orderings.specs.Decide.{is, same-claim, claim-in?, step, mix-steps, steps-of, in-force?, steps, steps-in, reaches?, between?, loops?, entrances, exits, mixes?, says?, holds?, both, claims, initial-of, final-of, initials, finals, accepts?}
 use Rattle.orderings.proofs.Timelines.{members-iff}
-use Rattle.orderings.proofs.Reach.{leads-append, reach·}
+use Rattle.orderings.proofs.Walks.{allowed-append}
+use Rattle.orderings.proofs.Steps.{leads-append, inside-append, on-start, on-middle, on-end}
+use Rattle.orderings.proofs.Reach.{reach·}
 
 is· : {A : Type 0} (d : Dec A) → Decides (is d) A
 is· (yes a) = record { to = λ t. a; of = λ x. refl }
@@ -141,30 +143,10 @@ module _ (rows : List Row) where
         (λ c. let v = c .1 in inr (c .0, (t ∷ v .0, ((a, s, (l .0, v .2)), (h .0, h .1, v .1 .1)), (l .0, v .2), (i .0, v .3), cons≢nil), c .2))
         (cut P s f (t .to) w (h .2) (l .1) (i .1) o)
 
-    allowed-append : (v w : Walk) → Allowed (timelines rows) Open v → Allowed (timelines rows) Open w → Allowed (timelines rows) Open (v ++ w)
-    allowed-append [] w h k = k
-    allowed-append (t ∷ v) w h k = (h .0, h .1, allowed-append v w (h .2) k)
-
-    inside-append : (P : ℕ) (v w : Walk) → Inside P v → Inside P w → Inside P (v ++ w)
-    inside-append P [] w h k = k
-    inside-append P (t ∷ v) w h k = (h .0, inside-append P v w (h .1) k)
-
-    on-start : (s a : ℕ) (w : Walk) → s ≡ a → On s a w
-    on-start s a [] e = e
-    on-start s a (t ∷ w) e = inl e
-
-    on-end : (s a : ℕ) (v w : Walk) → Leads a v s → On s a (v ++ w)
-    on-end s a [] w h = on-start s a w (sym h)
-    on-end s a (t ∷ v) w h = inr (on-end s (t .to) v w (h .1))
-
-    on-last : (s a : ℕ) (v : Walk) → Leads a v s → On s a v
-    on-last s a [] h = sym h
-    on-last s a (t ∷ v) h = inr (on-last s (t .to) v (h .1))
-
     join : (P a s b : ℕ) → Leg P a s → Leg P s b → (t : Leg P a b) × On s a (t .0)
     join P a s b v w = let l = leads-append a (v .0) s (w .0) b (v .2) (w .2) in (
-      (v .0 ++ w .0, ((a, b, l), allowed-append (v .0) (w .0) (v .1 .1) (w .1 .1)), l, inside-append P (v .0) (w .0) (v .3) (w .3), append-ne-nil-of-right-ne-nil (v .0) (w .4)),
-      on-end s a (v .0) (w .0) (v .2),
+      (v .0 ++ w .0, ((a, b, l), allowed-append (timelines rows) Open (v .0) (w .0) (v .1 .1) (w .1 .1)), l, inside-append P (v .0) (w .0) (v .3) (w .3), append-ne-nil-of-right-ne-nil (v .0) (w .4)),
+      on-middle s a (v .0) (w .0) (v .2),
     )
 
     -- s lies on a walk from e to f: it is the start, or the end, or between
@@ -175,7 +157,7 @@ module _ (rows : List Row) where
     between-iff P e f s = (
       (λ p. let t = p .0 in ⊎-elim (λ c. inl (c .0, (t .0, ((s, f, c .1), t .1 .1), c .1, t .3, t .4))) (λ c. inr (c .1, rest (c .0) (c .2))) (cut P s f e (t .0) (t .1 .1) (t .2) (t .3) (p .1))),
       ⊎-elim (λ c. let v = c .1 in let l = subst (λ x. Leads x (v .0) f) (c .0) (v .2) in ((v .0, ((e, f, l), v .1 .1), l, v .3, v .4), on-start s e (v .0) (c .0)))
-          (λ c. ⊎-elim (λ d. let v = c .0 in let l = subst (λ x. Leads e (v .0) x) d (v .2) in ((v .0, ((e, f, l), v .1 .1), l, v .3, v .4), on-last s e (v .0) (v .2)))
+          (λ c. ⊎-elim (λ d. let v = c .0 in let l = subst (λ x. Leads e (v .0) x) d (v .2) in ((v .0, ((e, f, l), v .1 .1), l, v .3, v .4), on-end s e (v .0) (v .2)))
           (λ d. join P e s f (c .0) d) (c .1)),
     )
       where

@@ -1,4 +1,5 @@
 pub mod Walks
+pub mod Steps
 pub mod Depths
 pub mod Verdicts
 pub mod Timelines

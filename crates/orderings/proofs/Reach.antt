@@ -12,10 +12,7 @@ use Rattle.lists.proofs.Deciding.{eqb·, and·, or·, any·, has·, iff·, map-
 use Rattle.lists.proofs.Growing.{grow-iff, at-rest}
 use Rattle.orderings.specs.Steps.{Step, Walk, Leads}
 use Rattle.orderings.specs.Decide.{leads-to?, targets, reach, reaches?}
-
-pub leads-append : (a : ℕ) (v : Walk) (s : ℕ) (w : Walk) (b : ℕ) → Leads a v s → Leads s w b → Leads a (v ++ w) b
-leads-append a [] s w b h k = rw h k
-leads-append a (t ∷ v) s w b h k = (h .0, leads-append _ v s w b (h .1) k)
+use Rattle.orderings.proofs.Steps.{leads-append}
 
 module _ (G : List Step) where
   -- a walk of n steps at most that leads from a to x

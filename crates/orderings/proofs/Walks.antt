@@ -49,6 +49,10 @@ module _ (S : System) where
   allowed-change In In′ (t ∷ w) h f =
       (h .0, force-of In′ (S .needs t) (λ c m. f c (Memᴰ·append-left (needed w) m)), allowed-change In In′ w (h .2) (λ c m. f c (Memᴰ·append-right (one-or-none (S .needs t)) m)))
 
+  pub allowed-append : (In : S .Claim → Type 0) (v w : List (S .Step)) → Allowed S In v → Allowed S In w → Allowed S In (v ++ w)
+  allowed-append In [] w h k = k
+  allowed-append In (t ∷ v) w h k = (h .0, h .1, allowed-append In v w (h .2) k)
+
   pub allowed-more : {In In′ : S .Claim → Type 0} → ((c : S .Claim) → In c → In′ c) → (w : List (S .Step)) → Allowed S In w → Allowed S In′ w
   allowed-more {In} {In′} up w h = allowed-change In In′ w h (λ c m. up c (allowed-use In w h c m))
 
