@@ -2,14 +2,12 @@
 use Prim.Native.Nat.{ℕ, suc, _≤_, _<_}
 use mathlib.Core.Path.{_≡_, refl, ap, sym, _∙_, subst}
 use mathlib.Core.Bool.{Bool, cond}
-use mathlib.Core.Logic.{_↔_, ⊎-elim}
+use mathlib.Core.Logic.{⊎-elim}
 use mathlib.Core.Option.{some}
-use mathlib.Core.List.{List, [], _∷_}
-use lib.Dec.{ltb}
+use mathlib.Core.List.{List}
 use lib.ListN.{length}
 use native.Mathlib.Omega.{arith}
 use native.Mathlib.Nat.{eq-or-lt-of-le}
-use Rattle.lists.specs.Tests.{_among_}
 use Rattle.lists.specs.Order.{sort-by}
 use Rattle.lists.proofs.Deciding.{not-so, ltb·}
 use Rattle.rows.specs.declared.Row.{Row}
@@ -17,16 +15,16 @@ use Rattle.rows.specs.Rows.{row-bytes, batch-of}
 use Rattle.machine.specs.declared.Verdict.{Verdict}
 use Rattle.machine.specs.declared.Verdict.the-variants.{NonEmpty}
 use Rattle.machine.specs.declared.Phase.{Phase}
-use Rattle.machine.specs.declared.Phase.the-variants.{Open, Running, Settled}
+use Rattle.machine.specs.declared.Phase.the-variants.{Running, Settled}
 use Rattle.machine.specs.Machine.{Machine, open-with, fresh, open-claims}
 use Rattle.machine.specs.Order.{Found, Best}
 use Rattle.machine.specs.Search.{shortest}
 use Rattle.machine.specs.Sheet.{sheet}
-use Rattle.machine.specs.Calls.{Call, load, round, print, Answer, wrote, refused, Next, refuse, call-in, call, run, settle, second, Brings}
-use Rattle.machine.specs.Causes.{NotOpen, running, settled, Writes, sheets}
+use Rattle.machine.specs.Calls.{Call, load, print, wrote, refused, Next, refuse, call-in, call, run, settle, second, Brings}
+use Rattle.machine.specs.Causes.{Writes, sheets}
 use Rattle.machine.specs.WellFormed.{Table, after, Worked, Made, WellFormed}
 use Rattle.machine.specs.Demands.{SomeWalk, Number, Listed, Prints, EveryPrint}
-use Rattle.machine.proofs.Settling.{After, after-after, settled-walk, Settles, settles}
+use Rattle.machine.proofs.Settling.{after-after, settled-walk, Settles, settles}
 use Rattle.machine.proofs.Openings.{after-listed, openings-few}
 use Rattle.machine.proofs.Search.{shortest-best}
 use Rattle.machine.proofs.Walks.{best-short}

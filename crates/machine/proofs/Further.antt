@@ -1,7 +1,7 @@
 -- Further sheets, computed: the order of openings, each place of the order of walks, and refusals.
 use Prim.Native.Nat.{ℕ}
 use mathlib.Core.Path.{_≡_, refl}
-use mathlib.Core.List.{List, [], _∷_, _++_}
+use mathlib.Core.List.{List, [], _∷_}
 use native.Mathlib.Decide.{ℕ-discrete}
 use Rattle.masks.specs.Mask.{member}
 use Rattle.rows.specs.declared.Row.{Row}
@@ -15,7 +15,7 @@ use Rattle.machine.specs.Machine.{fresh, load-row, withdraw-row, closed,
 use Rattle.machine.specs.Search.{walk-of, least, shortest}
 use Rattle.machine.specs.Text.{text, hex, decimal}
 use Rattle.machine.specs.Sheet.{sheet}
-use Rattle.machine.specs.Calls.{Call, load, withdraw, close, round, reopen, print, save, Answer, done, wrote, refused, call-in, call, run}
+use Rattle.machine.specs.Calls.{Call, load, withdraw, close, round, reopen, print, save, Answer, wrote, refused, call-in, call, run}
 use Rattle.machine.specs.Program.{outcome, program}
 
 abbrev on-rows : List Row → List ℕ
@@ -49,13 +49,13 @@ unfolding ℕ-discrete member row-bytes sets same-row set-at state-row step-row 
 ties = (refl, refl, refl)
 
 -- causes 2 to 5 at the place of the row, the lowest number of the first row that fails
-pub refusals : (program (1 ∷ 0 ∷ 6 ∷ 0 ∷ []) ≡ text "refused 2 at 2\n")
+pub refused-lines : (program (1 ∷ 0 ∷ 6 ∷ 0 ∷ []) ≡ text "refused 2 at 2\n")
     × (program (1 ∷ 0 ∷ 3 ∷ 64 ∷ 7 ∷ []) ≡ text "refused 3 at 2\n")
     × (program (1 ∷ 64 ∷ 0 ∷ []) ≡ text "refused 4 at 0\n")
     × (program (4 ∷ 0 ∷ 0 ∷ 0 ∷ 0 ∷ 0 ∷ 0 ∷ 0 ∷ 0 ∷ 64 ∷ []) ≡ text "refused 4 at 0\n")
     × (program (5 ∷ 63 ∷ 0 ∷ 0 ∷ 0 ∷ 0 ∷ 0 ∷ 0 ∷ 0 ∷ 0 ∷ []) ≡ text "refused 5 at 0\n")
 unfolding ℕ-discrete member row-bytes sets same-row set-at state-row step-row limit-row kind-row read-row on-turn on-read feed-from feed members reach holds? accepts? load-row closed opened-next next-round walk-of least shortest hex decimal sheet call-in outcome program
-refusals = (refl, refl, refl, refl, refl)
+refused-lines = (refl, refl, refl, refl, refl)
 
 abbrev answer-after : List Call → Call → Answer
 answer-after cs c = call (run fresh cs) c .answer

@@ -1,30 +1,25 @@
--- Whatever calls led to a settled machine, it is the machine that its rows, loaded in one batch, lead to.
+-- Whatever calls led to a settled machine, it is the machine that its rows, loaded in one batch, lead to: calls make well-formed machines
+-- (`call-formed`, `fresh-formed`), and rounds until settled come to as many as the rows take (`settle-runs`, `as-many`).
 use Prim.Native.Nat.{ℕ, zero, suc, _≤_, _<_, _+_}
 use mathlib.Core.Path.{_≡_, refl, ap, sym, _∙_, subst}
 use mathlib.Core.Bool.{Bool, true, false, cond}
-use mathlib.Core.Logic.{_⊎_, inl, inr, ⊎-elim, _↔_}
+use mathlib.Core.Logic.{_⊎_, ⊎-elim}
 use mathlib.Core.List.{List, [], _∷_, List·Memᴰ·head, List·Memᴰ·tail}
-use lib.Dec.{ltb}
-use lib.ListN.{length, replicate}
+use lib.ListN.{replicate}
 use native.Mathlib.Omega.{arith}
 use native.Mathlib.Decide.{decLt}
 use native.Mathlib.Nat.{eq-or-lt-of-le, le-of-suc-le-suc}
 use Rattle.lists.specs.Tests.{_among_}
-use Rattle.lists.specs.Order.{sort-by}
 use Rattle.lists.proofs.Deciding.{so, ltb·}
 use Rattle.rows.specs.declared.Row.{Row}
-use Rattle.rows.specs.Rows.{row-bytes, batch-of, sets}
-use Rattle.rows.specs.Batch.{Fed, fed, failed, feed}
 use Rattle.orderings.specs.Decide.{accepts?}
 use Rattle.machine.specs.declared.Verdict.{Verdict}
 use Rattle.machine.specs.declared.Phase.{Phase}
 use Rattle.machine.specs.declared.Phase.the-variants.{Open, Running, Settled}
-use Rattle.machine.specs.Machine.{Machine, open-with, fresh, load-row, judged, closed, opened-next, nothing?, next-round, open-claims}
-use Rattle.machine.specs.Calls.{Call, load, close, round, print, Answer, done, wrote, refused, Next, accept, refuse, with-rows, call-in, call, run, Brings, settle, second}
+use Rattle.machine.specs.Machine.{Machine, open-with, fresh, judged, closed, opened-next, nothing?, next-round, open-claims}
+use Rattle.machine.specs.Calls.{Call, round, Answer, done, wrote, refused, Next, accept, refuse, call-in, call, run, Brings, settle}
 use Rattle.machine.specs.WellFormed.{Table, after, Worked, Made, WellFormed}
-use Rattle.machine.specs.Demands.{Number, Listed}
-use Rattle.machine.proofs.Settling.{After, after-after, Settles, settles}
-use Rattle.machine.proofs.Openings.{after-listed, openings-few}
+use Rattle.machine.proofs.Settling.{after-after, Settles}
 use Rattle.machine.proofs.Tables.{no-rows, load-keeps, withdraw-keeps}
 use Rattle.machine.proofs.Outcomes.{Done, load-done, withdraw-done, close-done, round-done, reopen-done, Comes, comes}
 

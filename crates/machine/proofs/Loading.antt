@@ -9,12 +9,12 @@ use Rattle.rows.specs.Rows.{batch-of, AllFit, Bytes}
 use Rattle.rows.specs.Batch.{Turn, go, fed, run-rows, feed}
 use Rattle.rows.proofs.Batch.{feed-runs, feed-batch, batch-bytes}
 use Rattle.machine.specs.Machine.{Machine, open-with, fresh, load-row, withdraw-row}
-use Rattle.machine.specs.Calls.{Call, load, withdraw, save, Answer, done, wrote, refused, Next, accept, with-rows, saved, call-in, call}
+use Rattle.machine.specs.Calls.{load, withdraw, save, done, wrote, Next, accept, with-rows, saved, call-in, call}
 use Rattle.machine.specs.Causes.{Writes}
 use Rattle.machine.specs.WellFormed.{Table}
 use Rattle.machine.specs.Demands.{Loaded, Withdrawn, Saves}
 use Rattle.machine.proofs.Tables.{load-same, load-keeps, withdraw-keeps, load-sets, withdraw-sets, same-table, sort-table, load-all}
-use Rattle.machine.proofs.Outcomes.{rows-to, Done, load-done, withdraw-done, comes}
+use Rattle.machine.proofs.Outcomes.{Done, load-done, withdraw-done, comes}
 
 -- the rows of a batch, and what a law says of them
 batched : (rule : Row → List Row → Turn (List Row)) (Law : List Row → List Row → List Row → Type 0)

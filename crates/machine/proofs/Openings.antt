@@ -1,21 +1,19 @@
 -- The openings of a machine: in the sheet's order, none twice, with their least depths.
 use Prim.Native.Nat.{ℕ, zero, suc, _≤_, _<_, _+_}
-use mathlib.Core.Path.{_≡_, refl, ap, sym, _∙_, subst}
-use mathlib.Core.Bool.{Bool, true, false}
-use mathlib.Core.Logic.{_⊎_, inl, inr, ⊎-elim, _↔_}
-use mathlib.Core.List.{List, [], _∷_, _++_, map, List·Memᴰ·head, List·Memᴰ·tail, List·Memᴰ·not-nil, List·Memᴰ·cases-cons}
+use mathlib.Core.Path.{_≡_, refl, ap, subst}
+use mathlib.Core.Logic.{_⊎_, inl, ⊎-elim, _↔_}
+use mathlib.Core.List.{List, [], _∷_, _++_, map, List·Memᴰ·cases-cons}
 use lib.ListN.{length, length-map}
 use native.Mathlib.Omega.{arith}
-use native.Mathlib.Decide.{decLt}
-use Rattle.lists.specs.Tests.{_among_, _part-of_, Once}
+use Rattle.lists.specs.Tests.{_among_, Once}
 use Rattle.lists.specs.Order.{_≺_, Sorted}
 use Rattle.lists.proofs.Deciding.{map-out}
 use Rattle.lists.proofs.Counting.{once-length, once-append, keep-once}
-use Rattle.lists.proofs.Sorting.{before·, ≺-irreflexive, sorted-append, keep-sorted}
+use Rattle.lists.proofs.Sorting.{before·, sorted-append, keep-sorted}
 use Rattle.rows.specs.declared.Row.{Row}
 use Rattle.rows.specs.Rows.{SetOf, sets}
 use Rattle.rows.proofs.Sets.{sets-sorted, sets-once}
-use Rattle.orderings.specs.Steps.{Claim, loops, mixes, set-of}
+use Rattle.orderings.specs.Steps.{Claim, set-of}
 use Rattle.orderings.specs.Systems.{LeastDepth}
 use Rattle.orderings.specs.Rounds.{OpenBy}
 use Rattle.orderings.specs.Decide.{both, claims}
@@ -27,7 +25,7 @@ use Rattle.machine.specs.Machine.{Opening, Machine, open-with, open-clai
 use Rattle.machine.specs.WellFormed.{after}
 use Rattle.machine.specs.Demands.{loop-first, opening-key, Listed}
 use Rattle.machine.proofs.Rounding.{close-closed, opened-next-iff}
-use Rattle.machine.proofs.Settling.{After, after-after}
+use Rattle.machine.proofs.Settling.{after-after}
 
 abbrev claim-key : Claim → List ℕ
 claim-key c = set-of c ∷ loop-first c ∷ []

@@ -3,7 +3,7 @@ use Prim.Native.Nat.{ℕ, zero, suc, _≤_, _<_}
 use mathlib.Core.Path.{_≡_, refl, ap, sym, _∙_, subst}
 use mathlib.Core.Bool.{Bool, true, false}
 use mathlib.Core.Logic.{⊎-elim}
-use mathlib.Core.List.{List, [], _∷_, List·Memᴰ·not-nil, List·Memᴰ·cases-cons}
+use mathlib.Core.List.{List, [], List·Memᴰ·not-nil, List·Memᴰ·cases-cons}
 use lib.Dec.{ltb}
 use lib.ListN.{length, replicate}
 use native.Mathlib.Omega.{arith}
@@ -15,10 +15,10 @@ use Rattle.machine.specs.declared.Phase.the-variants.{Settled}
 use Rattle.machine.specs.Machine.{Machine, open-with, fresh}
 use Rattle.machine.specs.Text.{text}
 use Rattle.machine.specs.Sheet.{line, sheet}
-use Rattle.machine.specs.Calls.{Call, load, close, round, print, Answer, done, wrote, refused, Next, call, run, settle, second, Brings}
-use Rattle.machine.specs.Program.{refusal-line, shown, ending, outcome, program, Shows, too-long, refusal, sheet-of}
+use Rattle.machine.specs.Calls.{Call, load, round, print, Answer, done, wrote, refused, Next, call, run, settle, second, Brings}
+use Rattle.machine.specs.Program.{shown, ending, outcome, program, Shows, too-long, refusal, sheet-of}
 use Rattle.machine.specs.Causes.{Writes}
-use Rattle.machine.specs.WellFormed.{Table, Made, WellFormed}
+use Rattle.machine.specs.WellFormed.{Table, WellFormed}
 use Rattle.machine.proofs.Settling.{Settles, settles}
 use Rattle.machine.proofs.Tables.{no-rows}
 use Rattle.machine.proofs.Outcomes.{Done, load-done, Comes, comes}

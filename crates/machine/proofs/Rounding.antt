@@ -1,24 +1,23 @@
 -- A round of the machine does what document 01's paragraph on rounds says, and close what its line says.
-use Prim.Native.Nat.{ℕ, zero, suc, _≤_, _<_, _+_}
-use mathlib.Core.Path.{_≡_, refl, ap, sym, _∙_, subst}
-use mathlib.Core.Bool.{Bool, true, false, _&&_, not}
+use Prim.Native.Nat.{ℕ, zero, suc, _+_}
+use mathlib.Core.Path.{_≡_, refl, ap, subst}
+use mathlib.Core.Bool.{Bool, true, false}
 use mathlib.Core.Logic.{_⊎_, inl, inr, ⊎-elim, _↔_, _≢_, Iff·trans, Iff·and}
-use mathlib.Core.List.{List, [], _∷_, _++_, map, append-nil, List·Memᴰ·head, List·Memᴰ·tail, List·Memᴰ·not-nil, List·Memᴰ·append-cases, Memᴰ·append-left, Memᴰ·append-right, Memᴰ·cast}
+use mathlib.Core.List.{List, [], _∷_, _++_, append-nil, List·Memᴰ·head, List·Memᴰ·append-cases, Memᴰ·append-left, Memᴰ·append-right, Memᴰ·cast}
 use lib.ListN.{length, length-append}
 use native.Mathlib.Omega.{arith}
 use Rattle.lists.specs.Tests.{Decides, _among_}
-use Rattle.lists.proofs.Deciding.{and·, not·, keep·, yes·, no·, not-so, map-in, map-out}
+use Rattle.lists.proofs.Deciding.{and·, not·, keep·, no·, not-so, map-in, map-out}
 use Rattle.rows.specs.declared.Row.{Row}
-use Rattle.orderings.specs.Steps.{Claim, Walk}
+use Rattle.orderings.specs.Steps.{Claim}
 use Rattle.orderings.specs.Systems.{Holds}
 use Rattle.orderings.specs.Timelines.{timelines}
-use Rattle.orderings.specs.Decide.{claim-in?, holds?, claims, accepts?}
+use Rattle.orderings.specs.Decide.{claims, accepts?}
 use Rattle.orderings.proofs.Deciding.{claim-in·, holds·, accepts·}
 use Rattle.orderings.proofs.Claims.{claims-iff}
 use Rattle.machine.specs.declared.Verdict.the-variants.{NonEmpty, Empty}
-use Rattle.machine.specs.declared.Phase.{Phase}
 use Rattle.machine.specs.declared.Phase.the-variants.{Running, Settled}
-use Rattle.machine.specs.Machine.{Opening, Machine, judged, closed, open-claims, opened-next, nothing?, openings-of, with-openings, next-round}
+use Rattle.machine.specs.Machine.{Opening, Machine, judged, closed, open-claims, opened-next, nothing?, openings-of, next-round}
 use Rattle.machine.specs.Demands.{SomeWalk, Closed, Rounded}
 
 -- which phase a judgement gives

@@ -1,4 +1,4 @@
--- The walk that is found is the first of the shortest.
+-- The walk that is found is the first of the shortest: `shortest-best` finds it where there is a walk, `shortest-some` says that what is found is it.
 use Prim.Native.Nat.{ℕ, zero, suc, _≤_, _<_, _+_}
 use mathlib.Core.Path.{_≡_, refl, ap, sym, _∙_, subst}
 use mathlib.Core.Bool.{Bool, true, false}

@@ -1,24 +1,24 @@
--- The machine's rounds are the rounds of the definitions, so its numbers are depths; it settles after at most 129 rounds.
+-- The machine's rounds are the rounds of the definitions (`after-after`), so its numbers are depths; it settles after at most 129 rounds, with
+-- the verdict and the number that the demands name (`settles`).
 use Prim.Native.Nat.{ℕ, zero, suc, _≤_, _<_, _+_}
 use mathlib.Core.Path.{_≡_, refl, ap, sym, _∙_, subst}
-use mathlib.Core.Bool.{Bool, true, false}
-use mathlib.Core.Logic.{_⊎_, inl, inr, ⊎-elim, _↔_, Iff·trans}
-use mathlib.Core.List.{List, [], _∷_, _++_, map, List·Memᴰ·head, List·Memᴰ·tail, List·Memᴰ·not-nil, List·Memᴰ·cases-cons, Memᴰ·cast}
+use mathlib.Core.Logic.{_⊎_, inl, inr, ⊎-elim, _↔_}
+use mathlib.Core.List.{List, [], map, List·Memᴰ·not-nil}
 use lib.ListN.{length}
 use native.Mathlib.Omega.{arith}
 use native.Mathlib.Decide.{decLt}
 use native.Mathlib.Nat.{eq-or-lt-of-le, le-of-suc-le-suc}
-use Rattle.lists.specs.Tests.{Decides, _among_}
+use Rattle.lists.specs.Tests.{_among_}
 use Rattle.lists.proofs.Deciding.{dec·, map-in, map-out}
 use Rattle.rows.specs.declared.Row.{Row}
 use Rattle.rows.specs.Rows.{sets}
-use Rattle.orderings.specs.Steps.{Claim, Walk}
-use Rattle.orderings.specs.Systems.{System, Holds, LeastDepth, NonEmpty}
+use Rattle.orderings.specs.Steps.{Claim}
+use Rattle.orderings.specs.Systems.{System, Holds}
 use Rattle.orderings.specs.Rounds.{OpenBy, Opens}
 use Rattle.orderings.specs.Timelines.{timelines}
 use Rattle.orderings.specs.Decide.{claims}
 use Rattle.orderings.proofs.Walks.{allowed-more}
-use Rattle.orderings.proofs.Depths.{holds-more, open-le, opens-iff-least}
+use Rattle.orderings.proofs.Depths.{holds-more, open-le}
 use Rattle.orderings.proofs.Verdicts.{Reached, Vain, Opened, opens-open, reached-later, reached-stop, nonempty-iff, least-accepted, greatest-least-depth}
 use Rattle.orderings.proofs.Timelines.{lawful}
 use Rattle.orderings.proofs.Deciding.{accepts·}
@@ -26,8 +26,8 @@ use Rattle.orderings.proofs.Claims.{claims-length, open-dec, at-most}
 use Rattle.machine.specs.declared.Verdict.{Verdict}
 use Rattle.machine.specs.declared.Verdict.the-variants.{NonEmpty as Non, Empty as Emp}
 use Rattle.machine.specs.declared.Phase.{Phase}
-use Rattle.machine.specs.declared.Phase.the-variants.{Open, Running, Settled}
-use Rattle.machine.specs.Machine.{Opening, Machine, open-with, open-claims, closed, opened-next, next-round}
+use Rattle.machine.specs.declared.Phase.the-variants.{Running, Settled}
+use Rattle.machine.specs.Machine.{Opening, Machine, open-with, open-claims, opened-next}
 use Rattle.machine.specs.WellFormed.{after}
 use Rattle.machine.specs.Demands.{SomeWalk, Closed, Rounded, Number}
 use Rattle.machine.proofs.Rounding.{close-closed, opened-next-iff, round-news, round-rounded}

@@ -1,13 +1,11 @@
 -- A sheet is bytes, at most 6,400 of them.
-use Prim.Native.Nat.{ℕ, _*_, _≤_, _<_}
+use Prim.Native.Nat.{ℕ, _≤_, _<_}
 use mathlib.Core.Path.{_≡_, refl}
 use mathlib.Core.Bool.{true}
 use mathlib.Core.Option.{Option, none, some}
-use mathlib.Core.Logic.{⊎-elim}
-use mathlib.Core.List.{List, [], _∷_, _++_, List·Memᴰ·head, List·Memᴰ·tail, List·Memᴰ·not-nil, List·Memᴰ·append-cases, List·Memᴰ·eq-of-singleton}
+use mathlib.Core.List.{List, [], _∷_, _++_, List·Memᴰ·not-nil, List·Memᴰ·eq-of-singleton}
 use lib.Dec.{ltb}
 use lib.ListN.{length, length-append}
-use native.Mathlib.Nat.{suc-mul}
 use native.Mathlib.Omega.{arith}
 use Rattle.lists.specs.Tests.{_among_, all, gather}
 use Rattle.lists.proofs.Deciding.{ltb·, all·, gather-out}
@@ -35,7 +33,7 @@ pub claim-length : (c : Claim) → length (claim-text c) ≤ 21
 claim-length (loops P) = omega (arith, hex-length 16 P)
 claim-length (mixes P) = omega (arith, hex-length 16 P)
 
-opening-length : (o : Opening) → o .round ≤ 999 → length (opening-line o) ≤ 31
+pub opening-length : (o : Opening) → o .round ≤ 999 → length (opening-line o) ≤ 31
 opening-length o h = simp length-append (omega (arith, number-length 3 (o .round) (omega arith) (omega arith), claim-length (o .claim)))
 
 start-length : (s : ℕ) → s < 64 → length (start-line s) ≤ 9

@@ -1,4 +1,6 @@
--- Loading and withdrawing rows: what a row does, what a batch does, and that tables stay tables.
+-- Loading and withdrawing rows: what a row does under any limits (`admission`, `admit-stops`) and under document 01's (`load-go`, `load-stops`,
+-- `withdraw-go`, `withdraw-stops`), what a batch does (`load-sets`, `withdraw-sets`, `load-all`), and that tables stay tables (`load-keeps`,
+-- `withdraw-keeps`, `same-table`, `sort-table`).
 use Prim.Native.Nat.{ℕ, _≤_, _<_}
 use mathlib.Core.Path.{_≡_, refl, ap, sym, _∙_, subst}
 use mathlib.Core.Bool.{Bool, true, false, not, cond}
@@ -95,24 +97,24 @@ abbrev pub without : Row → List Row → List Row
 without r rows = keep (λ s. not (same-row r s)) rows
 
 -- what withdrawing a row comes to
-abbrev pub Withdraws : Row → List Row → Turn (List Row) → Type 0
-Withdraws r rows (go rows′) = (r among rows) × (rows′ ≡ without r rows)
-Withdraws r rows (stop n) = WithdrawStops rows r n
+abbrev pub Removal : Row → List Row → Turn (List Row) → Type 0
+Removal r rows (go rows′) = (r among rows) × (rows′ ≡ without r rows)
+Removal r rows (stop n) = WithdrawStops rows r n
 
-withdraws : (r : Row) (rows : List Row) → Withdraws r rows (withdraw-row r rows)
+withdraws : (r : Row) (rows : List Row) → Removal r rows (withdraw-row r rows)
 unfolding withdraw-row
 withdraws r rows = by (stands? r rows) (stands· r rows)
   where
-    by : (a : Bool) → Decides a (r among rows) → Withdraws r rows (cond a (go (without r rows)) (stop 8))
+    by : (a : Bool) → Decides a (r among rows) → Removal r rows (cond a (go (without r rows)) (stop 8))
     by true p = (yes· p, refl)
     by false p = absent (no· p)
 
-pub withdraw-go : (r : Row) (rows rows′ : List Row) → withdraw-row r rows ≡ go rows′ → Withdraws r rows (go rows′)
-withdraw-go r rows rows′ e = subst (Withdraws r rows) e (withdraws r rows)
+pub withdraw-go : (r : Row) (rows rows′ : List Row) → withdraw-row r rows ≡ go rows′ → Removal r rows (go rows′)
+withdraw-go r rows rows′ e = subst (Removal r rows) e (withdraws r rows)
 
 pub withdraw-stops : (r : Row) (rows : List Row) (n : ℕ) → (withdraw-row r rows ≡ stop n) ↔ WithdrawStops rows r n
 unfolding withdraw-row
-withdraw-stops r rows n = ((λ e. subst (Withdraws r rows) e (withdraws r rows)), of)
+withdraw-stops r rows n = ((λ e. subst (Removal r rows) e (withdraws r rows)), of)
   where
     of : {n : ℕ} → WithdrawStops rows r n → withdraw-row r rows ≡ stop n
     of (absent k) = rw (not-so (stands· r rows) k)

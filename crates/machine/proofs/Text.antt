@@ -1,4 +1,5 @@
--- Numbers and sets are read back from their texts, and how long these are.
+-- Numbers and sets are read back from their texts (`number-reads`, `no-leading-zero`, `set-reads`), how long these are (`number-length`,
+-- `hex-length`), and that they are bytes.
 use Prim.Native.Nat.{ℕ, zero, suc, _+_, _-_, _*_, _/_, _%_, _^_, _≤_, _<_}
 use mathlib.Core.Path.{_≡_, refl, ap, sym, _∙_, subst}
 use mathlib.Core.Bool.{Bool, true, false, cond}

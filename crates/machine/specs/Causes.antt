@@ -1,12 +1,11 @@
 -- Document 01, "Causes and numbers": the table of causes, as a relation between a machine, a call, a number and a place.
 use Prim.Native.Nat.{ℕ, _<_, _≤_}
 use mathlib.Core.Path.{_≡_}
-use mathlib.Core.Logic.{_⊎_}
 use mathlib.Core.List.{List}
 use lib.ListN.{length}
 use Rattle.lists.specs.Tests.{_among_}
 use Rattle.rows.specs.declared.Row.{Row}
-use Rattle.rows.specs.Rows.{row-bytes, sets-of, sets}
+use Rattle.rows.specs.Rows.{sets-of, sets}
 use Rattle.rows.specs.Batch.{Fails}
 use Rattle.machine.specs.declared.Verdict.{Verdict}
 use Rattle.machine.specs.declared.Phase.{Phase}

@@ -13,10 +13,10 @@ use Rattle.orderings.specs.Systems.{Allowed, Holds, LeastDepth, GreatestLeast, 
 use Rattle.orderings.specs.Timelines.{Accepting, timelines}
 use Rattle.machine.specs.declared.Verdict.{Verdict}
 use Rattle.machine.specs.declared.Verdict.the-variants.{NonEmpty as NonEmptyV, Empty as EmptyV}
-use Rattle.machine.specs.declared.Phase.the-variants.{Open, Running, Settled}
+use Rattle.machine.specs.declared.Phase.the-variants.{Running, Settled}
 use Rattle.machine.specs.Machine.{most-rounds, Opening, Machine, fresh, open-claims}
 use Rattle.machine.specs.Sheet.{sheet}
-use Rattle.machine.specs.Calls.{Call, load, withdraw, print, save, Answer, done, wrote, refused, call, run, second, Brings}
+use Rattle.machine.specs.Calls.{Call, load, print, done, wrote, call, run, second, Brings}
 
 -- a walk of zero or more steps, with letter steps and steps of the claims l, leads from an initial to a final state
 abbrev pub SomeWalk : List Row → List Claim → Type 0

@@ -11,7 +11,6 @@ use Rattle.rows.specs.Rows.{row-bytes, sets, same-row, stands?}
 use Rattle.rows.specs.Batch.{Turn, go, stop}
 use Rattle.orderings.specs.Steps.{Claim}
 use Rattle.orderings.specs.Decide.{claim-in?, holds?, claims, accepts?}
-use Rattle.machine.specs.declared.Verdict.{Verdict}
 use Rattle.machine.specs.declared.Verdict.the-variants.{NonEmpty, Empty}
 use Rattle.machine.specs.declared.Phase.{Phase}
 use Rattle.machine.specs.declared.Phase.the-variants.{Open, Running, Settled}

@@ -1,7 +1,7 @@
 -- Document 01, "The sheet": which walk it prints.
 use Prim.Native.Nat.{ℕ, _≤_}
 use mathlib.Core.Path.{_≡_}
-use mathlib.Core.List.{List, [], _∷_, _++_}
+use mathlib.Core.List.{List, [], _∷_}
 use lib.ListN.{length}
 use Rattle.lists.specs.Tests.{_among_, gather}
 use Rattle.lists.specs.Order.{_≺_}

@@ -1,13 +1,11 @@
 -- The claims about the sets of a table, counted: what is open is computed, and comes to rest within as many rounds as there are claims.
 use Prim.Native.Nat.{ℕ, zero, suc, _≤_, _+_}
-use mathlib.Core.Path.{_≡_, refl, ap, sym, _∙_}
-use mathlib.Core.Bool.{true}
+use mathlib.Core.Path.{_≡_, refl, ap}
 use mathlib.Core.Logic.{_⊎_, inl, inr, ⊎-elim, _↔_}
 use mathlib.Core.List.{List, [], _∷_, List·Memᴰ·head, List·Memᴰ·tail, List·Memᴰ·not-nil, List·Memᴰ·cases-cons}
 use lib.ListN.{length}
 use native.Mathlib.Omega.{arith}
-use Rattle.lists.specs.Tests.{Decides, _among_, Once}
-use Rattle.lists.specs.Order.{_≺_, Sorted}
+use Rattle.lists.specs.Tests.{_among_, Once}
 use Rattle.lists.specs.Growing.{grown}
 use Rattle.lists.proofs.Deciding.{iff·, has·, dec·}
 use Rattle.lists.proofs.Growing.{grow-iff, grown-of, at-rest}
@@ -15,10 +13,10 @@ use Rattle.rows.specs.declared.Row.{Row}
 use Rattle.rows.specs.Rows.{SetOf, sets}
 use Rattle.rows.proofs.Sets.{sets-iff, sets-once}
 use Rattle.orderings.specs.Steps.{Claim, loops, mixes, set-of}
-use Rattle.orderings.specs.Systems.{Holds, Derivable}
+use Rattle.orderings.specs.Systems.{Derivable}
 use Rattle.orderings.specs.Rounds.{OpenBy}
 use Rattle.orderings.specs.Timelines.{timelines}
-use Rattle.orderings.specs.Decide.{same-claim, claim-in?, holds?, both, claims}
+use Rattle.orderings.specs.Decide.{same-claim, holds?, both, claims}
 use Rattle.orderings.proofs.Depths.{holds-more, open-le, fixpoint, derivable-iff-open}
 use Rattle.orderings.proofs.Timelines.{lawful}
 use Rattle.orderings.proofs.Deciding.{same-claim·, holds·}

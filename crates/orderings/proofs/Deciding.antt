@@ -1,26 +1,26 @@
--- The tests of specs/Decide say what the definitions say.
-use Prim.Native.Nat.{ℕ, zero, suc, _≤_, _+_}
+-- The tests of specs/Decide say what the definitions say: `steps-allowed` (the steps), `holds·` (a claim), `accepts·` (a walk from an
+-- initial to a final state).
+use Prim.Native.Nat.{ℕ, zero, suc, _+_}
 use mathlib.Core.Path.{_≡_, refl, ap, sym, _∙_, subst}
 use mathlib.Core.Bool.{Bool, true, false, _||_}
 use mathlib.Core.Option.{Option, none, some}
 use mathlib.Core.Logic.{_⊎_, inl, inr, ⊎-elim, _↔_, _≢_}
 use mathlib.Core.List.{List, [], _∷_, _++_, map, List·Memᴰ·head, List·Memᴰ·tail, List·Memᴰ·not-nil, List·Memᴰ·append-cases, List·Memᴰ·cases-cons, List·Memᴰ·eq-of-singleton, Memᴰ·append-left, Memᴰ·append-right, Memᴰ·cast, cons≢nil, append-ne-nil-of-right-ne-nil}
 use lib.Dec.{eqb}
-use lib.ListN.{length}
 use native.Mathlib.Omega.{arith}
 use Rattle.lists.specs.Tests.{Decides, _among_, _part-of_, any, all, put, keep, gather}
 use Rattle.lists.proofs.Deciding.{iff·, and·, or·, eqb·, any·, all·, keep·, has·, test·, yes·, no·, gather-in, gather-out, map-in, map-out}
 use Rattle.masks.specs.Mask.{member, _∈_}
 use Rattle.rows.specs.declared.Row.{Row}
 use Rattle.rows.specs.declared.Row.the-variants.{Initial, Final, Successor, LeftLimit, RightLimit}
-use Rattle.rows.specs.Rows.{SetOf, sets, stands?}
+use Rattle.rows.specs.Rows.{SetOf, sets}
 use Rattle.rows.proofs.Same.{stands·}
 use Rattle.rows.proofs.Sets.{sets-iff}
 use Rattle.orderings.specs.Steps.{Claim, loops, mixes, set-of, Label, letter, ω, back, mix, Step, Possible, needs, members, content, Walk, Leads, Inside, On}
-use Rattle.orderings.specs.Claims.{Through, Loops, Mixes, OnPiece, Says}
+use Rattle.orderings.specs.Claims.{Through, Says}
 use Rattle.orderings.specs.Systems.{InForce, Allowed, AtHand, Holds}
 use Rattle.orderings.specs.Timelines.{same, IsInitial, IsFinal, Accepting, timelines}
-use Rattle.orderings.specs.Decide.{is, same-claim, claim-in?, step, mix-steps, steps-of, in-force?, steps, steps-in, reaches?, between?, loops?, entrances, exits, mixes?, says?, holds?, both, claims, initial-of, final-of, initials, finals, accepts?}
+use Rattle.orderings.specs.Decide.{is, same-claim, claim-in?, step, mix-steps, steps-of, in-force?, steps, steps-in, reaches?, between?, says?, holds?, initial-of, final-of, initials, finals, accepts?}
 use Rattle.orderings.proofs.Timelines.{members-iff}
 use Rattle.orderings.proofs.Walks.{allowed-append}
 use Rattle.orderings.proofs.Steps.{leads-append, inside-append, on-start, on-middle, on-end}

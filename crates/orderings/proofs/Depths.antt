@@ -1,13 +1,15 @@
--- Rounds are depths, in any system where more walks show more and finitely many walks are enough.
-use Prim.Native.Nat.{ℕ, zero, suc, max, _≤_, _<_}
-use mathlib.Core.Path.{_≡_, refl, ap, sym, _∙_, subst}
+-- Rounds are depths, in any system where more walks show more and finitely many walks are enough (`Lawful`). `sound` and `complete`: what is
+-- derived is open by its depth, what is open is derived; so `open-iff-depth`, `opens-iff-least`, `accepted-iff-depth`; at rest `fixpoint`,
+-- `derivable-iff-open`.
+use Prim.Native.Nat.{ℕ, zero, suc, _≤_, _<_}
+use mathlib.Core.Path.{_≡_, refl, ap}
 use mathlib.Core.Logic.{_⊎_, inl, inr, ⊎-elim, _↔_}
-use mathlib.Core.List.{List, [], _∷_, _++_, map, List·Memᴰ·head, List·Memᴰ·tail, List·Memᴰ·not-nil, List·Memᴰ·append-cases, List·Memᴰ·cases-cons, List·Memᴰ·eq-of-singleton, Memᴰ·append-left, Memᴰ·append-right}
+use mathlib.Core.List.{List, [], _∷_, _++_, List·Memᴰ·head, List·Memᴰ·tail, List·Memᴰ·not-nil, List·Memᴰ·append-cases, List·Memᴰ·cases-cons, List·Memᴰ·eq-of-singleton, Memᴰ·append-left, Memᴰ·append-right}
 use native.Mathlib.Omega.{arith}
 use native.Mathlib.Decide.{decLe, ℕ-discrete}
 use Rattle.lists.specs.Tests.{_among_, _part-of_, gather}
 use Rattle.lists.proofs.Deciding.{gather-in, gather-out}
-use Rattle.orderings.specs.Systems.{System, Allowed, AtHand, Holds, walk-depth, greatest, Line, Derivation, Has, choose, depth, Valid, Derivable, LeastDepth, AcceptedIn, NonEmpty}
+use Rattle.orderings.specs.Systems.{System, Allowed, AtHand, Holds, walk-depth, greatest, Derivation, Has, choose, depth, Valid, Derivable, LeastDepth, AcceptedIn}
 use Rattle.orderings.specs.Rounds.{OpenBy, Opens, AcceptedBy}
 use Rattle.orderings.proofs.Walks.{needed, allowed-use, allowed-change, allowed-more, depth-least, depth-most, greatest-least, greatest-most}
 

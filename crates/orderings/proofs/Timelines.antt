@@ -1,7 +1,6 @@
 -- The claims of document 01: more walks show more, and finitely many walks are enough.
-use Prim.Native.Nat.{ℕ, _≤_}
-use mathlib.Core.Path.{_≡_, refl}
-use mathlib.Core.Bool.{true}
+use Prim.Native.Nat.{ℕ}
+use mathlib.Core.Path.{refl}
 use mathlib.Core.Logic.{_⊎_, ⊎-elim, _↔_}
 use mathlib.Core.List.{List, [], _∷_, _++_, List·Memᴰ·head, List·Memᴰ·tail, List·Memᴰ·not-nil, List·Memᴰ·append-cases, List·Memᴰ·cases-cons, List·Memᴰ·eq-of-singleton, Memᴰ·append-left, Memᴰ·append-right}
 use native.Mathlib.Omega.{arith}
@@ -10,7 +9,7 @@ use Rattle.lists.proofs.Deciding.{test·, keep·, range-in}
 use Rattle.masks.specs.Mask.{member, _∈_}
 use Rattle.masks.proofs.Member.{member-lt}
 use Rattle.rows.specs.declared.Row.{Row}
-use Rattle.orderings.specs.Steps.{Claim, loops, mixes, Step, Walk, members}
+use Rattle.orderings.specs.Steps.{Claim, loops, mixes, Walk, members}
 use Rattle.orderings.specs.Claims.{Through, OnPiece, Says}
 use Rattle.orderings.specs.Timelines.{timelines}
 use Rattle.orderings.proofs.Depths.{Lawful}

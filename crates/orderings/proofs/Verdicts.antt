@@ -1,12 +1,11 @@
 -- The numbers of a verdict, in any system: the least depth of a walk from an initial to a final state, and the greatest least depth of a claim.
-use Prim.Native.Nat.{ℕ, zero, suc, _≤_, _<_, _+_}
-use mathlib.Core.Path.{_≡_, refl, ap, sym, _∙_, subst}
+use Prim.Native.Nat.{ℕ, zero, suc, _≤_, _<_}
+use mathlib.Core.Path.{_≡_, subst}
 use mathlib.Core.Logic.{_⊎_, inl, inr, ⊎-elim, _↔_}
 use mathlib.Core.List.{List}
 use native.Mathlib.Omega.{arith}
 use native.Mathlib.Decide.{decLt}
-use native.Mathlib.Nat.{eq-or-lt-of-le}
-use Rattle.orderings.specs.Systems.{System, walk-depth, Derivation, depth, Has, Valid, Derivable, LeastDepth, GreatestLeast, NonEmpty, LeastAccepted, AcceptedIn}
+use Rattle.orderings.specs.Systems.{System, walk-depth, Derivation, depth, Valid, Derivable, LeastDepth, GreatestLeast, NonEmpty, LeastAccepted, AcceptedIn}
 use Rattle.orderings.specs.Rounds.{OpenBy, Opens, AcceptedBy}
 use Rattle.orderings.proofs.Walks.{allowed-more}
 use Rattle.orderings.proofs.Depths.{Lawful, open-le, sound, open-iff-depth, opens-iff-least, accepted-iff-depth, fixpoint, derivable-iff-open}

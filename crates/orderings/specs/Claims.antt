@@ -1,7 +1,7 @@
 -- Document 01, "Steps and claims": what a claim says, of the walks W that are at hand.
 use Prim.Native.Nat.{ℕ}
 use mathlib.Core.Logic.{_≢_}
-use mathlib.Core.List.{List, [], _∷_}
+use mathlib.Core.List.{List, []}
 use Rattle.lists.specs.Tests.{_among_}
 use Rattle.masks.specs.Mask.{_∈_}
 use Rattle.rows.specs.declared.Row.{Row}

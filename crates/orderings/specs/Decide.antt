@@ -1,4 +1,5 @@
--- Whether a claim holds, and whether a walk leads from an initial to a final state, computed.
+-- Whether a claim holds (`holds?`), and whether a walk leads from an initial to a final state (`accepts?`), computed from the steps that
+-- rows and claims allow (`steps`) and the states that these reach (`reach`). Nothing here has to be believed: proofs/Deciding.
 use Prim.Native.Nat.{ℕ, suc}
 use mathlib.Core.Bool.{Bool, true, false, _&&_, _||_}
 use mathlib.Core.Option.{Option, none, some}
