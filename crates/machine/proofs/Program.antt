@@ -16,7 +16,7 @@ use Rattle.machine.specs.Machine.{Machine, open-with, fresh}
 use Rattle.machine.specs.Text.{text}
 use Rattle.machine.specs.Sheet.{line, sheet}
 use Rattle.machine.specs.Calls.{Call, load, round, print, Answer, done, wrote, refused, Next, call, run, settle, second, Brings}
-use Rattle.machine.specs.Program.{shown, ending, outcome, program, Shows, too-long, refusal, sheet-of}
+use Rattle.machine.specs.Program.{shown, ending, outcome, program, ProgramWrites, too-long, refusal, sheet-of}
 use Rattle.machine.specs.Causes.{Writes}
 use Rattle.machine.specs.WellFormed.{Table, WellFormed}
 use Rattle.machine.proofs.Settling.{Settles, settles}
@@ -77,9 +77,9 @@ load-writes : {l k : List ℕ} {size : ℕ} → Writes fresh (load l) k size →
 load-writes = elim [ ]
 
 module _ (l : List ℕ) (b : Bytes l) where
-  on-answer : (m : Machine) (a : Answer) → length l ≤ 65536 → call fresh (load l) ≡ record { machine = m; answer = a } → Comes fresh (load l) m a → WellFormed m → Shows l (shown (ending m 6400 a))
+  on-answer : (m : Machine) (a : Answer) → length l ≤ 65536 → call fresh (load l) ≡ record { machine = m; answer = a } → Comes fresh (load l) m a → WellFormed m → ProgramWrites l (shown (ending m 6400 a))
   on-answer m done h e d w =
-      subst (λ x. Shows l (shown x)) (sym (settled-sheet m (w .table) (loaded-is d) 6400 (omega arith))) (sheet-of m (s (m .rows) (w .table) .verdict) h e (settled-second (m .rows) (w .table)))
+      subst (λ x. ProgramWrites l (shown x)) (sym (settled-sheet m (w .table) (loaded-is d) 6400 (omega arith))) (sheet-of m (s (m .rows) (w .table) .verdict) h e (settled-second (m .rows) (w .table)))
   on-answer m (wrote k) h e d w = absurd (load-writes (d .2))
   on-answer m (refused n place) h e d w = refusal n place h (d .1 b)
 
@@ -104,10 +104,10 @@ module _ (l : List ℕ) (b : Bytes l) where
   unfolding outcome n
   outcome-size size h = same-ending (n .machine) (n .answer) size h came formed-then
 
-  pub program-shows : Shows l (program l)
+  pub program-shows : ProgramWrites l (program l)
   unfolding program outcome n
   program-shows = by (ltb 65536 (length l)) (ltb· 65536 (length l))
     where
-      by : (x : Bool) → Decides x (65536 < length l) → Shows l (elim x [ true ↦ line (text "too long") | false ↦ shown (ending (n .machine) 6400 (n .answer)) ])
+      by : (x : Bool) → Decides x (65536 < length l) → ProgramWrites l (elim x [ true ↦ line (text "too long") | false ↦ shown (ending (n .machine) 6400 (n .answer)) ])
       by true d = too-long (yes· d)
       by false d = let h = no· d in on-answer (n .machine) (n .answer) (omega arith) refl came formed-then

@@ -37,7 +37,7 @@ unfoldable pub program : List ℕ → List ℕ
 program l = elim (ltb longest-batch (length l)) [ true ↦ line (text "too long") | false ↦ shown (outcome l longest-sheet) ]
 
 -- what the program writes for each input: `too long`, the line of the cause that refuses the batch, or the sheet of its rows
-pub data Shows (l : List ℕ) : List ℕ → Type 0 where
-  too-long : longest-batch < length l → Shows l (line (text "too long"))
-  refusal : (n place : ℕ) → length l ≤ longest-batch → Cause fresh (load l) n place → Shows l (refusal-line n place)
-  sheet-of : (m : Machine) (v : Verdict) → length l ≤ longest-batch → call fresh (load l) ≡ record { machine = m; answer = done } → second (m .rows) .phase ≡ Settled v → Shows l (sheet v (second (m .rows)))
+pub data ProgramWrites (l : List ℕ) : List ℕ → Type 0 where
+  too-long : longest-batch < length l → ProgramWrites l (line (text "too long"))
+  refusal : (n place : ℕ) → length l ≤ longest-batch → Cause fresh (load l) n place → ProgramWrites l (refusal-line n place)
+  sheet-of : (m : Machine) (v : Verdict) → length l ≤ longest-batch → call fresh (load l) ≡ record { machine = m; answer = done } → second (m .rows) .phase ≡ Settled v → ProgramWrites l (sheet v (second (m .rows)))

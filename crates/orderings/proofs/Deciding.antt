@@ -20,13 +20,13 @@ use Rattle.orderings.specs.Steps.{Claim, loops, mixes, set-of, Label, le
 use Rattle.orderings.specs.Claims.{Through, Says}
 use Rattle.orderings.specs.Systems.{InForce, Allowed, AtHand, Holds}
 use Rattle.orderings.specs.Timelines.{same, IsInitial, IsFinal, Accepting, timelines}
-use Rattle.orderings.specs.Decide.{is, same-claim, claim-in?, step, mix-steps, steps-of, in-force?, steps, steps-in, reaches?, between?, says?, holds?, initial-of, final-of, initials, finals, accepts?}
+use Rattle.orderings.specs.Decide.{yes?, same-claim, claim-in?, step, mix-steps, steps-of, in-force?, steps, steps-in, reaches?, between?, says?, holds?, initial-of, final-of, initials, finals, accepts?}
 use Rattle.orderings.proofs.Timelines.{members-iff}
 use Rattle.orderings.proofs.Walks.{allowed-append}
 use Rattle.orderings.proofs.Steps.{leads-append, inside-append, on-start, on-middle, on-end}
 use Rattle.orderings.proofs.Reach.{reach·}
 
-is· : {A : Type 0} (d : Dec A) → Decides (is d) A
+is· : {A : Type 0} (d : Dec A) → Decides (yes? d) A
 is· (yes a) = record { to = λ t. a; of = λ x. refl }
 is· (no n) = record { to = λ t. let z : _≡_ {A = ℕ} 0 1 = cc in absurd (omega arith); of = λ a. absurd (n a) }
 

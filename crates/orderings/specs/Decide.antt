@@ -16,12 +16,12 @@ use Rattle.orderings.specs.Steps.{Claim, loops, mixes, set-of, Label, le
 use Rattle.orderings.specs.Timelines.{same}
 
 -- the test of a decision
-abbrev pub is : {A : Type 0} → Dec A → Bool
-is (yes a) = true
-is (no n) = false
+abbrev pub yes? : {A : Type 0} → Dec A → Bool
+yes? (yes a) = true
+yes? (no n) = false
 
 abbrev pub same-claim : Claim → Claim → Bool
-same-claim c d = is (same c d)
+same-claim c d = yes? (same c d)
 
 abbrev pub claim-in? : List Claim → Claim → Bool
 claim-in? l c = any (same-claim c) l
