@@ -1,9 +1,13 @@
--- A row's key: it gives the row back, and it has the order of the row's bytes.
-use Prim.Native.Nat.{ℕ, zero, suc, _-_, _<_, _+_, _*_, _/_, _%_, _^_}
+-- A row's key: it gives the row back (`key-back`, `key-apart`), and it has the order of the row's bytes (`key-order`). The letter rows from
+-- one state stand together, by letter and then by target (`letter-least`, `letter-between`, `letter-order`).
+use Prim.Native.Nat.{ℕ, zero, suc, _-_, _<_, _≤_, _+_, _*_, _/_, _%_, _^_}
 use mathlib.Core.Path.{_≡_, refl, ap, sym, _∙_}
+use mathlib.Core.Logic.{_⊎_, inl, inr}
 use mathlib.Core.List.{List, [], _∷_, _++_}
 use lib.ListN.{length, take, drop, getD, replicate}
 use native.Mathlib.Omega.{arith}
+use native.Mathlib.Decide.{decLt, ℕ-discrete}
+use borrow.Author.Tests.{ne-eqb}
 use Rattle.lists.specs.Order.{before}
 use Rattle.rows.specs.declared.Row.{Row}
 use Rattle.rows.specs.declared.Row.the-variants.{Initial, Final, Successor, LeftLimit, RightLimit}
@@ -109,3 +113,70 @@ key-order r s f g =
     sym (before-filled (row-bytes r) (row-bytes s) (fill r) (fill s) (some-bytes r) (some-bytes s) (fill-alike r s))
     ∙ (split-order 8 (filled r) (filled s) (a .first ∙ sym (b .first)) (a .last ∙ sym (b .last)) (filled-bytes r f) (filled-bytes s g)
     ∙ rw (a .first-is, a .last-is, b .first-is, b .last-is))
+
+-- ---- letter rows by the first words of their keys
+
+letter-from : (h : ℕ) → h / 256 ^ 7 ≡ 3 → (l : ℕ) → row-from h l ≡ Successor (h / 256 ^ 6 % 256) (h / 256 ^ 5 % 256) (h / 256 ^ 4 % 256)
+unfolding row-from
+letter-from h k l = rw k
+
+letter-kind : (h : ℕ) {p x t : ℕ} → row-from h 0 ≡ Successor p x t → h / 256 ^ 7 ≡ 3
+unfolding row-from
+letter-kind h e = by (ℕ-discrete (h / 256 ^ 7) 1) (ℕ-discrete (h / 256 ^ 7) 2) (ℕ-discrete (h / 256 ^ 7) 3) (ℕ-discrete (h / 256 ^ 7) 4)
+  where
+    by : Dec (h / 256 ^ 7 ≡ 1) → Dec (h / 256 ^ 7 ≡ 2) → Dec (h / 256 ^ 7 ≡ 3) → Dec (h / 256 ^ 7 ≡ 4) → h / 256 ^ 7 ≡ 3
+    by a b (yes k) d = k
+    by (yes k) b (no c) d = let f = rw k at e in let z : _≡_ {A = ℕ} 0 1 = cc in absurd (omega arith)
+    by (no a) (yes k) (no c) d = let f = rw k at e in let z : _≡_ {A = ℕ} 0 1 = cc in absurd (omega arith)
+    by (no a) (no b) (no c) (yes k) = let f = rw k at e in let z : _≡_ {A = ℕ} 0 1 = cc in absurd (omega arith)
+    by (no a) (no b) (no c) (no d) =
+        let f = rw (ne-eqb _ _ a, ne-eqb _ _ b, ne-eqb _ _ c, ne-eqb _ _ d) at e in let z : _≡_ {A = ℕ} 0 1 = cc in absurd (omega arith)
+
+-- the first four bytes
+letter-words : (h : ℕ) {p x t : ℕ} → row-from h 0 ≡ Successor p x t
+    → (p < 256) × (x < 256) × (t < 256) × (h / 256 ^ 4 ≡ ((3 * 256 + p) * 256 + x) * 256 + t)
+letter-words h {p} {x} {t} e =
+    let k = letter-kind h e in
+    let f = letter-from h k 0 in
+    let a : h / 256 ^ 6 % 256 ≡ p = cc in
+    let b : h / 256 ^ 5 % 256 ≡ x = cc in
+    let c : h / 256 ^ 4 % 256 ≡ t = cc in
+    (omega arith, omega arith, omega arith, omega arith)
+
+-- letter and target are bytes
+pub letter-bytes : (h : ℕ) {p x t : ℕ} → row-from h 0 ≡ Successor p x t → (x < 256) × (t < 256)
+letter-bytes h e = let w = letter-words h e in (w .1, w .2)
+
+-- the second word is not read
+pub letter-low : (h l : ℕ) {p x t : ℕ} → row-from h 0 ≡ Successor p x t → row-from h l ≡ Successor p x t
+letter-low h l e = letter-from h (letter-kind h e) l ∙ (sym (letter-from h (letter-kind h e) 0) ∙ e)
+
+pub letter-back : (p x t : ℕ) → Fits (Successor p x t) → row-from (high (Successor p x t)) 0 ≡ Successor p x t
+unfolding low
+letter-back p x t f = key-back (Successor p x t) f
+
+-- the least of the letter rows from a state
+pub letter-least : (h : ℕ) {p x t : ℕ} → row-from h 0 ≡ Successor p x t → high (Successor p 0 0) ≤ h
+unfolding high
+letter-least h e = let w = letter-words h e in omega (arith, w .3)
+
+-- they stand together
+pub letter-between : (h h′ : ℕ) {p x t : ℕ} → high (Successor p 0 0) ≤ h → h ≤ h′ → row-from h′ 0 ≡ Successor p x t
+    → (y : ℕ) × (u : ℕ) × (row-from h 0 ≡ Successor p y u)
+unfolding high
+letter-between h h′ {p} g l e =
+    let w = letter-words h′ e in
+    let k : h / 256 ^ 7 ≡ 3 = omega (arith, w .0, w .1, w .2, w .3) in
+    let a : h / 256 ^ 6 % 256 ≡ p = omega (arith, w .0, w .1, w .2, w .3) in
+    (h / 256 ^ 5 % 256, h / 256 ^ 4 % 256, letter-from h k 0 ∙ rw a)
+
+-- by letter and then by target
+pub letter-order : (h h′ : ℕ) {p x t x′ t′ : ℕ} → h ≤ h′ → row-from h 0 ≡ Successor p x t → row-from h′ 0 ≡ Successor p x′ t′
+    → (x < x′) ⊎ ((x ≡ x′) × (t ≤ t′))
+letter-order h h′ {x = x} {t = t} {x′ = x′} {t′ = t′} l e f =
+    let v = letter-words h e in let w = letter-words h′ f in
+    let q : h / 256 ^ 4 ≤ h′ / 256 ^ 4 = omega arith in
+    elim (decLt x x′) [
+      | yes g ↦ inl g
+      | no g ↦ inr (omega (arith, v .2, v .3, w .2, w .3), omega (arith, v .2, v .3, w .2, w .3))
+    ]

@@ -9,6 +9,7 @@ use lib.ListN.{length, getD, set, length-set}
 use lib.Seq.{getD-set-same, getD-set-other}
 use Rattle.masks.proofs.Member.{lt-or-le, member-lt}
 use Rattle.orderings.specs.Steps.{Label}
+use Rattle.rows.proofs.Keys.{letter-bytes}
 use Rattle.walks.specs.declared.Choice.the-variants.{Taken}
 use Rattle.walks.specs.Choices.{named, Way, Chooses}
 use Rattle.walks.specs.declared.Walk.{Walk}
@@ -61,5 +62,6 @@ bounded high n words lefts rights loops mixes layers start d w f s l = record {
   few = omega (arith, f .within);
   low-start = rw (f .begins) s;
   low-target = λ j h. member-lt (getD (w .targets) j 0) (getD layers (d - 1 - j) 0) (f .chosen j h .1);
-  low-letter = λ j h e. subst (λ (k : ℕ). Way high n words lefts rights loops mixes (state-at start (w .targets) j) (named k (getD (w .values) j 0)) (getD (w .targets) j 0)) e (f .chosen j h .0) .2 .0;
+  low-letter = λ j h e. let r = subst (λ (k : ℕ). Way high n words lefts rights loops mixes (state-at start (w .targets) j) (named k (getD (w .values) j 0)) (getD (w .targets) j 0)) e (f .chosen j h .0) in
+      letter-bytes (getD high (r .0) 0) (r .2) .0;
 }

@@ -1,8 +1,8 @@
 -- Rows whose keys stand in order: those of the letter steps from one state stand together, by letter and then by target.
-use Prim.Native.Nat.{ℕ, _+_, _*_, _/_, _%_, _≤_, _<_}
+use Prim.Native.Nat.{ℕ, _+_, _≤_, _<_}
 use mathlib.Core.Path.{_≡_, subst}
 use mathlib.Core.Bool.{true, false, _&&_, and-eq-true-iff}
-use mathlib.Core.Logic.{inl, inr, ⊎-elim}
+use mathlib.Core.Logic.{⊎-elim}
 use mathlib.Core.List.{List}
 use native.Mathlib.Omega.{arith}
 use lib.Dec.{eqb, ltb}
@@ -12,6 +12,9 @@ use Rattle.masks.specs.Mask.{member, _∈_}
 use Rattle.masks.proofs.Member.{lt-or-le, or-cases, not-both}
 use Rattle.sorted.specs.declared.Place.the-variants.{At, Gap}
 use Rattle.sorted.specs.Keys.{key-less, Ascending, SearchesKey}
+use Rattle.rows.specs.declared.Row.the-variants.{Successor}
+use Rattle.rows.specs.Keys.{high as high-of}
+use Rattle.rows.proofs.Keys.{letter-least, letter-between, letter-order}
 use Rattle.walks.specs.declared.Choice.the-variants.{Taken, Nothing}
 use Rattle.walks.specs.Choices.{LetterRow, LetterAt, RowsFrom, First}
 
@@ -53,43 +56,37 @@ module _ (high low : List ℕ) (n : ℕ) where
     pub record Passed (i : ℕ) : Type 0 where
       pub within : i ≤ n
       pub none : Ascending high low n → (j x t : ℕ) → j < i → LetterRow high a j x t → t ∈ layer → ⊥
-      pub behind : Ascending high low n → (j : ℕ) → i ≤ j → j < n → (768 + a) * 281474976710656 ≤ getD high j 0
+      pub behind : Ascending high low n → (j : ℕ) → i ≤ j → j < n → high-of (Successor a 0 0) ≤ getD high j 0
 
-    pub passed-start : (i : ℕ) → RowsFrom high low n ((768 + a) * 281474976710656) i → Passed i
+    pub passed-start : (i : ℕ) → RowsFrom high low n (high-of (Successor a 0 0)) i → Passed i
     passed-start i s = record {
       within = s .within;
-      none = λ asc j x t l r m. let b = s .before asc j l in omega (arith, r .2);
+      none = λ asc j x t l r m. let b = s .before asc j l in let g = letter-least (getD high j 0) r in absurd (omega arith);
       behind = s .behind;
     }
 
     pub passed-end : (i : ℕ) → Passed i → n ≤ i → Ascending high low n → First layer (LetterAt high n a) Nothing
     passed-end i p h asc x t r m = p .none asc (r .0) x t (omega (arith, r .1)) (r .2) m
 
-    -- the row at i is of another state: so are all behind it
-    pub passed-stop : (i : ℕ) → Passed i → i < n → (getD high i 0 / 4294967296 / 65536 ≡ 768 + a → ⊥) → Ascending high low n → First layer (LetterAt high n a) Nothing
+    -- the row at i is no letter row of the state: nor is any behind it
+    pub passed-stop : (i : ℕ) → Passed i → i < n → ((x t : ℕ) → ¬ LetterRow high a i x t) → Ascending high low n → First layer (LetterAt high n a) Nothing
     passed-stop i p h f asc x t r m = ⊎-elim (λ l. p .none asc (r .0) x t l (r .2) m)
-        (λ l. let b = p .behind asc i (omega arith) h in let o = ascending-le asc i (r .0) l (r .1) in f (omega (arith, r .2 .2))) (lt-or-le (r .0) i)
+        (λ l. let q = letter-between (getD high i 0) (getD high (r .0) 0) (p .behind asc i (omega arith) h) (ascending-le asc i (r .0) l (r .1)) (r .2) in
+        f (q .0) (q .1) (q .2)) (lt-or-le (r .0) i)
 
-    module _ (i : ℕ) (p : Passed i) (h : i < n) (head : getD high i 0 / 4294967296 / 65536 ≡ 768 + a) where
-      row-here : LetterRow high a i (getD high i 0 / 4294967296 / 256 % 256) (getD high i 0 / 4294967296 % 256)
-      row-here = (omega arith, omega arith, omega arith)
-
-      pub letter-at : LetterAt high n a (getD high i 0 / 4294967296 / 256 % 256) (getD high i 0 / 4294967296 % 256)
-      letter-at = (i, h, row-here)
-
+    module _ (i x t : ℕ) (p : Passed i) (h : i < n) (here : LetterRow high a i x t) where
       -- the row at i leads into the layer: it is the first
-      pub letter-first : Ascending high low n → (k : ℕ) → First layer (LetterAt high n a) (Taken k (getD high i 0 / 4294967296 / 256 % 256) (getD high i 0 / 4294967296 % 256))
-      letter-first asc k x t r m = ⊎-elim (λ l. absurd (p .none asc (r .0) x t l (r .2) m))
-          (λ l. let o = ascending-le asc i (r .0) l (r .1) in ⊎-elim inl (λ g. inr (omega (arith, r .2), omega (arith, r .2))) (lt-or-le (getD high i 0 / 4294967296 / 256 % 256) x))
-          (lt-or-le (r .0) i)
+      pub letter-first : Ascending high low n → (k : ℕ) → First layer (LetterAt high n a) (Taken k x t)
+      letter-first asc k y u r m = ⊎-elim (λ l. absurd (p .none asc (r .0) y u l (r .2) m))
+          (λ l. letter-order (getD high i 0) (getD high (r .0) 0) (ascending-le asc i (r .0) l (r .1)) here (r .2)) (lt-or-le (r .0) i)
 
       -- or it does not
-      pub passed-more : member (getD high i 0 / 4294967296 % 256) layer ≡ false → Passed (i + 1)
+      pub passed-more : member t layer ≡ false → Passed (i + 1)
       passed-more out = record {
         within = omega arith;
-        none = λ asc j x t l r m. ⊎-elim (λ g. p .none asc j x t g r m)
-            (λ g. let e : j ≡ i = omega arith in let r′ = subst (λ (y : ℕ). LetterRow high a y x t) e r in
-            let q : t ≡ getD high i 0 / 4294967296 % 256 = omega (arith, r′ .2) in not-both (subst (λ (y : ℕ). y ∈ layer) q m) out)
+        none = λ asc j y u l r m. ⊎-elim (λ g. p .none asc j y u g r m)
+            (λ g. let e : j ≡ i = omega arith in let r′ = subst (λ (k : ℕ). LetterRow high a k y u) e r in
+            let q : u ≡ t = cc in not-both (subst (λ (k : ℕ). k ∈ layer) q m) out)
             (lt-or-le j i);
         behind = λ asc j l k. p .behind asc j (omega arith) k;
       }

@@ -1,5 +1,5 @@
 -- The steps from a state into a set of states as the arrays have them, and the first of them.
-use Prim.Native.Nat.{ℕ, zero, suc, _+_, _*_, _/_, _^_, _≤_, _<_}
+use Prim.Native.Nat.{ℕ, zero, suc, _≤_, _<_}
 use mathlib.Core.Path.{_≡_}
 use mathlib.Core.Logic.{_⊎_}
 use mathlib.Core.List.{List, [], _∷_}
@@ -7,6 +7,8 @@ use lib.ListN.{getD}
 use Rattle.lists.specs.Order.{_≺_}
 use Rattle.masks.specs.Mask.{_∈_}
 use Rattle.sorted.specs.Keys.{Ascending}
+use Rattle.rows.specs.declared.Row.the-variants.{Successor}
+use Rattle.rows.specs.Keys.{row-from}
 use Rattle.orderings.specs.Steps.{Label, letter, ω, back, mix}
 use Rattle.machine.specs.Order.{kind, value}
 use Rattle.walks.specs.declared.Choice.{Choice}
@@ -19,9 +21,9 @@ named (suc zero) P = ω P
 named (suc (suc zero)) P = back P
 named (suc (suc (suc k))) P = mix P
 
--- the row at place j is a letter step from a by x to t: the kind and the states as the key has them
+-- the row at place j is a letter step from a by x to t; the second word of its key says nothing
 abbrev pub LetterRow : List ℕ → ℕ → ℕ → ℕ → ℕ → Type 0
-LetterRow high a j x t = (x < 256) × (t < 256) × (getD high j 0 / 256 ^ 4 ≡ (768 + a) * 65536 + x * 256 + t)
+LetterRow high a j x t = row-from (getD high j 0) 0 ≡ Successor a x t
 
 -- one of the first n rows is
 abbrev pub LetterAt : List ℕ → ℕ → ℕ → ℕ → ℕ → Type 0

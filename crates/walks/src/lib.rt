@@ -17,6 +17,9 @@ use masks::intersection;
 use masks::lowest;
 use masks::union;
 use masks::with;
+use rows::Row;
+use rows::high_of;
+use rows::row_of;
 use sorted::Place;
 use sorted::find_key;
 
@@ -73,10 +76,10 @@ enum Choice {
 }
 
 // Is `t`, which may be any number, a state of `layer`?
-fn in_layer(layer: u64, t: u64) -> bool
+fn in_layer(layer: u64, t: u8) -> bool
     ensures { λ r. ⌜ r ≡ member t layer ⌝ }
 {
-    if t < 64 { has(layer, t as u8) } else { false }
+    if t < 64 { has(layer, t) } else { false }
 }
 
 // The place of the first row whose key is no less than `h`, where the keys stand in order.
@@ -95,15 +98,18 @@ fn first_letter(high: &[u64; 256], low: &[u64; 256], n: usize, a: u8, layer: u64
     requires { ⌜ (n ≤ 256) × (a < 64) ⌝ }
     ensures { λ r. ⌜ Picked layer (LetterAt (now (high .entry)) n a) 0 (Ascending (now (high .entry)) (now (low .entry)) n) r ⌝ }
 {
-    let head = 768 + a as u64;
-    let mut i = rows_from(high, low, n, head * 281474976710656);
+    let least = high_of(Row::Successor(a, 0, 0));
+    let mut i = rows_from(high, low, n, least);
     while i < n {
-        let h = high[i] / 4294967296;
-        if h / 65536 != head {
+        // The second word of a letter row's key says nothing.
+        let Row::Successor(from, letter, to) = row_of(high[i], 0) else {
+            return Choice::Nothing;
+        };
+        if from != a {
             return Choice::Nothing;
         }
-        if in_layer(layer, h % 256) {
-            return Choice::Taken(0, h / 256 % 256, (h % 256) as u8);
+        if in_layer(layer, to) {
+            return Choice::Taken(0, letter as u64, to);
         }
         i += 1;
     }

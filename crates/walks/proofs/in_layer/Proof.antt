@@ -5,12 +5,8 @@ use native.Mathlib.Omega.{arith}
 use borrow.Author.Needs.{needs}
 use Rattle.masks.specs.Mask.{member}
 use Rattle.masks.proofs.Member.{true-or-false, member-lt}
-use borrow.Author.Needs.{needs}
 use Rattle.walks.proofs.in_layer.Statement.{statement}
 use Rattle.walks.proofs.in_layer.Tie as tie
-
-cast-has : tie.Need-cast-has
-cast-has c = search needs
 
 has-requires : tie.Need-has-requires
 has-requires c κs = search needs
@@ -22,4 +18,4 @@ returns-2 : tie.Need-returns-2
 returns-2 c = sym (⊎-elim (λ h. absurd (omega (arith, member-lt (c .before .args .t) (c .before .args .layer) h))) (λ e. e) (true-or-false (member (c .before .args .t) (c .before .args .layer))))
 
 pub in-layer-spec : {M : Type 1} → statement M
-in-layer-spec = tie.close (tie.spec cast-has has-requires returns returns-2)
+in-layer-spec = tie.close (tie.spec has-requires returns returns-2)
