@@ -6,13 +6,16 @@ use lib.ListN.{length, take}
 use lib.Seq.{take-append-seam}
 use Rattle.rows.specs.declared.Row.{Row}
 use Rattle.rows.specs.Rows.{sets}
+use Rattle.machine.specs.declared.Answer.{Answer}
+use Rattle.machine.specs.declared.Answer.the-variants.{Refused}
 use Rattle.machine.specs.declared.Phase.{Phase}
 use Rattle.machine.specs.declared.Phase.the-variants.{Open, Running, Settled}
 use Rattle.machine.specs.declared.Verdict.{Verdict}
 use Rattle.machine.specs.Machine.{Machine, open-with}
-use Rattle.machine.specs.Calls.{print, refused, call-in, call, run, settle, buffer-after}
+use Rattle.machine.specs.Calls.{print, refused, call-in, call, run, settle, Tells}
 use Rattle.machine.specs.WellFormed.{Table, WellFormed}
 use Rattle.machine.proofs.Settling.{Settles, settles, after-after}
+use Rattle.machine.proofs.Answers.{tells-as, tells-refused}
 use Rattle.machine.proofs.History.{settle-runs}
 use Rattle.machine.proofs.Program.{settled-formed}
 use Rattle.automaton.specs.declared.Automaton.{Automaton}
@@ -20,10 +23,7 @@ use Rattle.automaton.specs.Promise.{Gives, GivesKeyed}
 use Rattle.rounds.specs.declared.Rounds.{Rounds}
 use Rattle.rounds.specs.Promises.{Given, Kept, Settles as SettlesRows}
 use Rattle.table.specs.Arrays.{Keyed, Worded, Filed}
-use Rattle.session.specs.Promise.{answer-of}
-use Rattle.session.proofs.Printed.{answered, told}
-use Rattle.printing.specs.declared.Printed.{Printed}
-use Rattle.printing.specs.Promise.{Prints}
+use Rattle.printing.specs.Promise.{PrintsSheet}
 
 module _ (rows : List Row) (t : Table rows) (highs lows words : List ℕ) (n k : ℕ) (f : Filed highs lows words n k rows)
     (a : Automaton) (g : GivesKeyed highs lows n words k a) (d : Rounds) (s : SettlesRows (a .letters) words (a .lefts) (a .rights) (a .initials) (a .finals) k d) where
@@ -40,16 +40,16 @@ module _ (rows : List Row) (t : Table rows) (highs lows words : List ℕ) (n k :
   kept = s rows (record { table = t; worded = f .1; masked = gives .masked; initial-iff = gives .initial-iff; final-iff = gives .final-iff })
 
   -- a machine that is not settled refuses
-  pub not-settled : (p : Phase) (number size : ℕ) → d .phase ≡ p → ((y : Machine) → call-in p y (print size) .answer ≡ refused number 0) → call m (print size) .answer ≡ refused number 0
-  not-settled p number size e h = ap (λ (x : Phase). call-in x m (print size) .answer) (sym (kept .phase-is) ∙ e) ∙ h m
+  pub not-settled : (p : Phase) (number : ℕ) (old : List ℕ) → d .phase ≡ p → ((y : Machine) → call-in p y (print (length old)) .answer ≡ refused number 0)
+      → Tells (call m (print (length old)) .answer) old old (Refused number 0)
+  not-settled p number old e h = tells-as (sym (ap (λ (x : Phase). call-in x m (print (length old)) .answer) (sym (kept .phase-is) ∙ e) ∙ h m)) (tells-refused number 0 old)
 
   -- one that is settled prints
-  pub is-settled : (v : Verdict) → d .phase ≡ Settled v → (old new : List ℕ) (r : Printed) → Prints v highs lows n words k a d old new r
-      → (answered r ≡ answer-of (call m (print (length old)) .answer)) × (new ≡ buffer-after (call m (print (length old)) .answer) old)
+  pub is-settled : (v : Verdict) → d .phase ≡ Settled v → (old new : List ℕ) (r : Answer) → PrintsSheet v highs lows n words k a d old new r
+      → Tells (call m (print (length old)) .answer) old new r
   is-settled v e old new r h =
-      let q = sym (kept .phase-is) ∙ e in
-      let x = h m (settled-formed rows t) q (subst (λ (l : List Row). Filed highs lows words n k l) (sym same-rows) f) (subst (λ (l : List Row). Gives l words k a) (sym same-rows) gives) kept in
-      (ap answered (x .0) ∙ told m v (length old) q .0, x .1)
+      h m (settled-formed rows t) (sym (kept .phase-is) ∙ e) (subst (λ (l : List Row). Filed highs lows words n k l) (sym same-rows) f)
+      (subst (λ (l : List Row). Gives l words k a) (sym same-rows) gives) kept
 
 -- the three phases
 pub open-prints : (size : ℕ) (y : Machine) → call-in Open y (print size) .answer ≡ refused 9 0

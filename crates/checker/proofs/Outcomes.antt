@@ -1,40 +1,29 @@
 -- What a fresh machine comes to after one batch, by the answer of its load.
-use Prim.Native.Nat.{ℕ, zero, suc, _+_, _^_, _<_, _≤_}
+use Prim.Native.Nat.{ℕ, _+_, _^_, _<_, _≤_}
 use mathlib.Core.Path.{_≡_, refl, ap, sym, _∙_, subst}
-use mathlib.Core.Logic.{⊎-elim}
 use mathlib.Core.Bool.{Bool, true, false}
-use mathlib.Core.List.{List, [], _∷_, _++_, List·Memᴰ·not-nil, List·Memᴰ·cases-cons}
-use lib.Dec.{ltb}
-use lib.ListN.{length, getD, take, drop, replicate, length-append}
+use mathlib.Core.List.{List, []}
+use lib.ListN.{length, drop, replicate, length-append}
+use lib.Seq.{length-take-le}
 use native.Mathlib.Omega.{arith}
-use Rattle.lists.specs.Tests.{Decides, _among_}
 use Rattle.lists.specs.Writing.{Wrote}
-use Rattle.lists.proofs.Deciding.{yes·, no·, not-so, ltb·}
+use Rattle.lists.proofs.Deciding.{not-so, ltb·}
 use Rattle.rows.specs.declared.Row.{Row}
 use Rattle.rows.specs.Rows.{sets, Bytes}
 use Rattle.rows.specs.Batch.{Fed, fed, failed, feed}
-use Rattle.machine.specs.Machine.{Machine, open-with, fresh, load-row}
-use Rattle.machine.specs.Calls.{load, print, done, wrote, refused, Next, with-rows, call-in, call, run, settle, buffer-after}
-use Rattle.machine.specs.Calls.{Answer as Told}
+use Rattle.machine.specs.declared.Answer.{Answer}
+use Rattle.machine.specs.declared.Answer.the-variants.{Done, Wrote as WroteCount, Refused}
+use Rattle.machine.specs.Machine.{open-with, fresh, load-row}
+use Rattle.machine.specs.Calls.{load, print, Outcome, done, wrote, refused, Next, with-rows, call-in, call, run, settle, buffer-after, Tells}
 use Rattle.machine.specs.WellFormed.{Table}
-use Rattle.machine.specs.Text.{text, number-text}
+use Rattle.machine.specs.Text.{text}
 use Rattle.machine.specs.Sheet.{line}
 use Rattle.machine.specs.Program.{refusal-line, shown, ending, outcome, program}
+use Rattle.machine.proofs.Answers.{done-by, wrote-by, refused-by, tells-as, tells-refused}
 use Rattle.machine.proofs.Program.{outcome-size}
 use Rattle.texts.proofs.Digits.{number-short}
-use Rattle.session.specs.declared.Answer.{Answer}
-use Rattle.session.specs.declared.Answer.the-variants.{Done, Wrote as WroteN, Refused}
-use Rattle.session.specs.Promise.{answer-of}
-use Rattle.table.specs.declared.Outcome.{Outcome}
-use Rattle.table.specs.declared.Outcome.the-variants.{Done as BatchDone, Refused as BatchRefused}
 use Rattle.table.specs.Arrays.{Filed, Comes}
-use Rattle.session.proofs.Answers.{done-by, wrote-by, refused-by}
-use Rattle.checker.specs.Promise.{Checks, Shows}
-
--- numbers below 256 at every place are bytes
-pub bytes : (l : List ℕ) → ((i : ℕ) → getD l i 0 < 256) → Bytes l
-bytes [] h b m = absurd (List·Memᴰ·not-nil m)
-bytes (x ∷ l) h b m = ⊎-elim (λ e. subst (λ n. n < 256) (sym e) (h 0)) (bytes l (λ i. h (suc i)) b) (List·Memᴰ·cases-cons m)
+use Rattle.checker.specs.Promise.{Checks, ShowsSheet}
 
 -- ---- the answer of the load
 
@@ -43,34 +32,37 @@ pub empty-filed : Filed (replicate 256 0) (replicate 256 0) (replicate 64 0) 0 0
 unfolding sets
 empty-filed = (record { count = refl; highs-are = refl; lows-are = refl }, record { count = refl; words-are = refl })
 
-load-feeds : (l : List ℕ) → call fresh (load l) ≡ with-rows fresh (feed load-row [] l)
+loads : (l : List ℕ) → call fresh (load l) ≡ with-rows fresh (feed load-row [] l)
 unfolding call-in
-load-feeds l = refl
+loads l = refl
+
+-- an answer that is not done
+pub wrote-not : {a : Answer} {n : ℕ} → a ≡ WroteCount n → a ≡ Done → ⊥
+wrote-not e d = let z : _≡_ {A = ℕ} 0 1 = cc in omega arith
+
+pub refused-not : {a : Answer} {n place : ℕ} → a ≡ Refused n place → a ≡ Done → ⊥
+refused-not e d = let z : _≡_ {A = ℕ} 0 1 = cc in omega arith
 
 -- what a load comes to, and what then is left to do
-module _ (l : List ℕ) (o : Outcome) (Holds : List Row → Type 0) (comes : Comes Holds (feed load-row [] l) o) (size : ℕ) where
-  pub load-refused : (n place : ℕ) → o ≡ BatchRefused n place → outcome l size ≡ refused n place
+module _ (l : List ℕ) (a : Answer) (Has : List Row → Type 0) (comes : Comes Has (feed load-row [] l) a) (old : List ℕ) where
+  fed-outcome : (x : Fed (List Row)) → feed load-row [] l ≡ x → outcome l (length old) ≡ ending (with-rows fresh x .machine) (length old) (with-rows fresh x .answer)
   unfolding outcome
-  load-refused n place d = go (feed load-row [] l) refl comes
+  fed-outcome x f = ap (λ (y : Next). ending (y .machine) (length old) (y .answer)) (loads l ∙ ap (with-rows fresh) f)
+
+  pub load-refused : (a ≡ Done → ⊥) → Checks l old old a
+  load-refused d = go (feed load-row [] l) refl comes
     where
-      go : (x : Fed (List Row)) → feed load-row [] l ≡ x → Comes Holds x o → outcome l size ≡ refused n place
-      go (fed rows) f h = let i = h .0 in let z : _≡_ {A = ℕ} 0 1 = cc in absurd (omega arith)
-      go (failed k at) f h = let i : n ≡ k = cc in let j : place ≡ at = cc in
-          ap (λ (y : Next). ending (y .machine) size (y .answer)) (load-feeds l ∙ ap (with-rows fresh) f) ∙ rw (i, j) refl
+      go : (x : Fed (List Row)) → feed load-row [] l ≡ x → Comes Has x a → Checks l old old a
+      go (fed rows) f h = absurd (d (h .0))
+      go (failed n place) f h = rw h (tells-as (sym (fed-outcome (failed n place) f)) (tells-refused n place old))
 
-  pub load-done : o ≡ BatchDone → (rows : List Row) × Table rows × Holds rows × (outcome l size ≡ call (run (open-with rows) settle) (print size) .answer)
-  unfolding outcome
-  load-done d = go (feed load-row [] l) refl comes
+  pub load-done : a ≡ Done → (new : List ℕ) (r : Answer)
+      → ((rows : List Row) → Table rows → Has rows → Tells (call (run (open-with rows) settle) (print (length old)) .answer) old new r) → Checks l old new r
+  load-done d new r ends = go (feed load-row [] l) refl comes
     where
-      go : (x : Fed (List Row)) → feed load-row [] l ≡ x → Comes Holds x o → (rows : List Row) × Table rows × Holds rows × (outcome l size ≡ call (run (open-with rows) settle) (print size) .answer)
-      go (fed rows) f h = (rows, h .1, h .2, ap (λ (y : Next). ending (y .machine) size (y .answer)) (load-feeds l ∙ ap (with-rows fresh) f))
-      go (failed k at) f h = let z : _≡_ {A = ℕ} 0 1 = cc in absurd (omega arith)
-
-pub checks-refused : (l old : List ℕ) (n place : ℕ) → outcome l (length old) ≡ refused n place → Checks l old old (Refused n place)
-checks-refused l old n place e = record { answer-is = ap answer-of (sym e); buffer-is = ap (λ a. buffer-after a old) (sym e) }
-
-pub checks-done : (l old new : List ℕ) (r : Answer) (a : Told) → outcome l (length old) ≡ a → r ≡ answer-of a → new ≡ buffer-after a old → Checks l old new r
-checks-done l old new r a e f g = record { answer-is = f ∙ ap answer-of (sym e); buffer-is = g ∙ ap (λ x. buffer-after x old) (sym e) }
+      go : (x : Fed (List Row)) → feed load-row [] l ≡ x → Comes Has x a → Checks l old new r
+      go (fed rows) f h = tells-as (sym (fed-outcome (fed rows) f)) (ends rows (h .1) (h .2))
+      go (failed n place) f h = let z : _≡_ {A = ℕ} 0 1 = cc in absurd (omega arith)
 
 -- ---- what the program writes
 
@@ -84,25 +76,20 @@ refusal-short n place h g =
 wrote-fits : (t old new : List ℕ) (r : ℕ) → Wrote t old new r → r ≤ length new
 wrote-fits t old new r w = let e : length new ≡ length t + length (drop (length t) old) = ap length (w .bytes-are) ∙ length-append t (drop (length t) old) in omega (arith, w .length-is)
 
-counted-in : (r : ℕ) (l : List ℕ) → r ≤ length l → r ≡ length (take r l)
-counted-in zero l h = refl
-counted-in (suc r) [] h = absurd (omega arith)
-counted-in (suc r) (x ∷ l) h = ap suc (counted-in r l (omega arith))
-
-shows-by : (input old new : List ℕ) (r : ℕ) (t : List ℕ) → 6400 ≤ length old → program input ≡ t → Wrote t old new r → Shows input old new r
+shows-by : (input old new : List ℕ) (r : ℕ) (t : List ℕ) → 6400 ≤ length old → program input ≡ t → Wrote t old new r → ShowsSheet input old new r
 shows-by input old new r t h e w = record {
   shown = λ g. subst (λ x. Wrote x old new r) (sym e) w;
   short = λ g. absurd (omega arith);
   fits = wrote-fits t old new r w;
-  counted = counted-in r new (wrote-fits t old new r w);
+  counted = sym (length-take-le r new (wrote-fits t old new r w));
 }
 
 -- nothing into a short buffer
-pub shows-short : (input old : List ℕ) → length old < 6400 → Shows input old old 0
+pub shows-short : (input old : List ℕ) → length old < 6400 → ShowsSheet input old old 0
 shows-short input old h = record { shown = λ g. absurd (omega arith); short = λ g. (refl, refl); fits = omega arith; counted = refl }
 
 -- input longer than a batch may be
-pub shows-long : (input old new : List ℕ) (r : ℕ) → 6400 ≤ length old → 65536 < length input → Wrote (line (text "too long")) old new r → Shows input old new r
+pub shows-long : (input old new : List ℕ) (r : ℕ) → 6400 ≤ length old → 65536 < length input → Wrote (line (text "too long")) old new r → ShowsSheet input old new r
 unfolding program
 shows-long input old new r h g w = shows-by input old new r (line (text "too long")) h
     (ap (λ (b : Bool). elim b [ true ↦ line (text "too long") | false ↦ shown (outcome input 6400) ]) (ltb· 65536 (length input) .of g)) w
@@ -115,22 +102,22 @@ program-is input size b h g =
 
 -- a refusal keeps the buffer
 pub kept-buffer : (input old mid : List ℕ) (n place : ℕ) → Checks input old mid (Refused n place) → mid ≡ old
-kept-buffer input old mid n place c = c .buffer-is ∙ ap (λ (a : Told). buffer-after a old) (refused-by (outcome input (length old)) n place (sym (c .answer-is)))
+kept-buffer input old mid n place c = c .buffer-is ∙ ap (λ (a : Outcome). buffer-after a old) (refused-by (outcome input (length old)) n place (sym (c .answer-is)))
 
 -- a batch whose answer is known
 module _ (input old : List ℕ) (b : Bytes input) (h : 6400 ≤ length old) (g : length input ≤ 65536) where
-  shows-told : (a : Told) (new : List ℕ) (r : ℕ) → outcome input (length old) ≡ a → Wrote (shown a) old new r → Shows input old new r
+  shows-told : (a : Outcome) (new : List ℕ) (r : ℕ) → outcome input (length old) ≡ a → Wrote (shown a) old new r → ShowsSheet input old new r
   shows-told a new r e w = shows-by input old new r (shown a) h (program-is input (length old) b h g ∙ ap shown e) w
 
-  pub shows-done : (new : List ℕ) → Checks input old new Done → Shows input old new 0
+  pub shows-done : (new : List ℕ) → Checks input old new Done → ShowsSheet input old new 0
   shows-done new c = let e = done-by (outcome input (length old)) (sym (c .answer-is)) in
-      shows-told done new 0 e (record { length-is = refl; bytes-are = c .buffer-is ∙ ap (λ (a : Told). buffer-after a old) e })
+      shows-told done new 0 e (record { length-is = refl; bytes-are = c .buffer-is ∙ ap (λ (a : Outcome). buffer-after a old) e })
 
-  pub shows-wrote : (n : ℕ) (new : List ℕ) → Checks input old new (WroteN n) → Shows input old new n
+  pub shows-wrote : (n : ℕ) (new : List ℕ) → Checks input old new (WroteCount n) → ShowsSheet input old new n
   shows-wrote n new c = let e = wrote-by (outcome input (length old)) n (sym (c .answer-is)) in
-      shows-told (wrote (e .0)) new n (e .1) (record { length-is = e .2; bytes-are = c .buffer-is ∙ ap (λ (a : Told). buffer-after a old) (e .1) })
+      shows-told (wrote (e .0)) new n (e .1) (record { length-is = e .2; bytes-are = c .buffer-is ∙ ap (λ (a : Outcome). buffer-after a old) (e .1) })
 
-  pub shows-refused : (n place : ℕ) (mid new : List ℕ) (r : ℕ) → Checks input old mid (Refused n place) → Wrote (refusal-line n place) mid new r → Shows input old new r
+  pub shows-refused : (n place : ℕ) (mid new : List ℕ) (r : ℕ) → Checks input old mid (Refused n place) → Wrote (refusal-line n place) mid new r → ShowsSheet input old new r
   shows-refused n place mid new r c w =
       shows-told (refused n place) new r (refused-by (outcome input (length old)) n place (sym (c .answer-is)))
       (subst (λ (l : List ℕ). Wrote (refusal-line n place) l new r) (kept-buffer input old mid n place c) w)

@@ -1,18 +1,17 @@
 // One batch in, one sheet out.
 use automaton::Automaton;
+use machine::Answer;
 use machine::Phase;
-use printing::Printed;
 use rounds::Rounds;
-use session::Answer;
-use table::Outcome;
 ghost use Prim.Native.Nat.{_≤_};
 ghost use Rattle.rounds.specs.Promises.{Settles};
-ghost use Rattle.checker.specs.Promise.{Finishes, Checks, Shows};
+ghost use Rattle.checker.specs.Promise.{Finishes, Checks, ShowsSheet};
 
 // The rounds of the automaton, until it is settled.
 fn settled(a: Automaton, words: &[u64; 64], k: usize) -> Rounds
     requires { ⌜ k ≤ 64 ⌝ }
-    ensures { λ r. ⌜ Settles (a .letters) (now (words .entry)) (a .lefts) (a .rights) (a .initials) (a .finals) k r ⌝ }
+    ensures { λ r. ⌜ Settles (a .letters) (now (words .entry)) (a .lefts) (a .rights)
+        (a .initials) (a .finals) k r ⌝ }
 {
     let letters = a.letters;
     let lefts = a.lefts;
@@ -32,7 +31,8 @@ fn finish(
     sheet: &mut [u8],
 ) -> Answer
     requires { ⌜ (n ≤ 256) × (k ≤ 64) ⌝ }
-    ensures { λ r. ⌜ Finishes (now (high .entry)) (now (low .entry)) n (now (words .entry)) k (now (sheet .entry)) (now (sheet .exit)) r ⌝ }
+    ensures { λ r. ⌜ Finishes (now (high .entry)) (now (low .entry)) n (now (words .entry)) k
+        (now (sheet .entry)) (now (sheet .exit)) r ⌝ }
 {
     let a = automaton::of_keys(high, low, n, words, k);
     let done = settled(a, words, k);
@@ -40,10 +40,7 @@ fn finish(
     match phase {
         Phase::Open => Answer::Refused(9, 0),
         Phase::Running => Answer::Refused(11, 0),
-        Phase::Settled(v) => match printing::print(sheet, v, high, low, n, words, k, a, done) {
-            Printed::Wrote(len) => Answer::Wrote(len),
-            Printed::Short => Answer::Refused(12, 0),
-        },
+        Phase::Settled(v) => printing::print(sheet, v, high, low, n, words, k, a, done),
     }
 }
 
@@ -55,16 +52,17 @@ pub fn check(batch: &[u8], sheet: &mut [u8]) -> Answer
     let mut low = [0u64; 256];
     let mut words = [0u64; 64];
     let loaded = table::load_rows(&mut high, &mut low, &mut words, 0, 0, batch);
-    let outcome = loaded.outcome;
-    match outcome {
-        Outcome::Done => finish(&high, &low, loaded.rows, &words, loaded.sets, sheet),
-        Outcome::Refused(number, place) => Answer::Refused(number, place),
+    let answer = loaded.answer;
+    match answer {
+        Answer::Done => finish(&high, &low, loaded.rows, &words, loaded.sets, sheet),
+        Answer::Wrote(_) => answer,
+        Answer::Refused(_, _) => answer,
     }
 }
 
 // What the program `sheet` writes for its input: the sheet, the line of the refusal, or `too long`.
 pub fn show(input: &[u8], out: &mut [u8]) -> usize
-    ensures { λ r. ⌜ Shows (now (input .entry)) (now (out .entry)) (now (out .exit)) r ⌝ }
+    ensures { λ r. ⌜ ShowsSheet (now (input .entry)) (now (out .entry)) (now (out .exit)) r ⌝ }
 {
     if out.len() < 6400 {
         return 0;

@@ -1,8 +1,8 @@
 // What calls answered, as lines on standard output.
+use machine::Answer;
 use machine::Phase;
 use machine::Verdict;
 use output::say;
-use session::Answer;
 
 // Writes the line of a refusal, or the text for a call that is done.
 pub fn say_done(answer: Answer, text: &[u8]) {

@@ -1,38 +1,34 @@
 -- Demand 1, at one call and at every one.
 use Prim.Native.Nat.{ℕ}
 use mathlib.Core.Path.{_≡_, ap, sym, _∙_}
-use native.Mathlib.Omega.{arith}
+use Rattle.machine.specs.declared.Answer.the-variants.{Refused}
 use Rattle.machine.specs.Machine.{Machine}
-use Rattle.machine.specs.Calls.{call, done, wrote, refused}
-use Rattle.machine.specs.Calls.{Answer as Said}
+use Rattle.machine.specs.Calls.{Call, Outcome, refused, answer-of, call, buffer-after}
+use Rattle.machine.proofs.Answers.{refused-by}
 use Rattle.machine.proofs.Outcomes.{refused-keeps}
 use Rattle.machine.proofs.Causes.{refusals}
 use Rattle.session.specs.declared.Session.{Session}
-use Rattle.session.specs.declared.Answer.{Answer}
-use Rattle.session.specs.declared.Answer.the-variants.{Refused}
 use Rattle.session.specs.declared.Reply.{Reply}
 use Rattle.session.specs.Record.{record-of}
-use Rattle.session.specs.Promise.{answer-of}
-use Rattle.session.proofs.Answers.{refused-by}
-use Rattle.demands.specs.Trace.{Exchange, call-of, reply-in, given, fed}
-use Rattle.demands.specs.Demands.{Answered, Demand1}
-use Rattle.demands.proofs.Reached.{replies, keeps-buffer, Stands, reached}
+use Rattle.demands.specs.Trace.{Exchange, given, onward, plain-after}
+use Rattle.demands.specs.Statements.{Answered, Demand1}
+use Rattle.demands.proofs.Reached.{Stands, does, reached}
 
-answered : (m : Machine) (s : Session) (e : Exchange) → Stands m s e → Answered m s e
+answered : (m : Machine) (s : Session) (e : Exchange Call Reply) → Stands m s e → Answered m s e
 answered m s e h = record {
-  result = same;
-  refused = λ n place. ((λ i. refusals m (call-of e) n place (h .brings) .0 (by n place i)), λ c. same ∙ ap answer-of (refusals m (call-of e) n place (h .brings) .1 c));
+  result = does h .tells .answer-is;
+  refused = λ n place. (
+    (λ i. refusals m (e .asked) n place (h .served .brings) .0 (by n place i)),
+    λ c. does h .tells .answer-is ∙ ap answer-of (refusals m (e .asked) n place (h .served .brings) .1 c),
+  );
   unchanged = λ n place i. (
-    ap (λ (r : Reply). r .session) (replies m s e (h .record-is) (h .promise)) ∙ ap record-of (refused-keeps m (call-of e) n place (by n place i)) ∙ sym (h .record-is .whole),
-    keeps-buffer m s e n place (h .record-is) (h .promise) (by n place i),
+    does h .session-is ∙ ap record-of (refused-keeps m (e .asked) n place (by n place i)) ∙ sym (h .record-is .whole),
+    does h .tells .buffer-is ∙ ap (λ (o : Outcome). buffer-after o (e .old)) (by n place i),
   );
 }
   where
-    same : reply-in e .answer ≡ answer-of (call m (call-of e) .answer)
-    same = ap (λ (r : Reply). r .answer) (replies m s e (h .record-is) (h .promise))
-
-    by : (n place : ℕ) → reply-in e .answer ≡ Refused n place → call m (call-of e) .answer ≡ refused n place
-    by n place i = refused-by (call m (call-of e) .answer) n place (sym same ∙ i)
+    by : (n place : ℕ) → e .reply .answer ≡ Refused n place → call m (e .asked) .answer ≡ refused n place
+    by n place i = refused-by (call m (e .asked) .answer) n place (sym (does h .tells .answer-is) ∙ i)
 
 pub demand-1 : Demand1
-demand-1 s f es t before later e i = answered (fed before) (given s before) e (reached s f es t before later e i)
+demand-1 s f es t before later e i = answered (plain-after before) (given onward s before) e (reached s f es t before later e i)

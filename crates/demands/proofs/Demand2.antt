@@ -16,32 +16,29 @@ use Rattle.orderings.specs.Timelines.{timelines}
 use Rattle.orderings.proofs.Walks.{allowed-more}
 use Rattle.orderings.proofs.Depths.{accepted-iff-depth}
 use Rattle.orderings.proofs.Timelines.{lawful}
+use Rattle.machine.specs.declared.Answer.{Answer}
+use Rattle.machine.specs.declared.Answer.the-variants.{Done, Wrote}
 use Rattle.machine.specs.declared.Verdict.{Verdict}
 use Rattle.machine.specs.declared.Verdict.the-variants.{NonEmpty as NonEmptyV, Empty as EmptyV}
 use Rattle.machine.specs.declared.Phase.the-variants.{Settled}
 use Rattle.machine.specs.Machine.{Machine, fresh, open-with, open-claims}
 use Rattle.machine.specs.Order.{Found, Candidate}
 use Rattle.machine.specs.Sheet.{verdict-line, opening-line, walk-lines, sheet}
-use Rattle.machine.specs.Calls.{load, print, save, done, wrote, refused, accept, saved, call, buffer-after}
-use Rattle.machine.specs.Calls.{Answer as Said}
+use Rattle.machine.specs.Calls.{load, print, save, Outcome, wrote, answer-of, Next, accept, saved, call, buffer-after, Tells}
 use Rattle.machine.specs.WellFormed.{Worked, Made, WellFormed}
 use Rattle.machine.specs.Demands.{Number}
+use Rattle.machine.proofs.Answers.{wrote-by}
 use Rattle.machine.proofs.Settling.{after-after}
 use Rattle.machine.proofs.Loading.{loads-back, saves}
 use Rattle.machine.proofs.Demands.{settled-number, second-is, worked-listed, prints, printed-walk}
-use Rattle.session.specs.declared.Answer.{Answer}
-use Rattle.session.specs.declared.Answer.the-variants.{Wrote}
-use Rattle.session.specs.declared.Reply.{Reply}
-use Rattle.session.specs.Promise.{answer-of, reply-of}
-use Rattle.session.proofs.Answers.{wrote-by}
-use Rattle.demands.specs.Trace.{printed, fed}
-use Rattle.demands.specs.Trace.{saved as saved-in}
-use Rattle.demands.specs.Demands.{Walked, Told, PrintTold, SaveTold, Demand2}
-use Rattle.demands.proofs.Reached.{fresh-is, reached}
+use Rattle.session.specs.Record.{record-of}
+use Rattle.demands.specs.Trace.{plain-after}
+use Rattle.demands.specs.Statements.{Walked, TrueSheet, PrintsTrue, SavesRows, Demand2}
+use Rattle.demands.proofs.Reached.{told, fresh-is, reached}
 
 -- the text in the buffer
-written : (a : Said) (old new l text : List ℕ) (n : ℕ) → new ≡ buffer-after a old → a ≡ wrote l → n ≡ length l → l ≡ text → new ≡ text ++ drop n old
-written a old new l text n j e i k = j ∙ ap (λ (x : Said). buffer-after x old) e ∙ cc
+written : (a : Outcome) (old new l text : List ℕ) (n : ℕ) → new ≡ buffer-after a old → a ≡ wrote l → n ≡ length l → l ≡ text → new ≡ text ++ drop n old
+written a old new l text n j e i k = j ∙ ap (λ (x : Outcome). buffer-after x old) e ∙ cc
 
 -- the verdict of the number
 verdict-of : (rows : List Row) (v : Verdict) (k : ℕ) → Number rows v k → (v ≡ NonEmptyV) ↔ NonEmpty (timelines rows)
@@ -73,35 +70,37 @@ module _ (m : Machine) (w : WellFormed m) where
     },
   )
 
-  told : (v : Verdict) → m .phase ≡ Settled v → Told m v
-  told v e = record {
+  true-sheet : (v : Verdict) → m .phase ≡ Settled v → TrueSheet m v
+  true-sheet v e = record {
     settled = e;
     verdict = verdict-of (m .rows) v (m .rounds) (settled-number m w v e .0);
     listed = worked-listed m w (worked v e);
     walked = λ i. walked (e ∙ ap Settled i);
   }
 
-  print-told : (old new : List ℕ) (a : Answer) → a ≡ answer-of (call m (print (length old)) .answer) → new ≡ buffer-after (call m (print (length old)) .answer) old → PrintTold m old new a
-  print-told old new a i j n e = let l = wrote-by (call m (print (length old)) .answer) n (sym i ∙ e) in let h = prints m w (length old) .accepted (l .0) .0 (l .1) in
+  prints-true : (old new : List ℕ) (a : Answer) → Tells (call m (print (length old)) .answer) old new a → PrintsTrue m old new a
+  prints-true old new a t n e = let o = call m (print (length old)) .answer in let l = wrote-by o n (sym (t .answer-is) ∙ e) in
+      let h = prints m w (length old) .accepted (l .0) .0 (l .1) in
       let k : l .0 ≡ sheet (h .0) m = h .2 ∙ ap (sheet (h .0)) (second-is m w (h .0) (h .1)) in
-      (h .0, written (call m (print (length old)) .answer) old new (l .0) (sheet (h .0) m) n j (l .1) (l .2) k, told (h .0) (h .1))
+      (h .0, written o old new (l .0) (sheet (h .0) m) n (t .buffer-is) (l .1) (l .2) k, true-sheet (h .0) (h .1))
 
-  save-told : (old new : List ℕ) (a : Answer) → a ≡ answer-of (call m (save (length old)) .answer) → new ≡ buffer-after (call m (save (length old)) .answer) old → SaveTold m old new a
-  save-told old new a i j n e = (
+  saves-rows : (old new : List ℕ) (a : Answer) → Tells (call m (save (length old)) .answer) old new a → SavesRows m old new a
+  saves-rows old new a t n e = (
     bytes,
-    λ t r f k.
-        let q : r ≡ reply-of (accept (open-with (m .rows))) = k fresh (fresh-is t f) ∙ ap (λ (x : List ℕ). reply-of (call fresh (load x))) bytes ∙ ap reply-of (loads-back m (w .table)) in
-        (ap (λ (x : Reply). x .answer) q, ap (λ (x : Reply). x .session) q),
+    λ s r f k.
+        let q : call fresh (load (take n new)) ≡ accept (open-with (m .rows)) = ap (λ (x : List ℕ). call fresh (load x)) bytes ∙ loads-back m (w .table) in
+        let d = k fresh (fresh-is s f) in
+        (d .tells .answer-is ∙ ap (λ (x : Next). answer-of (x .answer)) q, d .session-is ∙ ap (λ (x : Next). record-of (x .machine)) q),
   )
     where
       bytes : take n new ≡ saved m
-      bytes = let l = wrote-by (call m (save (length old)) .answer) n (sym i ∙ e) in let k = saves m (w .table) (length old) (l .0) (l .1) .sorted in
-          ap (take n) (written (call m (save (length old)) .answer) old new (l .0) (saved m) n j (l .1) (l .2) k) ∙ take-at (saved m) (drop n old) n (sym (l .2 ∙ ap length k))
+      bytes = let o = call m (save (length old)) .answer in let l = wrote-by o n (sym (t .answer-is) ∙ e) in let k = saves m (w .table) (length old) (l .0) (l .1) .sorted in
+          ap (take n) (written o old new (l .0) (saved m) n (t .buffer-is) (l .1) (l .2) k) ∙ take-at (saved m) (drop n old) n (sym (l .2 ∙ ap length k))
 
 pub demand-2 : Demand2
 demand-2 = record {
-  prints = λ s f es t before later old new r i. let m = fed before in let h = reached s f es t before later (printed old new r) i in let k = h .promise m (h .record-is) in
-      print-told m (h .record-is .formed) old new (r .answer) (ap (λ (x : Reply). x .answer) (k .0)) (k .1);
-  saves = λ s f es t before later old new r i. let m = fed before in let h = reached s f es t before later (saved-in old new r) i in let k = h .promise m (h .record-is) in
-      save-told m (h .record-is .formed) old new (r .answer) (ap (λ (x : Reply). x .answer) (k .0)) (k .1);
+  prints = λ s f es t before later e i size j. let h = reached s f es t before later e i in
+      prints-true (plain-after before) (h .record-is .formed) (e .old) (e .new) (e .reply .answer) (told h print (λ n. refl) size j);
+  saves = λ s f es t before later e i size j. let h = reached s f es t before later e i in
+      saves-rows (plain-after before) (h .record-is .formed) (e .old) (e .new) (e .reply .answer) (told h save (λ n. refl) size j);
 }

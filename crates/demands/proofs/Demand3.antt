@@ -4,21 +4,18 @@ use mathlib.Core.Path.{_≡_, refl, ap, _∙_}
 use mathlib.Core.List.{List, _++_}
 use lib.ListN.{length, drop}
 use native.Mathlib.Omega.{arith}
+use Rattle.machine.specs.declared.Answer.{Answer}
 use Rattle.machine.specs.declared.Verdict.{Verdict}
 use Rattle.machine.specs.declared.Phase.the-variants.{Settled}
 use Rattle.machine.specs.Machine.{Machine}
 use Rattle.machine.specs.Sheet.{sheet}
-use Rattle.machine.specs.Calls.{print, done, wrote, refused, call, second, buffer-after}
-use Rattle.machine.specs.Calls.{Answer as Said}
+use Rattle.machine.specs.Calls.{print, Outcome, done, wrote, refused, answer-of, call, second, buffer-after}
 use Rattle.machine.specs.WellFormed.{WellFormed}
 use Rattle.machine.proofs.Outcomes.{Done, comes}
 use Rattle.machine.proofs.Demands.{second-is, print-accepts, prints}
-use Rattle.session.specs.declared.Answer.{Answer}
-use Rattle.session.specs.declared.Reply.{Reply}
-use Rattle.session.specs.Promise.{answer-of}
-use Rattle.demands.specs.Trace.{printed, fed}
-use Rattle.demands.specs.Demands.{Printed, Demand3}
-use Rattle.demands.proofs.Reached.{reached}
+use Rattle.demands.specs.Trace.{plain-after}
+use Rattle.demands.specs.Statements.{ExactPrint, Demand3}
+use Rattle.demands.proofs.Reached.{told, reached}
 
 -- a print is never just done
 never-done : (m : Machine) {m′ : Machine} {size : ℕ} → Done m (print size) m′ → ⊥
@@ -30,7 +27,7 @@ module _ (m : Machine) (w : WellFormed m) where
       → call (second (m .rows)) (print size) .answer ≡ wrote (sheet v (second (m .rows)))
   second-prints v size e = rw (second-is m w v e) (print-accepts m w size v e)
 
-  at-print : (old new : List ℕ) (a : Said) (b : Answer) → call m (print (length old)) .answer ≡ a → b ≡ answer-of a → new ≡ buffer-after a old → Printed m old new b
+  at-print : (old new : List ℕ) (a : Outcome) (b : Answer) → call m (print (length old)) .answer ≡ a → b ≡ answer-of a → new ≡ buffer-after a old → ExactPrint m old new b
   at-print old new done b e i j = absurd (never-done m (comes m (print (length old)) done e))
   at-print old new (wrote l) b e i j = let p = prints m w (length old) in let h = p .accepted l .0 e in
       record {
@@ -54,5 +51,5 @@ module _ (m : Machine) (w : WellFormed m) where
       }
 
 pub demand-3 : Demand3
-demand-3 s f es t before later old new r i = let m = fed before in let h = reached s f es t before later (printed old new r) i in let k = h .promise m (h .record-is) in
-    at-print m (h .record-is .formed) old new (call m (print (length old)) .answer) (r .answer) refl (ap (λ (x : Reply). x .answer) (k .0)) (k .1)
+demand-3 s f es t before later e i size j = let m = plain-after before in let h = reached s f es t before later e i in let k = told h print (λ n. refl) size j in
+    at-print m (h .record-is .formed) (e .old) (e .new) (call m (print (length (e .old))) .answer) (e .reply .answer) refl (k .answer-is) (k .buffer-is)

@@ -3,18 +3,17 @@ use Prim.Native.Nat.{ℕ, _*_}
 use mathlib.Core.Path.{_≡_, refl, ap, sym, _∙_}
 use mathlib.Core.List.{List}
 use lib.ListN.{length}
-use Rattle.machine.specs.Calls.{done, wrote, refused}
-use Rattle.machine.specs.Calls.{Answer as Told}
+use Rattle.machine.specs.declared.Answer.{Answer}
+use Rattle.machine.specs.declared.Answer.the-variants.{Done, Wrote, Refused}
+use Rattle.machine.specs.Calls.{Outcome, done, wrote, refused}
 use Rattle.machine.specs.Program.{outcome}
-use Rattle.session.specs.declared.Answer.{Answer}
-use Rattle.session.specs.declared.Answer.the-variants.{Done, Wrote, Refused}
 use Rattle.checker.specs.Promise.{Checks}
-use Rattle.session.proofs.Answers.{done-by, wrote-by, refused-by}
+use Rattle.machine.proofs.Answers.{done-by, wrote-by, refused-by}
 use Rattle.ffi.specs.Promise.{code-of, place-after, Called}
 
 module _ (batch old new : List ℕ) (before : ℕ) (b : Answer) (c : Checks batch old new b) where
-  called : (a : Told) (after r : ℕ) → outcome batch (length old) ≡ a → r ≡ code-of a → after ≡ place-after a before → Called batch old new before after r
-  called a after r e i j = record { code-is = i ∙ ap code-of (sym e); sheet-is = c .buffer-is; place-is = j ∙ ap (λ (x : Told). place-after x before) (sym e) }
+  called : (a : Outcome) (after r : ℕ) → outcome batch (length old) ≡ a → r ≡ code-of a → after ≡ place-after a before → Called batch old new before after r
+  called a after r e i j = record { code-is = i ∙ ap code-of (sym e); sheet-is = c .buffer-is; place-is = j ∙ ap (λ (x : Outcome). place-after x before) (sym e) }
 
   pub called-done : b ≡ Done → Called batch old new before before 0
   called-done e = called done before 0 (done-by (outcome batch (length old)) (sym (c .answer-is) ∙ e)) refl refl

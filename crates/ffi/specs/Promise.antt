@@ -3,17 +3,17 @@ use Prim.Native.Nat.{ℕ, _*_}
 use mathlib.Core.Path.{_≡_}
 use mathlib.Core.List.{List}
 use lib.ListN.{length}
-use Rattle.machine.specs.Calls.{Answer, done, wrote, refused, buffer-after}
+use Rattle.machine.specs.Calls.{Outcome, done, wrote, refused, buffer-after}
 use Rattle.machine.specs.Program.{outcome}
 
 -- the length of the sheet, or 2 to the power 32 times the number of the refusal
-abbrev pub code-of : Answer → ℕ
+abbrev pub code-of : Outcome → ℕ
 code-of done = 0
 code-of (wrote l) = length l
 code-of (refused n place) = n * 4294967296
 
 -- the place of the refusal; without one, what stood there
-abbrev pub place-after : Answer → ℕ → ℕ
+abbrev pub place-after : Outcome → ℕ → ℕ
 place-after done old = old
 place-after (wrote l) old = old
 place-after (refused n place) old = place

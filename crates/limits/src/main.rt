@@ -4,9 +4,9 @@
 mod compare;
 
 use compare::same_session;
+use machine::Answer;
 use output::say;
 use output::say_answer;
-use session::Answer;
 use session::Reply;
 use session::Session;
 ghost use Prim.Native.Nat.{_≤_};

@@ -14,7 +14,7 @@ use Rattle.rows.proofs.Batch.{feed-fails}
 use Rattle.machine.specs.declared.Phase.{Phase}
 use Rattle.machine.specs.declared.Phase.the-variants.{Open, Running, Settled}
 use Rattle.machine.specs.Machine.{Machine, load-row, withdraw-row}
-use Rattle.machine.specs.Calls.{Call, load, withdraw, round, print, Answer, refused, Next, call-in, call, Brings}
+use Rattle.machine.specs.Calls.{Call, load, withdraw, round, print, Outcome, refused, Next, call-in, call, Brings}
 use Rattle.machine.specs.Causes.{NotOpen, running, settled, NeedsOpen, loading, withdrawing, closing, NeedsClosed, reopening, rounding, printing, Cause, not-open, load-fails, withdraw-fails, still-open, round-settled, print-running, short-buffer, last-round, LoadStops, WithdrawStops}
 use Rattle.machine.specs.WellFormed.{Table}
 use Rattle.machine.proofs.Tables.{load-stops, withdraw-stops}
@@ -37,7 +37,7 @@ module _ (m : Machine) where
   open-refuses rounding = refl
   open-refuses (printing size) = refl
 
-  in-phase : (p : Phase) (c : Call) (a : Answer) → m .phase ≡ p → call-in p m c .answer ≡ a → call m c .answer ≡ a
+  in-phase : (p : Phase) (c : Call) (a : Outcome) → m .phase ≡ p → call-in p m c .answer ≡ a → call m c .answer ≡ a
   in-phase p c a e h = ap (λ (p : Phase). call-in p m c .answer) e ∙ h
 
   refuses : {c : Call} {n place : ℕ} → Brings c → Cause m c n place → call m c .answer ≡ refused n place

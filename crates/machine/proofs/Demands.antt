@@ -20,7 +20,7 @@ use Rattle.machine.specs.Machine.{Machine, open-with, fresh, open-claims
 use Rattle.machine.specs.Order.{Found, Best}
 use Rattle.machine.specs.Search.{shortest}
 use Rattle.machine.specs.Sheet.{sheet}
-use Rattle.machine.specs.Calls.{Call, load, print, wrote, refused, Next, refuse, call-in, call, run, settle, second, Brings}
+use Rattle.machine.specs.Calls.{Call, load, print, Outcome, wrote, refused, Next, refuse, call-in, call, run, settle, second, Brings}
 use Rattle.machine.specs.Causes.{Writes, sheets}
 use Rattle.machine.specs.WellFormed.{Table, after, Worked, Made, WellFormed}
 use Rattle.machine.specs.Demands.{SomeWalk, Number, Listed, Prints, EveryPrint}
@@ -83,7 +83,7 @@ module _ (m : Machine) (w : WellFormed m) where
   pub print-accepts : (size : ℕ) (v : Verdict) → m .phase ≡ Settled v → length (sheet v m) ≤ size → call m (print size) .answer ≡ wrote (sheet v m)
   unfolding call-in
   print-accepts size v e h = ap (λ (p : Phase). call-in p m (print size) .answer) e
-      ∙ ap (λ (b : Bool). cond {A = Next} b (refuse m 12) (record { machine = m; answer = wrote (sheet v m) }) .answer) (not-so (ltb· size (length (sheet v m))) (λ l. omega arith))
+      ∙ ap (λ (b : Bool). cond {A = Outcome} b (refused 12 0) (wrote (sheet v m))) (not-so (ltb· size (length (sheet v m))) (λ l. omega arith))
 
   -- demand 3 at one print
   pub prints : (size : ℕ) → Prints m size

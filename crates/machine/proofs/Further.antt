@@ -15,7 +15,7 @@ use Rattle.machine.specs.Machine.{fresh, load-row, withdraw-row, closed,
 use Rattle.machine.specs.Search.{walk-of, least, shortest}
 use Rattle.machine.specs.Text.{text, hex, decimal}
 use Rattle.machine.specs.Sheet.{sheet}
-use Rattle.machine.specs.Calls.{Call, load, withdraw, close, round, reopen, print, save, Answer, wrote, refused, call-in, call, run}
+use Rattle.machine.specs.Calls.{Call, load, withdraw, close, round, reopen, print, save, Outcome, wrote, refused, call-in, call, run}
 use Rattle.machine.specs.Program.{outcome, program}
 
 abbrev on-rows : List Row → List ℕ
@@ -57,7 +57,7 @@ pub refused-lines : (program (1 ∷ 0 ∷ 6 ∷ 0 ∷ []) ≡ text "refused 2 at
 unfolding ℕ-discrete member row-bytes sets same-row set-at state-row step-row limit-row kind-row read-row on-turn on-read feed-from feed members reach holds? accepts? load-row closed opened-next next-round walk-of least shortest hex decimal sheet call-in outcome program
 refused-lines = (refl, refl, refl, refl, refl)
 
-abbrev answer-after : List Call → Call → Answer
+abbrev answer-after : List Call → Call → Outcome
 answer-after cs c = call (run fresh cs) c .answer
 
 -- causes 1 and 8 to 12, and the phase before the rows and before the buffer's length

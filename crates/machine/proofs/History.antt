@@ -17,7 +17,7 @@ use Rattle.machine.specs.declared.Verdict.{Verdict}
 use Rattle.machine.specs.declared.Phase.{Phase}
 use Rattle.machine.specs.declared.Phase.the-variants.{Open, Running, Settled}
 use Rattle.machine.specs.Machine.{Machine, open-with, fresh, judged, closed, opened-next, nothing?, next-round, open-claims}
-use Rattle.machine.specs.Calls.{Call, round, Answer, done, wrote, refused, Next, accept, refuse, call-in, call, run, Brings, settle}
+use Rattle.machine.specs.Calls.{Call, round, Outcome, done, wrote, refused, Next, accept, refuse, call-in, call, run, Brings, settle}
 use Rattle.machine.specs.WellFormed.{Table, after, Worked, Made, WellFormed}
 use Rattle.machine.proofs.Settling.{after-after, Settles}
 use Rattle.machine.proofs.Tables.{no-rows, load-keeps, withdraw-keeps}
@@ -67,7 +67,7 @@ call-formed m c b w = by (call m c .machine) (call m c .answer) (comes m c (call
     changed (round-done e l) b = round-formed m e w
     changed (reopen-done n) b = opened-formed (m .rows) (w .table)
 
-    by : (m′ : Machine) (a : Answer) → Comes m c m′ a → WellFormed m′
+    by : (m′ : Machine) (a : Outcome) → Comes m c m′ a → WellFormed m′
     by m′ done d = changed d b
     by m′ (wrote l) p = rw (p .0) w
     by m′ (refused n place) p = rw (p .0) w

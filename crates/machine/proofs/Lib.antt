@@ -8,6 +8,7 @@ pub mod Walks
 pub mod Text
 pub mod Sheet
 pub mod Tables
+pub mod Answers
 pub mod Outcomes
 pub mod Loading
 pub mod Causes

@@ -14,7 +14,7 @@ use Rattle.rows.proofs.Batch.{feed-fails}
 use Rattle.machine.specs.declared.Phase.{Phase}
 use Rattle.machine.specs.declared.Phase.the-variants.{Open, Running, Settled}
 use Rattle.machine.specs.Machine.{Machine, load-row, withdraw-row, closed, next-round, reopened}
-use Rattle.machine.specs.Calls.{Call, load, withdraw, close, round, reopen, print, save, Answer, done, wrote, refused, Next, accept, refuse-at, with-rows, write, saved, call-in, call, Brings}
+use Rattle.machine.specs.Calls.{Call, load, withdraw, close, round, reopen, print, save, Outcome, done, wrote, refused, Next, accept, refuse-at, with-rows, write, saved, call-in, call, Brings}
 use Rattle.machine.specs.Causes.{NotOpen, running, settled, loading, withdrawing, closing, reopening, rounding, printing, Writes, sheets, saves, Cause, not-open, load-fails, withdraw-fails, still-open, round-settled, print-running, short-buffer, last-round}
 use Rattle.machine.specs.Sheet.{sheet}
 
@@ -31,7 +31,7 @@ pub data Done (m : Machine) : Call → Machine → Type 0 where
   reopen-done : NotOpen (m .phase) → Done m reopen (reopened m)
 
 -- what a call comes to that leaves the machine m′ and gives an answer: done, text, or a refusal with its cause; only done changes the machine
-abbrev pub Comes : Machine → Call → Machine → Answer → Type 0
+abbrev pub Comes : Machine → Call → Machine → Outcome → Type 0
 Comes m c m′ done = Done m c m′
 Comes m c m′ (wrote l) = (m′ ≡ m) × (size : ℕ) × Writes m c l size × (length l ≤ size)
 Comes m c m′ (refused n place) = (m′ ≡ m) × (Brings c → Cause m c n place)
@@ -48,7 +48,7 @@ module _ (m : Machine) where
   write-comes : (c : Call) (l : List ℕ) (size : ℕ) → Writes m c l size → To m c (write m size l)
   write-comes c l size w = by (ltb size (length l)) (ltb· size (length l))
     where
-      by : (b : Bool) → Decides b (size < length l) → To m c (cond b (refuse-at m 12 0) (record { machine = m; answer = wrote l }))
+      by : (b : Bool) → Decides b (size < length l) → To m c (record { machine = m; answer = cond b (refused 12 0) (wrote l) })
       by true d = (refl, λ b. short-buffer c l size w (yes· d))
       by false d = (refl, size, w, let n = no· d in omega arith)
 
@@ -83,7 +83,7 @@ module _ (m : Machine) where
   comes-in (Settled v) (print size) e = write-comes (print size) (sheet v m) size (sheets v size e)
   comes-in (Settled v) (save size) e = write-comes (save size) (saved m) size (saves size)
 
-  pub comes : (c : Call) (a : Answer) → call m c .answer ≡ a → Comes m c (call m c .machine) a
+  pub comes : (c : Call) (a : Outcome) → call m c .answer ≡ a → Comes m c (call m c .machine) a
   comes c a e = subst (Comes m c (call m c .machine)) e (comes-in (m .phase) c refl)
 
   pub writes-keep : (c : Call) (l : List ℕ) → call m c .answer ≡ wrote l → call m c .machine ≡ m

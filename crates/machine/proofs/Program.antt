@@ -15,7 +15,7 @@ use Rattle.machine.specs.declared.Phase.the-variants.{Settled}
 use Rattle.machine.specs.Machine.{Machine, open-with, fresh}
 use Rattle.machine.specs.Text.{text}
 use Rattle.machine.specs.Sheet.{line, sheet}
-use Rattle.machine.specs.Calls.{Call, load, round, print, Answer, done, wrote, refused, Next, call, run, settle, second, Brings}
+use Rattle.machine.specs.Calls.{Call, load, round, print, Outcome, done, wrote, refused, Next, call, run, settle, second, Brings}
 use Rattle.machine.specs.Program.{shown, ending, outcome, program, ProgramWrites, too-long, refusal, sheet-of}
 use Rattle.machine.specs.Causes.{Writes}
 use Rattle.machine.specs.WellFormed.{Table, WellFormed}
@@ -77,13 +77,13 @@ load-writes : {l k : List ℕ} {size : ℕ} → Writes fresh (load l) k size →
 load-writes = elim [ ]
 
 module _ (l : List ℕ) (b : Bytes l) where
-  on-answer : (m : Machine) (a : Answer) → length l ≤ 65536 → call fresh (load l) ≡ record { machine = m; answer = a } → Comes fresh (load l) m a → WellFormed m → ProgramWrites l (shown (ending m 6400 a))
+  on-answer : (m : Machine) (a : Outcome) → length l ≤ 65536 → call fresh (load l) ≡ record { machine = m; answer = a } → Comes fresh (load l) m a → WellFormed m → ProgramWrites l (shown (ending m 6400 a))
   on-answer m done h e d w =
       subst (λ x. ProgramWrites l (shown x)) (sym (settled-sheet m (w .table) (loaded-is d) 6400 (omega arith))) (sheet-of m (s (m .rows) (w .table) .verdict) h e (settled-second (m .rows) (w .table)))
   on-answer m (wrote k) h e d w = absurd (load-writes (d .2))
   on-answer m (refused n place) h e d w = refusal n place h (d .1 b)
 
-  same-ending : (m : Machine) (a : Answer) (size : ℕ) → 6400 ≤ size → Comes fresh (load l) m a → WellFormed m → ending m size a ≡ ending m 6400 a
+  same-ending : (m : Machine) (a : Outcome) (size : ℕ) → 6400 ≤ size → Comes fresh (load l) m a → WellFormed m → ending m size a ≡ ending m 6400 a
   same-ending m done size h d w = settled-sheet m (w .table) (loaded-is d) size h ∙ sym (settled-sheet m (w .table) (loaded-is d) 6400 (omega arith))
   same-ending m (wrote k) size h d w = refl
   same-ending m (refused n place) size h d w = refl

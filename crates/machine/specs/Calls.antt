@@ -1,5 +1,6 @@
 -- Document 01, "The session as a plain machine" and "Causes and numbers": the calls.
 use Prim.Native.Nat.{ℕ}
+use mathlib.Core.Path.{_≡_}
 use mathlib.Core.Bool.{true, false, cond}
 use mathlib.Core.List.{List, [], _∷_, _++_}
 use lib.Dec.{ltb}
@@ -8,6 +9,8 @@ use Rattle.lists.specs.Order.{sort-by}
 use Rattle.rows.specs.declared.Row.{Row}
 use Rattle.rows.specs.Rows.{row-bytes, batch-of, Bytes}
 use Rattle.rows.specs.Batch.{Fed, fed, failed, feed}
+use Rattle.machine.specs.declared.Answer.{Answer}
+use Rattle.machine.specs.declared.Answer.the-variants.{Done, Wrote, Refused}
 use Rattle.machine.specs.declared.Phase.{Phase}
 use Rattle.machine.specs.declared.Phase.the-variants.{Open, Running, Settled}
 use Rattle.machine.specs.Machine.{most-rounds, Machine, fresh, load-row, withdraw-row, closed, next-round, reopened}
@@ -20,15 +23,21 @@ pub data Call : Type 0 where
   print save : ℕ → Call
 
 -- done, text for the buffer, or a refusal with its number and place
-pub data Answer : Type 0 where
-  done : Answer
-  wrote : List ℕ → Answer
-  refused : ℕ → ℕ → Answer
+pub data Outcome : Type 0 where
+  done : Outcome
+  wrote : List ℕ → Outcome
+  refused : ℕ → ℕ → Outcome
+
+-- the engine's answer: document 01's number and place, or the count of bytes
+abbrev pub answer-of : Outcome → Answer
+answer-of done = Done
+answer-of (wrote l) = Wrote (length l)
+answer-of (refused n place) = Refused n place
 
 -- the machine after a call, and what the call answers
 pub record Next : Type 0 where
   pub machine : Machine
-  pub answer : Answer
+  pub answer : Outcome
 
 abbrev pub accept : Machine → Next
 accept m = record { machine = m; answer = done }
@@ -46,8 +55,11 @@ with-rows m (fed rows) = accept (record { rows = rows; phase = m .phase; opening
 with-rows m (failed n place) = refuse-at m n place
 
 -- 12: the buffer is too short
+abbrev pub written : ℕ → List ℕ → Outcome
+written size l = cond (ltb size (length l)) (refused 12 0) (wrote l)
+
 abbrev pub write : Machine → ℕ → List ℕ → Next
-write m size l = cond (ltb size (length l)) (refuse m 12) (record { machine = m; answer = wrote l })
+write m size l = record { machine = m; answer = written size l }
 
 -- save writes the standing rows sorted as byte strings
 abbrev pub saved : Machine → List ℕ
@@ -81,10 +93,19 @@ abbrev pub call : Machine → Call → Next
 call m c = call-in (m .phase) m c
 
 -- what the caller's buffer holds after a call: the text, and beyond it the bytes that it had
-abbrev pub buffer-after : Answer → List ℕ → List ℕ
+abbrev pub buffer-after : Outcome → List ℕ → List ℕ
 buffer-after done old = old
 buffer-after (wrote l) old = l ++ drop (length l) old
 buffer-after (refused n place) old = old
+
+-- the engine tells an outcome: its answer, and what the caller's buffer then holds
+pub record Tells (o : Outcome) (old new : List ℕ) (r : Answer) : Type 0 where
+  pub answer-is : r ≡ answer-of o
+  pub buffer-is : new ≡ buffer-after o old
+
+-- a text is in the buffer, or the buffer is too short for it
+abbrev pub TellsText : List ℕ → List ℕ → List ℕ → Answer → Type 0
+TellsText text old new r = Tells (written (length old) text) old new r
 
 -- a machine is fed a list of calls in order
 abbrev pub run : Machine → List Call → Machine

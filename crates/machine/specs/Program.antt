@@ -10,26 +10,26 @@ use Rattle.machine.specs.declared.Phase.the-variants.{Settled}
 use Rattle.machine.specs.Machine.{longest-sheet, longest-batch, Machine, fresh}
 use Rattle.machine.specs.Text.{text, number-text}
 use Rattle.machine.specs.Sheet.{line, sheet}
-use Rattle.machine.specs.Calls.{load, print, Answer, done, wrote, refused, Next, call, run, settle, second}
+use Rattle.machine.specs.Calls.{load, print, Outcome, done, wrote, refused, Next, call, run, settle, second}
 use Rattle.machine.specs.Causes.{Cause}
 
 -- a refusal prints the line `refused N at PLACE`
 abbrev pub refusal-line : ℕ → ℕ → List ℕ
 refusal-line n place = line (text "refused " ++ (number-text n ++ (text " at " ++ number-text place)))
 
-abbrev pub shown : Answer → List ℕ
+abbrev pub shown : Outcome → List ℕ
 shown done = []
 shown (wrote l) = l
 shown (refused n place) = refusal-line n place
 
 -- after an accepted load: closes, does rounds until settled and prints into a buffer of that size
-abbrev pub ending : Machine → ℕ → Answer → Answer
+abbrev pub ending : Machine → ℕ → Outcome → Outcome
 ending m size done = call (run m settle) (print size) .answer
 ending m size (wrote l) = wrote l
 ending m size (refused n place) = refused n place
 
 -- what one batch comes to, from a fresh machine: the refusal of its load, or what print answers
-unfoldable pub outcome : List ℕ → ℕ → Answer
+unfoldable pub outcome : List ℕ → ℕ → Outcome
 outcome l size = ending (call fresh (load l) .machine) size (call fresh (load l) .answer)
 
 -- one batch of at most 65,536 bytes; longer input prints the line `too long`

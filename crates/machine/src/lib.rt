@@ -1,4 +1,4 @@
-// The phases of a session. The plain machine of document 01, its sheet and its theorems are in specs/ and proofs/.
+// The phases of a session, and what its calls answer. The plain machine of document 01, its sheet and its theorems are in specs/ and proofs/.
 
 pub enum Verdict {
     NonEmpty,
@@ -10,4 +10,11 @@ pub enum Phase {
     Open,
     Running,
     Settled(Verdict),
+}
+
+// What a call answers: done, the count of bytes written, or a refusal with its number and place.
+pub enum Answer {
+    Done,
+    Wrote(usize),
+    Refused(u8, usize),
 }

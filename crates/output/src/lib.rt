@@ -1,5 +1,5 @@
 // What the programs share: texts, numbers and answers on standard output, and texts compared.
-use session::Answer;
+use machine::Answer;
 ghost use mathlib.Core.Path.{_≡_};
 ghost use Rattle.lists.specs.Tests.{Decides};
 

@@ -6,7 +6,6 @@ use mathlib.Core.Logic.{_⊎_, inl, inr, ⊎-elim}
 use mathlib.Core.Option.{some}
 use mathlib.Core.List.{List, [], _∷_, _++_, map, append-assoc, List·Memᴰ·head, List·Memᴰ·tail, List·Memᴰ·not-nil, List·Memᴰ·cases-cons}
 use native.Mathlib.Omega.{arith}
-use borrow.Author.Tests.{lt-ltb, le-ltb}
 use lib.ListN.{length, length-append}
 use Rattle.lists.specs.Tests.{Decides, _among_, gather}
 use Rattle.lists.specs.Writing as Writing
@@ -15,14 +14,16 @@ use Rattle.masks.specs.Graph.{Turned}
 use Rattle.orderings.specs.Steps.{Claim}
 use Rattle.orderings.specs.Decide.{same-claim}
 use Rattle.orderings.proofs.Deciding.{same-claim·}
+use Rattle.machine.specs.declared.Answer.{Answer}
 use Rattle.machine.specs.declared.Verdict.{Verdict}
 use Rattle.machine.specs.declared.Verdict.the-variants.{NonEmpty, Empty}
 use Rattle.machine.specs.declared.Phase.the-variants.{Settled}
 use Rattle.machine.specs.Machine.{Opening, Machine, open-claims}
 use Rattle.machine.specs.WellFormed.{WellFormed}
 use Rattle.machine.specs.Sheet.{verdict-line, opening-line, walk-lines, sheet}
-use Rattle.machine.specs.Calls.{Next, print, wrote, refuse, write, call, buffer-after}
+use Rattle.machine.specs.Calls.{Next, print, written, call, Tells, TellsText}
 use Rattle.machine.specs.Causes.{sheets}
+use Rattle.machine.proofs.Answers.{tells-as}
 use Rattle.machine.proofs.Outcomes.{writing}
 use Rattle.machine.proofs.Text.{number-length}
 use Rattle.table.specs.Arrays.{Worded}
@@ -35,17 +36,15 @@ use Rattle.walks.specs.declared.Walk.{Walk}
 use Rattle.walks.specs.Walks.{walk-of, Answers, FirstWalk}
 use Rattle.sheets.specs.Openings.{opened, openings-in, Recorded}
 use Rattle.sheets.proofs.Sheet.{recorded, sheet-empty, sheet-nonempty}
-use Rattle.printing.specs.declared.Printed.{Printed}
-use Rattle.printing.specs.declared.Printed.the-variants.{Wrote, Short}
 use Rattle.printing.specs.Text.{openings-text, head-text, walked-text}
-use Rattle.printing.specs.Promise.{printed-of, Puts, Finds, Prints}
+use Rattle.printing.specs.Promise.{FindsWalk, PrintsSheet}
 
 -- ---- the walk
 
 pub finds : (highs lows : List ℕ) (n : ℕ) (words : List ℕ) (k : ℕ) (a : Automaton) (rounds : Rounds) (back : List ℕ) (loop-mask mix-mask : ℕ) (w : Walk)
     → Turned (a .letters) back → OpenPlaces (rounds .«loop_rounds») k loop-mask → OpenPlaces (rounds .«mix_rounds») k mix-mask
     → FirstWalk highs lows n back words (a .lefts) (a .rights) loop-mask mix-mask (a .initials) (a .finals) w
-    → Finds highs lows n words k a rounds w
+    → FindsWalk highs lows n words k a rounds w
 finds highs lows n words k a rounds back loop-mask mix-mask w turned h g f m formed filed gives kept =
     f (a .letters) (m .rows) (open-claims m) k turned
     (record {
@@ -110,23 +109,15 @@ module _ (words : List ℕ) (k : ℕ) (rounds : Rounds) where
 -- ---- what is answered
 
 -- a text that is the machine's sheet
-prints-text : (m : Machine) (v : Verdict) (text old new : List ℕ) (r : Printed) → m .phase ≡ Settled v → sheet v m ≡ text → Puts text old new r
-    → (r ≡ printed-of (call m (print (length old)) .answer)) × (new ≡ buffer-after (call m (print (length old)) .answer) old)
-prints-text m v text old new r e is p = go r p
-  where
-    calls : call m (print (length old)) ≡ write m (length old) text
-    calls = writing m (sheets v (length old) e) ∙ ap (λ (l : List ℕ). write m (length old) l) is
+prints-text : (m : Machine) (v : Verdict) (text old new : List ℕ) (r : Answer) → m .phase ≡ Settled v → sheet v m ≡ text → TellsText text old new r
+    → Tells (call m (print (length old)) .answer) old new r
+prints-text m v text old new r e is t =
+    tells-as (ap (written (length old)) (sym is) ∙ sym (ap (λ (x : Next). x .answer) (writing m (sheets v (length old) e)))) t
 
-    go : (r : Printed) → Puts text old new r → (r ≡ printed-of (call m (print (length old)) .answer)) × (new ≡ buffer-after (call m (print (length old)) .answer) old)
-    go (Wrote count) p = let c : call m (print (length old)) ≡ record { machine = m; answer = wrote text } = calls ∙ rw (le-ltb (length old) (length text) (p .0)) in
-        (ap Wrote (p .1 .length-is) ∙ ap (λ (x : Next). printed-of (x .answer)) (sym c), p .1 .bytes-are ∙ ap (λ (x : Next). buffer-after (x .answer) old) (sym c))
-    go Short p = let c : call m (print (length old)) ≡ refuse m 12 = calls ∙ rw (lt-ltb (length old) (length text) (p .0)) in
-        (ap (λ (x : Next). printed-of (x .answer)) (sym c), p .1 ∙ ap (λ (x : Next). buffer-after (x .answer) old) (sym c))
-
-module _ (highs lows : List ℕ) (n : ℕ) (words : List ℕ) (k : ℕ) (a : Automaton) (rounds : Rounds) (old new : List ℕ) (r : Printed) where
-  pub prints-empty : Puts (head-text Empty words k rounds) old new r → Prints Empty highs lows n words k a rounds old new r
+module _ (highs lows : List ℕ) (n : ℕ) (words : List ℕ) (k : ℕ) (a : Automaton) (rounds : Rounds) (old new : List ℕ) (r : Answer) where
+  pub prints-empty : TellsText (head-text Empty words k rounds) old new r → PrintsSheet Empty highs lows n words k a rounds old new r
   prints-empty p m formed e filed gives kept = prints-text m Empty (head-text Empty words k rounds) old new r e (empty-sheet m formed words k (filed .1) rounds kept e) p
 
-  pub prints-nonempty : (w : Walk) → Finds highs lows n words k a rounds w → Puts (walked-text words k rounds w) old new r → Prints NonEmpty highs lows n words k a rounds old new r
+  pub prints-nonempty : (w : Walk) → FindsWalk highs lows n words k a rounds w → TellsText (walked-text words k rounds w) old new r → PrintsSheet NonEmpty highs lows n words k a rounds old new r
   prints-nonempty w f p m formed e filed gives kept =
       prints-text m NonEmpty (walked-text words k rounds w) old new r e (nonempty-sheet m formed words k (filed .1) rounds kept w (f m formed filed gives kept) e) p

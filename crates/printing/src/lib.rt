@@ -1,5 +1,6 @@
 // The sheet of a settled automaton, written from its keys, its sets, its masks and its rounds into a lent buffer.
 use automaton::Automaton;
+use machine::Answer;
 use machine::Verdict;
 use rounds::Rounds;
 use walks::Walk;
@@ -11,16 +12,11 @@ ghost use Rattle.lists.specs.Tests.{gather};
 ghost use Rattle.lists.specs.Writing.{Wrote, WroteAt};
 ghost use Rattle.machine.specs.declared.Verdict.the-variants.{NonEmpty, Empty};
 ghost use Rattle.machine.specs.Sheet.{opening-line, walk-lines};
+ghost use Rattle.machine.specs.Calls.{TellsText};
 ghost use Rattle.walks.specs.Walks.{walk-of, Bounded};
 ghost use Rattle.sheets.specs.Openings.{openings-in};
 ghost use Rattle.printing.specs.Text.{head-text, walked-text};
-ghost use Rattle.printing.specs.Promise.{Puts, Finds, Prints};
-
-// The count of bytes written; or the buffer is too short, and stays as it was.
-pub enum Printed {
-    Wrote(usize),
-    Short,
-}
+ghost use Rattle.printing.specs.Promise.{FindsWalk, PrintsSheet};
 
 // Writes the lines of the openings from `at` on, and returns the next place.
 fn openings_at(
@@ -32,8 +28,11 @@ fn openings_at(
     k: usize,
     count: u8,
 ) -> usize
-    requires { ⌜ (k ≤ 64) × (at + length (gather opening-line (openings-in (now looped) (now mixed) (now words) k count)) ≤ length (now buf)) ⌝ }
-    ensures { λ r. ⌜ WroteAt (gather opening-line (openings-in (now (looped .entry)) (now (mixed .entry)) (now (words .entry)) k count)) (now (buf .entry)) (now (buf .exit)) at r ⌝ }
+    requires { ⌜ (k ≤ 64)
+        × (at + length (gather opening-line (openings-in (now looped) (now mixed) (now words) k count)) ≤ length (now buf)) ⌝ }
+    ensures { λ r. ⌜ WroteAt
+        (gather opening-line (openings-in (now (looped .entry)) (now (mixed .entry)) (now (words .entry)) k count))
+        (now (buf .entry)) (now (buf .exit)) at r ⌝ }
 {
     at + sheets::put_openings(&mut buf[at..], looped, mixed, words, k, count)
 }
@@ -61,7 +60,8 @@ fn head_len(v: Verdict, words: &[u64; 64], k: usize, rounds: Rounds) -> usize
 // Writes the lines of the verdict and of the openings.
 fn put_head(buffer: &mut [u8], v: Verdict, words: &[u64; 64], k: usize, rounds: Rounds) -> usize
     requires { ⌜ (k ≤ 64) × (length (head-text v (now words) k rounds) ≤ length (now buffer)) ⌝ }
-    ensures { λ r. ⌜ Wrote (head-text v (now (words .entry)) k rounds) (now (buffer .entry)) (now (buffer .exit)) r ⌝ }
+    ensures { λ r. ⌜ Wrote (head-text v (now (words .entry)) k rounds)
+        (now (buffer .entry)) (now (buffer .exit)) r ⌝ }
 {
     let looped = rounds.loop_rounds;
     let mixed = rounds.mix_rounds;
@@ -82,7 +82,7 @@ fn first_walk(
 ) -> Walk
     requires { ⌜ (n ≤ 256) × (k ≤ 64) ⌝ }
     ensures bounded { λ r. ⌜ Bounded r ⌝ }
-    ensures finds { λ r. ⌜ Finds (now (high .entry)) (now (low .entry)) n (now (words .entry)) k a rounds r ⌝ }
+    ensures finds { λ r. ⌜ FindsWalk (now (high .entry)) (now (low .entry)) n (now (words .entry)) k a rounds r ⌝ }
 {
     let letters = a.letters;
     let lefts = a.lefts;
@@ -110,16 +110,17 @@ fn first_walk(
 }
 
 // The sheet of an empty automaton: the verdict and the openings.
-fn print_empty(buffer: &mut [u8], words: &[u64; 64], k: usize, rounds: Rounds) -> Printed
+fn print_empty(buffer: &mut [u8], words: &[u64; 64], k: usize, rounds: Rounds) -> Answer
     requires { ⌜ k ≤ 64 ⌝ }
-    ensures { λ r. ⌜ Puts (head-text Empty (now (words .entry)) k rounds) (now (buffer .entry)) (now (buffer .exit)) r ⌝ }
+    ensures { λ r. ⌜ TellsText (head-text Empty (now (words .entry)) k rounds)
+        (now (buffer .entry)) (now (buffer .exit)) r ⌝ }
 {
     let head = head_len(Verdict::Empty, words, k, rounds);
     if buffer.len() < head {
-        return Printed::Short;
+        return Answer::Refused(12, 0);
     }
     let wrote = put_head(buffer, Verdict::Empty, words, k, rounds);
-    Printed::Wrote(wrote)
+    Answer::Wrote(wrote)
 }
 
 // The sheet of a non-empty one: the verdict, the openings and the walk.
@@ -129,18 +130,19 @@ fn print_nonempty(
     k: usize,
     rounds: Rounds,
     walk: Walk,
-) -> Printed
+) -> Answer
     requires { ⌜ (k ≤ 64) × Bounded walk ⌝ }
-    ensures { λ r. ⌜ Puts (walked-text (now (words .entry)) k rounds walk) (now (buffer .entry)) (now (buffer .exit)) r ⌝ }
+    ensures { λ r. ⌜ TellsText (walked-text (now (words .entry)) k rounds walk)
+        (now (buffer .entry)) (now (buffer .exit)) r ⌝ }
 {
     let head = head_len(Verdict::NonEmpty, words, k, rounds);
     let len = head + sheets::walk_len(walk);
     if buffer.len() < len {
-        return Printed::Short;
+        return Answer::Refused(12, 0);
     }
     let at = put_head(buffer, Verdict::NonEmpty, words, k, rounds);
     let wrote = walk_at(buffer, at, walk);
-    Printed::Wrote(wrote)
+    Answer::Wrote(wrote)
 }
 
 // The sheet of the automaton, settled with the verdict, into the buffer; nothing where the buffer is too short.
@@ -154,9 +156,10 @@ pub fn print(
     k: usize,
     a: Automaton,
     rounds: Rounds,
-) -> Printed
+) -> Answer
     requires { ⌜ (n ≤ 256) × (k ≤ 64) ⌝ }
-    ensures { λ r. ⌜ Prints verdict (now (high .entry)) (now (low .entry)) n (now (words .entry)) k a rounds (now (buffer .entry)) (now (buffer .exit)) r ⌝ }
+    ensures { λ r. ⌜ PrintsSheet verdict (now (high .entry)) (now (low .entry)) n (now (words .entry)) k a rounds
+        (now (buffer .entry)) (now (buffer .exit)) r ⌝ }
 {
     match verdict {
         Verdict::NonEmpty => {

@@ -27,10 +27,6 @@ row-short (LeftLimit P q) = omega arith
 row-short (RightLimit q P) = omega arith
 
 module _ (l : List Slot) where
-  pub no-row : first-rows 0 l ≡ []
-  unfolding first-rows
-  no-row = refl
-
   -- one row more
   pub row-more : (i : ℕ) → i < length l → first-rows (i + 1) l ≡ first-rows i l ++ (getD l i blank .row ∷ [])
   unfolding first-rows

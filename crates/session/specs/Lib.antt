@@ -2,4 +2,3 @@
 pub mod Record
 pub mod Promise
 pub mod Standing
-pub mod Automaton

@@ -6,7 +6,9 @@ mod running;
 mod saving;
 mod tables;
 
+use machine::Answer;
 use machine::Phase;
+use machine::Verdict;
 use rows::Row;
 
 // What a field that is an array can hold: a struct that holds the row.
@@ -27,11 +29,12 @@ pub struct Session {
     pub rounds: u8,
 }
 
-// What a call answers: done, the count of bytes written, or a refusal with its number and place.
-pub enum Answer {
-    Done,
-    Wrote(usize),
-    Refused(u8, usize),
+// What a record is to the calls: foreign, which no calls make, or a session in a phase.
+pub enum State {
+    Foreign,
+    Open,
+    Running,
+    Settled(Verdict),
 }
 
 // The session handed back, and the answer beside it.

@@ -1,108 +1,106 @@
 // The calls load and withdraw.
-use crate::Answer;
 use crate::Reply;
 use crate::Session;
-use crate::replies::in_range;
+use crate::State;
 use crate::tables::slots;
-use machine::Phase;
-use table::Outcome;
-ghost use mathlib.Core.Path.{_≡_};
+use machine::Answer;
 ghost use Prim.Native.Nat.{_≤_};
+ghost use mathlib.Core.List.{[]};
 ghost use Rattle.machine.specs.Calls.{load, withdraw};
-ghost use Rattle.session.specs.Promise.{Keeps, KeepsOpen};
+ghost use Rattle.table.specs.Arrays.{Filed};
+ghost use Rattle.session.specs.Promise.{Ranged, At, Keeps, KeepsIn};
+ghost use Rattle.session.specs.Standing.{TakesTable};
 
 impl Session {
-    // The batch into the table of an open session: all its rows or none.
+    // What a batch came to: all its rows or none. Where it is done, the session takes the table that the arrays hold.
+    fn take_table(
+        self,
+        high: &[u64; 256],
+        low: &[u64; 256],
+        sets: [u64; 64],
+        n: usize,
+        k: usize,
+        answer: Answer,
+    ) -> Reply
+        requires { ⌜ n ≤ 256 ⌝ }
+        ensures { λ r. ⌜ TakesTable self (Filed (now (high .entry)) (now (low .entry)) sets n k) answer r ⌝ }
+    {
+        match answer {
+            Answer::Done => {
+                let rows = slots(high, low, n);
+                let session = Session {
+                    rows,
+                    row_count: n,
+                    sets,
+                    set_count: k,
+                    ..self
+                };
+                Reply { session, answer }
+            }
+            Answer::Wrote(_) => Reply {
+                session: self,
+                answer,
+            },
+            Answer::Refused(_, _) => Reply {
+                session: self,
+                answer,
+            },
+        }
+    }
+
+    // The batch into the table of an open session.
     fn load_open(self, batch: &[u8]) -> Reply
-        requires { ⌜ (self .«row_count» ≤ 256) × (self .«set_count» ≤ 64) ⌝ }
-        ensures { λ r. ⌜ KeepsOpen self (load (now (batch .entry))) r ⌝ }
+        requires { ⌜ Ranged self ⌝ }
+        ensures { λ r. ⌜ KeepsIn (At State.Open) self (load (now (batch .entry))) [] [] r ⌝ }
     {
         let keys = self.keys();
         let mut high = keys.high;
         let mut low = keys.low;
-        let mut words = self.sets;
+        let mut sets = self.sets;
         let n = self.row_count;
         let k = self.set_count;
-        let loaded = table::load_rows(&mut high, &mut low, &mut words, n, k, batch);
-        let outcome = loaded.outcome;
-        match outcome {
-            Outcome::Done => {
-                let rows = slots(&high, &low, loaded.rows);
-                let session = self.with_rows(rows, loaded.rows, words, loaded.sets);
-                let answer = Answer::Done;
-                Reply { session, answer }
-            }
-            Outcome::Refused(number, place) => {
-                let answer = Answer::Refused(number, place);
-                Reply {
-                    session: self,
-                    answer,
-                }
-            }
-        }
+        let loaded = table::load_rows(&mut high, &mut low, &mut sets, n, k, batch);
+        let answer = loaded.answer;
+        self.take_table(&high, &low, sets, loaded.rows, loaded.sets, answer)
     }
 
-    // The batch out of the table of an open session: all its rows or none.
+    // The batch out of the table of an open session.
     fn withdraw_open(self, batch: &[u8]) -> Reply
-        requires { ⌜ (self .«row_count» ≤ 256) × (self .«set_count» ≤ 64) ⌝ }
-        ensures { λ r. ⌜ KeepsOpen self (withdraw (now (batch .entry))) r ⌝ }
+        requires { ⌜ Ranged self ⌝ }
+        ensures { λ r. ⌜ KeepsIn (At State.Open) self (withdraw (now (batch .entry))) [] [] r ⌝ }
     {
         let keys = self.keys();
         let mut high = keys.high;
         let mut low = keys.low;
         let n = self.row_count;
         let left = table::withdraw_rows(&mut high, &mut low, n, batch);
-        let outcome = left.outcome;
-        match outcome {
-            Outcome::Done => {
-                let found = table::collect_sets(&high, &low, left.rows);
-                let words = found.words;
-                let rows = slots(&high, &low, left.rows);
-                let session = self.with_rows(rows, left.rows, words, found.count);
-                let answer = Answer::Done;
-                Reply { session, answer }
-            }
-            Outcome::Refused(number, place) => {
-                let answer = Answer::Refused(number, place);
-                Reply {
-                    session: self,
-                    answer,
-                }
-            }
-        }
+        let found = table::collect_sets(&high, &low, left.rows);
+        let sets = found.words;
+        let answer = left.answer;
+        self.take_table(&high, &low, sets, left.rows, found.count, answer)
     }
 
     // Load: the rows of the batch stand then too.
     pub fn load(self, batch: &[u8]) -> Reply
-        ensures { λ r. ⌜ Keeps self (load (now (batch .entry))) r ⌝ }
+        ensures { λ r. ⌜ Keeps self (load (now (batch .entry))) [] [] r ⌝ }
     {
-        let row_count = self.row_count;
-        let set_count = self.set_count;
-        if !in_range(row_count, set_count) {
-            return self.refuse(24);
-        }
-        let phase = self.phase;
-        match phase {
-            Phase::Open => self.load_open(batch),
-            Phase::Running => self.refuse(1),
-            Phase::Settled(_) => self.refuse(1),
+        match self.state() {
+            State::Foreign => self.refuse(24),
+            State::Open => self.load_open(batch),
+            State::Running => self.refuse(1),
+            State::Settled(_) => self.refuse(1),
         }
     }
 
     // Withdraw: the rows of the batch stand no more.
     pub fn withdraw(self, batch: &[u8]) -> Reply
-        ensures { λ r. ⌜ Keeps self (withdraw (now (batch .entry))) r ⌝ }
+        ensures { λ r. ⌜ Keeps self (withdraw (now (batch .entry))) [] [] r ⌝ }
     {
-        let row_count = self.row_count;
-        let set_count = self.set_count;
-        if !in_range(row_count, set_count) {
-            return self.refuse(24);
-        }
-        let phase = self.phase;
-        match phase {
-            Phase::Open => self.withdraw_open(batch),
-            Phase::Running => self.refuse(1),
-            Phase::Settled(_) => self.refuse(1),
+        match self.state() {
+            State::Foreign => self.refuse(24),
+            State::Open => self.withdraw_open(batch),
+            State::Running => self.refuse(1),
+            State::Settled(_) => self.refuse(1),
         }
     }
 }

@@ -1,20 +1,18 @@
 // The call print.
-use crate::Answer;
 use crate::Reply;
 use crate::Session;
-use crate::replies::in_range;
-use machine::Phase;
+use crate::State;
 use machine::Verdict;
-use printing::Printed;
-ghost use Prim.Native.Nat.{_≤_};
+ghost use lib.ListN.{length};
 ghost use Rattle.machine.specs.Calls.{print};
-ghost use Rattle.session.specs.Promise.{Writes, WritesSettled};
+ghost use Rattle.session.specs.Promise.{Ranged, At, Keeps, KeepsIn};
 
 impl Session {
     // The sheet of a settled session.
     fn print_settled(self, v: Verdict, buffer: &mut [u8]) -> Reply
-        requires { ⌜ (self .«row_count» ≤ 256) × (self .«set_count» ≤ 64) ⌝ }
-        ensures { λ r. ⌜ WritesSettled self v print (now (buffer .entry)) (now (buffer .exit)) r ⌝ }
+        requires { ⌜ Ranged self ⌝ }
+        ensures { λ r. ⌜ KeepsIn (At (State.Settled v)) self (print (length (now (buffer .entry))))
+            (now (buffer .entry)) (now (buffer .exit)) r ⌝ }
     {
         let words = self.sets;
         let n = self.row_count;
@@ -22,34 +20,25 @@ impl Session {
         let keys = self.keys();
         let high = keys.high;
         let low = keys.low;
-        let a = automaton::of_keys(&high, &low, n, &words, k);
+        let a = self.automaton();
         let kept = self.kept();
-        match printing::print(buffer, v, &high, &low, n, &words, k, a, kept) {
-            Printed::Wrote(len) => {
-                let answer = Answer::Wrote(len);
-                Reply {
-                    session: self,
-                    answer,
-                }
-            }
-            Printed::Short => self.refuse(12),
+        let answer = printing::print(buffer, v, &high, &low, n, &words, k, a, kept);
+        Reply {
+            session: self,
+            answer,
         }
     }
 
     // Print: the sheet into the buffer, when settled; nothing where the buffer is too short.
     pub fn print(self, buffer: &mut [u8]) -> Reply
-        ensures { λ r. ⌜ Writes self print (now (buffer .entry)) (now (buffer .exit)) r ⌝ }
+        ensures { λ r. ⌜ Keeps self (print (length (now (buffer .entry))))
+            (now (buffer .entry)) (now (buffer .exit)) r ⌝ }
     {
-        let row_count = self.row_count;
-        let set_count = self.set_count;
-        if !in_range(row_count, set_count) {
-            return self.refuse(24);
-        }
-        let phase = self.phase;
-        match phase {
-            Phase::Open => self.refuse(9),
-            Phase::Running => self.refuse(11),
-            Phase::Settled(v) => self.print_settled(v, buffer),
+        match self.state() {
+            State::Foreign => self.refuse(24),
+            State::Open => self.refuse(9),
+            State::Running => self.refuse(11),
+            State::Settled(v) => self.print_settled(v, buffer),
         }
     }
 }

@@ -1,23 +1,35 @@
-// What calls hand back, and which records they act on.
-use crate::Answer;
+// The gate at the head of every call, and what a refusal hands back.
 use crate::Reply;
 use crate::Session;
+use crate::State;
+use machine::Answer;
+use machine::Phase;
 ghost use mathlib.Core.Path.{_≡_};
-ghost use Rattle.session.specs.declared.Answer.the-variants.{Refused};
-ghost use Rattle.session.specs.Standing.{in-range, reply};
-
-// Whether the counts are within the arrays.
-pub(crate) fn in_range(row_count: usize, set_count: usize) -> bool
-    ensures { λ r. ⌜ r ≡ in-range «row_count» «set_count» ⌝ }
-{
-    if row_count <= 256 {
-        set_count <= 64
-    } else {
-        false
-    }
-}
+ghost use Rattle.machine.specs.declared.Answer.the-variants.{Refused};
+ghost use Rattle.session.specs.Promise.{HasState};
+ghost use Rattle.session.specs.Standing.{reply};
 
 impl Session {
+    // What the record is to a call.
+    pub(crate) fn state(self) -> State
+        ensures { λ r. ⌜ HasState self r ⌝ }
+    {
+        let row_count = self.row_count;
+        let set_count = self.set_count;
+        if row_count > 256 {
+            return State::Foreign;
+        }
+        if set_count > 64 {
+            return State::Foreign;
+        }
+        let phase = self.phase;
+        match phase {
+            Phase::Open => State::Open,
+            Phase::Running => State::Running,
+            Phase::Settled(v) => State::Settled(v),
+        }
+    }
+
     // The session as it was, and a refusal without a place.
     pub(crate) fn refuse(self, number: u8) -> Reply
         ensures { λ r. ⌜ r ≡ reply self (Refused number 0) ⌝ }

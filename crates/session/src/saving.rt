@@ -1,16 +1,16 @@
 // The call save.
-use crate::Answer;
 use crate::Reply;
 use crate::Session;
-use crate::replies::in_range;
+use crate::State;
+use machine::Answer;
 use rows::Row;
 ghost use mathlib.Core.Path.{_≡_};
 ghost use Prim.Native.Nat.{_≤_, _+_};
 ghost use lib.ListN.{length};
 ghost use Rattle.lists.specs.Writing.{Wrote, WroteAt};
 ghost use Rattle.rows.specs.Rows.{row-bytes, batch-of};
-ghost use Rattle.machine.specs.Calls.{save};
-ghost use Rattle.session.specs.Promise.{Writes};
+ghost use Rattle.machine.specs.Calls.{save, TellsText};
+ghost use Rattle.session.specs.Promise.{Ranged, Keeps};
 ghost use Rattle.session.specs.Standing.{standing};
 
 // Writes the row's bytes from `at` on, and returns the next place.
@@ -24,7 +24,7 @@ fn row_at(buf: &mut [u8], at: usize, row: Row) -> usize
 impl Session {
     // How many bytes the standing rows have.
     fn saved_len(self) -> usize
-        requires { ⌜ self .«row_count» ≤ 256 ⌝ }
+        requires { ⌜ Ranged self ⌝ }
         ensures { λ r. ⌜ r ≡ length (batch-of (standing self)) ⌝ }
     {
         let n = self.row_count;
@@ -41,7 +41,7 @@ impl Session {
 
     // Writes the standing rows one after another.
     fn write_rows(self, buffer: &mut [u8]) -> usize
-        requires { ⌜ (self .«row_count» ≤ 256) × (length (batch-of (standing self)) ≤ length (now buffer)) ⌝ }
+        requires { ⌜ Ranged self × (length (batch-of (standing self)) ≤ length (now buffer)) ⌝ }
         ensures { λ r. ⌜ Wrote (batch-of (standing self)) (now (buffer .entry)) (now (buffer .exit)) r ⌝ }
     {
         let n = self.row_count;
@@ -56,24 +56,33 @@ impl Session {
         at
     }
 
-    // The standing rows into the buffer, in any phase; nothing where the buffer is too short.
-    pub fn save(self, buffer: &mut [u8]) -> Reply
-        ensures { λ r. ⌜ Writes self save (now (buffer .entry)) (now (buffer .exit)) r ⌝ }
+    // The standing rows into the buffer; nothing where the buffer is too short.
+    fn save_rows(self, buffer: &mut [u8]) -> Answer
+        requires { ⌜ Ranged self ⌝ }
+        ensures { λ r. ⌜ TellsText (batch-of (standing self)) (now (buffer .entry)) (now (buffer .exit)) r ⌝ }
     {
-        let row_count = self.row_count;
-        let set_count = self.set_count;
-        if !in_range(row_count, set_count) {
-            return self.refuse(24);
-        }
         let len = self.saved_len();
         if buffer.len() < len {
-            return self.refuse(12);
+            return Answer::Refused(12, 0);
         }
         let wrote = self.write_rows(buffer);
-        let answer = Answer::Wrote(wrote);
-        Reply {
-            session: self,
-            answer,
+        Answer::Wrote(wrote)
+    }
+
+    // Save: the standing rows, in any phase.
+    pub fn save(self, buffer: &mut [u8]) -> Reply
+        ensures { λ r. ⌜ Keeps self (save (length (now (buffer .entry))))
+            (now (buffer .entry)) (now (buffer .exit)) r ⌝ }
+    {
+        match self.state() {
+            State::Foreign => self.refuse(24),
+            State::Open | State::Running | State::Settled(_) => {
+                let answer = self.save_rows(buffer);
+                Reply {
+                    session: self,
+                    answer,
+                }
+            }
         }
     }
 }

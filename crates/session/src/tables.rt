@@ -1,16 +1,14 @@
-// The fresh session; the table of a session as arrays of keys, its automaton, and a session with another table.
+// The fresh session; the table of a session as arrays of keys, and its automaton.
 use crate::Keys;
 use crate::Session;
 use crate::Slot;
 use automaton::Automaton;
 use machine::Phase;
 use rows::Row;
-ghost use mathlib.Core.Path.{_≡_};
 ghost use Prim.Native.Nat.{_≤_};
 ghost use Rattle.table.specs.Arrays.{Keyed};
-ghost use Rattle.session.specs.Automaton.{Reads};
-ghost use Rattle.session.specs.Promise.{Fresh};
-ghost use Rattle.session.specs.Standing.{standing, with-table, Slotted};
+ghost use Rattle.session.specs.Promise.{Fresh, Ranged};
+ghost use Rattle.session.specs.Standing.{standing, Slotted, Reads};
 
 // The rows of the first `n` keys, and then the filler.
 pub(crate) fn slots(high: &[u64; 256], low: &[u64; 256], n: usize) -> [Slot; 256]
@@ -56,7 +54,7 @@ impl Session {
 
     // The keys of the standing rows.
     pub(crate) fn keys(self) -> Keys
-        requires { ⌜ self .«row_count» ≤ 256 ⌝ }
+        requires { ⌜ Ranged self ⌝ }
         ensures { λ r. ⌜ Keyed (standing self) (r .high) (r .low) (self .«row_count») ⌝ }
     {
         let n = self.row_count;
@@ -75,7 +73,7 @@ impl Session {
 
     // The automaton of the standing rows.
     pub(crate) fn automaton(self) -> Automaton
-        requires { ⌜ (self .«row_count» ≤ 256) × (self .«set_count» ≤ 64) ⌝ }
+        requires { ⌜ Ranged self ⌝ }
         ensures { λ r. ⌜ Reads self r ⌝ }
     {
         let words = self.sets;
@@ -85,24 +83,5 @@ impl Session {
         let high = keys.high;
         let low = keys.low;
         automaton::of_keys(&high, &low, n, &words, k)
-    }
-
-    // The session with another table.
-    pub(crate) fn with_rows(
-        self,
-        rows: [Slot; 256],
-        row_count: usize,
-        sets: [u64; 64],
-        set_count: usize,
-    ) -> Session
-        ensures { λ r. ⌜ r ≡ with-table self rows «row_count» sets «set_count» ⌝ }
-    {
-        Session {
-            rows,
-            row_count,
-            sets,
-            set_count,
-            ..self
-        }
     }
 }

@@ -7,10 +7,10 @@ use Rattle.rows.specs.declared.Row.{Row}
 use Rattle.rows.specs.Rows.{sets}
 use Rattle.rows.specs.Keys.{high, low}
 use Rattle.rows.specs.Batch.{Fed, fed, failed, feed}
+use Rattle.machine.specs.declared.Answer.{Answer}
+use Rattle.machine.specs.declared.Answer.the-variants.{Done, Refused}
 use Rattle.machine.specs.Machine.{load-row, withdraw-row}
 use Rattle.machine.specs.WellFormed.{Table}
-use Rattle.table.specs.declared.Outcome.{Outcome}
-use Rattle.table.specs.declared.Outcome.the-variants.{Done, Refused}
 
 -- a list filled up to n with x
 abbrev pub padded : {A : Type 0} → ℕ → A → List A → List A
@@ -32,13 +32,13 @@ abbrev pub Filed : List ℕ → List ℕ → List ℕ → ℕ → ℕ → List R
 Filed high low words n k rows = Keyed rows high low n × Worded rows words k
 
 -- what a batch comes to: the arrays then hold the rows that it leads to, or the first row that fails gives its number and its place
-abbrev pub Comes : (List Row → Type 0) → Fed (List Row) → Outcome → Type 0
-Comes Holds (fed rows) r = (r ≡ Done) × Table rows × Holds rows
-Comes Holds (failed n place) r = r ≡ Refused n place
+abbrev pub Comes : (List Row → Type 0) → Fed (List Row) → Answer → Type 0
+Comes Has (fed rows) r = (r ≡ Done) × Table rows × Has rows
+Comes Has (failed n place) r = r ≡ Refused n place
 
 -- a batch loaded into the table that the arrays held, and one withdrawn from it
-abbrev pub Loads : List Row → List ℕ → (List Row → Type 0) → Outcome → Type 0
-Loads rows batch Holds r = Comes Holds (feed load-row rows batch) r
+abbrev pub Loads : List Row → List ℕ → (List Row → Type 0) → Answer → Type 0
+Loads rows batch Has r = Comes Has (feed load-row rows batch) r
 
-abbrev pub Withdraws : List Row → List ℕ → (List Row → Type 0) → Outcome → Type 0
-Withdraws rows batch Holds r = Comes Holds (feed withdraw-row rows batch) r
+abbrev pub Withdraws : List Row → List ℕ → (List Row → Type 0) → Answer → Type 0
+Withdraws rows batch Has r = Comes Has (feed withdraw-row rows batch) r

@@ -4,8 +4,9 @@ use native.Mathlib.Omega.{arith}
 use mathlib.Core.Path.{_≡_, ap, subst}
 use lib.ListN.{length}
 use Rattle.machine.specs.Program.{refusal-line}
+use Rattle.rows.proofs.Reading.{all-bytes}
 use Rattle.checker.specs.Promise.{Checks}
-use Rattle.checker.proofs.Outcomes.{bytes, refusal-short, kept-buffer, shows-short, shows-long, shows-done, shows-wrote, shows-refused}
+use Rattle.checker.proofs.Outcomes.{refusal-short, kept-buffer, shows-short, shows-long, shows-done, shows-wrote, shows-refused}
 use borrow.Author.Needs.{needs}
 use Rattle.checker.proofs.show.Statement.{statement}
 use Rattle.checker.proofs.show.Tie as tie
@@ -68,7 +69,7 @@ returns-3 c =
     let k = c .before .before .before .before in
     let known = k .before .before .before .before .before in
     let a = known .before .args in
-    shows-done (a .input .now) (a .out .now) (bytes (a .input .now) (λ i. omega (arith, known .shared-slice-known .given i))) (omega arith) (omega arith) _
+    shows-done (a .input .now) (a .out .now) (all-bytes (a .input .now) (λ i. omega (arith, known .shared-slice-known .given i))) (omega arith) (omega arith) _
     (subst (λ r. Checks (a .input .now) (a .out .now) (k .check .last .1 .0) r) (c .enum-told .given .1) (k .check .ensures))
 
 same-length-3 : tie.Need-same-length-3
@@ -80,7 +81,7 @@ returns-4 c =
     let k = o .before .before .before .before in
     let known = k .before .before .before .before .before in
     let a = known .before .args in
-    shows-wrote (a .input .now) (a .out .now) (bytes (a .input .now) (λ i. omega (arith, known .shared-slice-known .given i))) (omega arith) (omega arith) _ _
+    shows-wrote (a .input .now) (a .out .now) (all-bytes (a .input .now) (λ i. omega (arith, known .shared-slice-known .given i))) (omega arith) (omega arith) _ _
     (subst (λ r. Checks (a .input .now) (a .out .now) (k .check .last .1 .0) r) (o .n .given .1) (k .check .ensures))
 
 same-length-4 : tie.Need-same-length-4
@@ -93,7 +94,7 @@ returns-5 c =
     let k = o .before .before .before .before in
     let known = k .before .before .before .before .before in
     let a = known .before .args in
-    shows-refused (a .input .now) (a .out .now) (bytes (a .input .now) (λ i. omega (arith, known .shared-slice-known .given i))) (omega arith) (omega arith)
+    shows-refused (a .input .now) (a .out .now) (all-bytes (a .input .now) (λ i. omega (arith, known .shared-slice-known .given i))) (omega arith) (omega arith)
     (o .n2 .given .0 .0) (o .n2 .given .0 .1 .0) (k .check .last .1 .0) _ _
     (subst (λ r. Checks (a .input .now) (a .out .now) (k .check .last .1 .0) r) (o .n2 .given .1) (k .check .ensures)) (w .put-refusal-line .ensures)
 

@@ -3,61 +3,46 @@ use Rattle.ffi.proofs.Calling.{called-done, called-wrote, called-refuse
 use borrow.Author.Needs.{needs}
 use Rattle.ffi.proofs.gozhmerik_sheet.Statement.{statement}
 use Rattle.ffi.proofs.gozhmerik_sheet.Tie as tie
-use Rattle.ffi.proofs.gozhmerik_sheet.Reads as reads
-use Rattle.ffi.proofs.gozhmerik_sheet.Lts as lts
-use Rattle.checker.proofs.check.Reads as check-reads
 
--- src/lib.rt:11:11
 check-requires : tie.Need-check-requires
 check-requires c κs = search needs
 
--- src/lib.rt:12:25
 enum-told : tie.Need-enum-told
 enum-told c = search needs
 
--- src/lib.rt:13:23
 enum-known-n : tie.Need-enum-known-n
 enum-known-n c = search needs
 
--- src/lib.rt:14:25
 enum-known-number : tie.Need-enum-known-number
 enum-known-number c = search needs
 
--- src/lib.rt:16:13
 cast-result : tie.Need-cast-result
 cast-result c = search needs
 
--- src/lib.rt:16:13
 mul-result : tie.Need-mul-result
 mul-result c = search needs
 
--- src/lib.rt:7:1
 same-length : tie.Need-same-length
 same-length c = search needs
 
--- src/lib.rt:7:1
 returns : tie.Need-returns
 returns c =
     let k = c .before .before .before .before in
     let a = k .before .before .before .before .args in
     called-done (a .batch .now) (a .sheet .now) (k .check .last .1 .0) (a .place .now) (k .check .result) (k .check .ensures) (c .enum-told .given .1)
 
--- src/lib.rt:7:1
 same-length-2 : tie.Need-same-length-2
 same-length-2 c = search needs
 
--- src/lib.rt:7:1
 returns-2 : tie.Need-returns-2
 returns-2 c =
     let k = c .before .before .before .before .before in
     let a = k .before .before .before .before .args in
     called-wrote (a .batch .now) (a .sheet .now) (k .check .last .1 .0) (a .place .now) (k .check .result) (k .check .ensures) (c .before .n .given .0 .0) (c .before .n .given .1)
 
--- src/lib.rt:7:1
 same-length-3 : tie.Need-same-length-3
 same-length-3 c = search needs
 
--- src/lib.rt:7:1
 returns-3 : tie.Need-returns-3
 returns-3 c =
     let k = c .before .before .before .before .before in

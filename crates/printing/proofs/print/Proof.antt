@@ -1,7 +1,7 @@
 -- `print` meets its contract: by verdict.
 use mathlib.Core.Path.{sym, subst}
 use Rattle.machine.specs.declared.Verdict.{Verdict}
-use Rattle.printing.specs.Promise.{Prints}
+use Rattle.printing.specs.Promise.{PrintsSheet}
 use Rattle.printing.proofs.Printing.{prints-empty, prints-nonempty}
 use borrow.Author.Needs.{needs}
 use Rattle.printing.proofs.print.Statement.{statement}
@@ -33,7 +33,7 @@ returns c =
     let a = e .before .before .before .args in
     let new = p .print-nonempty .last .0 in
     let r = p .print-nonempty .result in
-    subst (λ (v : Verdict). Prints v (a .high .now) (a .low .now) (a .n) (a .words .now) (a .k) (a .a) (a .rounds) (a .buffer .now) new r) (sym (e .enum-told .given .1))
+    subst (λ (v : Verdict). PrintsSheet v (a .high .now) (a .low .now) (a .n) (a .words .now) (a .k) (a .a) (a .rounds) (a .buffer .now) new r) (sym (e .enum-told .given .1))
     (prints-nonempty (a .high .now) (a .low .now) (a .n) (a .words .now) (a .k) (a .a) (a .rounds) (a .buffer .now) new r (w .first-walk .result) (w .first-walk .ensures .1) (p .print-nonempty .ensures))
 
 same-length-2 : tie.Need-same-length-2
@@ -46,7 +46,7 @@ returns-2 c =
     let a = e .before .before .before .args in
     let new = p .print-empty .last .0 in
     let r = p .print-empty .result in
-    subst (λ (v : Verdict). Prints v (a .high .now) (a .low .now) (a .n) (a .words .now) (a .k) (a .a) (a .rounds) (a .buffer .now) new r) (sym (e .enum-told2 .given .1))
+    subst (λ (v : Verdict). PrintsSheet v (a .high .now) (a .low .now) (a .n) (a .words .now) (a .k) (a .a) (a .rounds) (a .buffer .now) new r) (sym (e .enum-told2 .given .1))
     (prints-empty (a .high .now) (a .low .now) (a .n) (a .words .now) (a .k) (a .a) (a .rounds) (a .buffer .now) new r (p .print-empty .ensures))
 
 pub print-spec : {M : Type 1} → statement M

@@ -1,8 +1,8 @@
 -- `print_nonempty` meets its contract, with a buffer that is too short, and with one that is long enough.
-use mathlib.Core.Path.{refl}
 use native.Mathlib.Omega.{arith}
 use Rattle.machine.specs.declared.Verdict.the-variants.{NonEmpty}
-use Rattle.printing.specs.Text.{head-text}
+use Rattle.machine.proofs.Answers.{tells-text, tells-short}
+use Rattle.printing.specs.Text.{head-text, walked-text}
 use Rattle.printing.proofs.Printing.{walked-length, walked-wrote}
 use borrow.Author.Needs.{needs}
 use Rattle.printing.proofs.print_nonempty.Statement.{statement}
@@ -22,7 +22,8 @@ returns c =
     let l = c .before in
     let h = l .before in
     let a = h .before .before .args in
-    (omega (arith, h .head-len .ensures .0, l .walk-len .ensures .0, walked-length (a .words .now) (a .k) (a .rounds) (a .walk), c .if1 .taken), refl)
+    tells-short (walked-text (a .words .now) (a .k) (a .rounds) (a .walk)) (a .buffer .now)
+    (omega (arith, h .head-len .ensures .0, l .walk-len .ensures .0, walked-length (a .words .now) (a .k) (a .rounds) (a .walk), c .if1 .taken))
 
 put-head-requires : tie.Need-put-head-requires
 put-head-requires c κs = search needs
@@ -40,10 +41,11 @@ returns-2 c =
     let e = p .before .before in
     let l = e .before in
     let h = l .before in
-    let a = h .before .before .args in (
-      omega (arith, h .head-len .ensures .0, l .walk-len .ensures .0, walked-length (a .words .now) (a .k) (a .rounds) (a .walk), e .if1 .left),
-      walked-wrote (a .words .now) (a .k) (a .rounds) (a .walk) (a .buffer .now) (w .walk-at .last .0) (w .walk-at .ensures .follows (head-text NonEmpty (a .words .now) (a .k) (a .rounds)) (a .buffer .now) (p .put-head .ensures)),
-    )
+    let a = h .before .before .args in
+    tells-text (walked-text (a .words .now) (a .k) (a .rounds) (a .walk)) (a .buffer .now)
+    (omega (arith, h .head-len .ensures .0, l .walk-len .ensures .0, walked-length (a .words .now) (a .k) (a .rounds) (a .walk), e .if1 .left))
+    (walked-wrote (a .words .now) (a .k) (a .rounds) (a .walk) (a .buffer .now) (w .walk-at .last .0)
+    (w .walk-at .ensures .follows (head-text NonEmpty (a .words .now) (a .k) (a .rounds)) (a .buffer .now) (p .put-head .ensures)))
 
 pub print-nonempty-spec : {M : Type 1} → statement M
 print-nonempty-spec =

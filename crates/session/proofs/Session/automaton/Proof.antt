@@ -1,5 +1,5 @@
 -- `automaton` meets its contract: the keys and the sets are those of the machine's rows.
-use Rattle.session.proofs.Printed.{gives-of}
+use Rattle.session.proofs.Printed.{reads-of}
 use borrow.Author.Needs.{needs}
 use Rattle.session.proofs.Session.automaton.Statement.{statement}
 use Rattle.session.proofs.Session.automaton.Tie as tie
@@ -11,10 +11,10 @@ of-keys-requires : tie.Need-of-keys-requires
 of-keys-requires c κs = search needs
 
 returns : tie.Need-returns
-returns c m p =
+returns c =
     let k = c .before .before .before .before .before .before in
     let s = k .before .before .args .self in
-    gives-of m s p (k .keys .result .high) (k .keys .result .low) (k .keys .ensures) (c .of-keys .result) (c .of-keys .ensures)
+    reads-of s (k .keys .result .high) (k .keys .result .low) (k .keys .ensures) (c .of-keys .result) (c .of-keys .ensures)
 
 pub automaton-spec : {M : Type 1} → statement M
 automaton-spec = tie.close (tie.spec keys-requires of-keys-requires returns)

@@ -10,15 +10,14 @@ automaton-requires c κs = search needs
 close-requires : tie.Need-close-requires
 close-requires c κs = search needs
 
-with-rounds-requires : tie.Need-with-rounds-requires
-with-rounds-requires c κs = search needs
+done-with-requires : tie.Need-done-with-requires
+done-with-requires c κs = search needs
 
 returns : tie.Need-returns
 returns c =
-    let done = c .before in
-    let a = done .before .before .before .before .before .before .before .before in
-    close-done (a .before .before .args .self) (a .automaton .result) (done .close .result) (c .with-rounds .result) (a .automaton .ensures) (done .close .ensures) (c .with-rounds .ensures)
+    let d = c .before in
+    let a = d .before .before .before .before .before .before .before .before in
+    close-done (a .before .before .args .self) (a .automaton .result) (a .automaton .ensures) (d .close .result) (c .done-with .ensures) (d .close .ensures)
 
 pub close-open-spec : {M : Type 1} → statement M
-close-open-spec =
-    tie.close (tie.spec automaton-requires close-requires with-rounds-requires returns)
+close-open-spec = tie.close (tie.spec automaton-requires close-requires done-with-requires returns)

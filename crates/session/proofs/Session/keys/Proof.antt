@@ -58,7 +58,7 @@ loop-again c =
     let h = c .before .before .before .before in
     let l = h .before .args .t1 .rows in
     let i = h .loop .i in
-    let t : i < 256 = omega (arith, h .before .pre, c .before .before .before .loop-test .taken) in (
+    let t : i < 256 = omega (arith, h .before .pre .few, c .before .before .before .loop-test .taken) in (
       omega arith,
       length-set (h .loop .high) i (c .before .high-of .result) ∙ h .loop .inv .1,
       length-set (h .loop .low) i (c .low-of .result) ∙ h .loop .inv .2,

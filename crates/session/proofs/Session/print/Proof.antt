@@ -1,54 +1,61 @@
--- `print` meets its contract: on a record out of range, and of a session that is open, running or settled.
-use mathlib.Core.Path.{sym, _∙_}
-use borrow.Author.Tests.{not-true, not-false}
+-- `print` meets its contract, by the state of the session.
+use lib.ListN.{length}
+use Rattle.machine.specs.declared.Phase.the-variants.{Open, Running}
 use Rattle.machine.specs.Calls.{print}
-use Rattle.session.proofs.Whole.{counts-in, writes-free}
-use Rattle.session.proofs.Printed.{prints-open, prints-running, prints-settled}
+use Rattle.machine.specs.Causes.{printing}
+use Rattle.session.proofs.Gate.{meets, in-range, serves, free, refuses, still-open, print-running}
 use borrow.Author.Needs.{needs}
 use Rattle.session.proofs.Session.print.Statement.{statement}
 use Rattle.session.proofs.Session.print.Tie as tie
 
-in-range-requires : tie.Need-in-range-requires
-in-range-requires c κs = search needs
-
-refuse-requires : tie.Need-refuse-requires
-refuse-requires c κs = search needs
-
-returns : tie.Need-returns
-returns c =
-    let a = c .before .before .before .before .args in
-    writes-free (a .self) print (a .buffer .now) (a .buffer .now) (c .refuse .result) (sym (c .before .before .in-range .ensures) ∙ not-true _ (c .before .if1 .taken))
+state-requires : tie.Need-state-requires
+state-requires c κs = search needs
 
 enum-told : tie.Need-enum-told
 enum-told c = search needs
 
-refuse-requires-2 : tie.Need-refuse-requires-2
-refuse-requires-2 c κs = search needs
+refuse-requires : tie.Need-refuse-requires
+refuse-requires c κs = search needs
 
 enum-told-2 : tie.Need-enum-told-2
 enum-told-2 c = search needs
 
+refuse-requires-2 : tie.Need-refuse-requires-2
+refuse-requires-2 c κs = search needs
+
+enum-told-3 : tie.Need-enum-told-3
+enum-told-3 c = search needs
+
 refuse-requires-3 : tie.Need-refuse-requires-3
 refuse-requires-3 c κs = search needs
 
-enum-known-phase : tie.Need-enum-known-phase
-enum-known-phase c = search needs
+enum-known-v : tie.Need-enum-known-v
+enum-known-v c = search needs
 
 print-settled-requires : tie.Need-print-settled-requires
 print-settled-requires c κs =
-    let e = c .before .before .before .before in
-    let s = e .before .before .before .args .self in
-    counts-in (s .«row_count») (s .«set_count») (sym (e .before .in-range .ensures) ∙ not-false _ (e .if1 .left))
+    let v = c .before .before in
+    let t = v .before .before in
+    in-range (t .before .before .args .self) (t .state .ensures) (v .v .given .1)
+
+returns : tie.Need-returns
+returns c =
+    let t = c .before .before .before in
+    free (meets (t .before .before .args .self) (t .state .ensures) (c .before .enum-told .given .1))
 
 returns-2 : tie.Need-returns-2
 returns-2 c =
-    let a = c .before .before .before .before .before .before .args in
-    rw (c .refuse2 .ensures) (prints-open (a .self) (a .buffer .now) (c .before .enum-told .given .1))
+    let t = c .before .before .before in
+    let a = t .before .before .args in
+    let size = length (a .buffer .now) in
+    refuses (a .self) Open (meets (a .self) (t .state .ensures) (c .before .enum-told2 .given .1)) (print size) 9 (still-open (printing size)) (a .buffer .now) (c .refuse2 .ensures)
 
 returns-3 : tie.Need-returns-3
 returns-3 c =
-    let a = c .before .before .before .before .before .before .args in
-    rw (c .refuse3 .ensures) (prints-running (a .self) (a .buffer .now) (c .before .enum-told2 .given .1))
+    let t = c .before .before .before in
+    let a = t .before .before .args in
+    let size = length (a .buffer .now) in
+    refuses (a .self) Running (meets (a .self) (t .state .ensures) (c .before .enum-told3 .given .1)) (print size) 11 (print-running size) (a .buffer .now) (c .refuse3 .ensures)
 
 same-length : tie.Need-same-length
 same-length c = search needs
@@ -56,23 +63,24 @@ same-length c = search needs
 returns-4 : tie.Need-returns-4
 returns-4 c =
     let w = c .before .before in
-    let p = w .before .before .before in
-    let a = p .before .before .before .before .before .args in
-    prints-settled (a .self) (p .phase .given .0 .0) (a .buffer .now) (w .print-settled .last .1 .1 .0) (w .print-settled .result) (w .print-settled .ensures) (p .phase .given .1)
+    let v = w .before .before .before in
+    let t = v .before .before in
+    serves (t .before .before .args .self) (t .state .ensures) (v .v .given .1) (w .print-settled .ensures)
 
 pub print-spec : {M : Type 1} → statement M
 print-spec =
     tie.close
     (tie.spec
-    in-range-requires
-    refuse-requires
-    returns
+    state-requires
     enum-told
-    refuse-requires-2
+    refuse-requires
     enum-told-2
+    refuse-requires-2
+    enum-told-3
     refuse-requires-3
-    enum-known-phase
+    enum-known-v
     print-settled-requires
+    returns
     returns-2
     returns-3
     same-length

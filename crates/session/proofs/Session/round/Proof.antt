@@ -1,85 +1,90 @@
--- `round` meets its contract: on a record out of range, and of a session that is open, running or settled.
-use mathlib.Core.Path.{sym, _∙_}
-use borrow.Author.Tests.{not-true, not-false}
+-- `round` meets its contract, by the state of the session. A machine that runs has done fewer than 129 rounds.
+use mathlib.Core.List.{[]}
+use Rattle.machine.specs.declared.Phase.the-variants.{Open, Settled}
 use Rattle.machine.specs.Calls.{round}
 use Rattle.machine.specs.Causes.{rounding}
-use Rattle.session.proofs.Whole.{counts-in, keeps-free}
-use Rattle.session.proofs.Phases.{keeps-open-still, keeps-settled, keeps-last, keeps-running}
+use Rattle.session.proofs.Gate.{meets, in-range, serves, free, refuses, still-open, round-settled}
+use Rattle.session.proofs.Phases.{never-past}
 use borrow.Author.Needs.{needs}
 use Rattle.session.proofs.Session.round.Statement.{statement}
 use Rattle.session.proofs.Session.round.Tie as tie
 
-in-range-requires : tie.Need-in-range-requires
-in-range-requires c κs = search needs
-
-refuse-requires : tie.Need-refuse-requires
-refuse-requires c κs = search needs
-
-returns : tie.Need-returns
-returns c =
-    let a = c .before .before .before .args in
-    keeps-free (a .self) round (c .refuse .result) (sym (c .before .before .in-range .ensures) ∙ not-true _ (c .before .if1 .taken))
+state-requires : tie.Need-state-requires
+state-requires c κs = search needs
 
 enum-told : tie.Need-enum-told
 enum-told c = search needs
 
-refuse-requires-2 : tie.Need-refuse-requires-2
-refuse-requires-2 c κs = search needs
+refuse-requires : tie.Need-refuse-requires
+refuse-requires c κs = search needs
 
 enum-told-2 : tie.Need-enum-told-2
 enum-told-2 c = search needs
 
-round-running-requires : tie.Need-round-running-requires
-round-running-requires c κs =
-    let t = c .before .before .before .before in
-    let s = t .before .args .self in
-    let h = counts-in (s .«row_count») (s .«set_count») (sym (t .in-range .ensures) ∙ not-false _ (c .before .before .before .if1 .left)) in
-    (h .0, h .1, c .if2 .taken)
-
-refuse-requires-3 : tie.Need-refuse-requires-3
-refuse-requires-3 c κs = search needs
+refuse-requires-2 : tie.Need-refuse-requires-2
+refuse-requires-2 c κs = search needs
 
 enum-told-3 : tie.Need-enum-told-3
 enum-told-3 c = search needs
 
+round-running-requires : tie.Need-round-running-requires
+round-running-requires c κs =
+    let t = c .before .before .before in
+    (in-range (t .before .args .self) (t .state .ensures) (c .before .enum-told3 .given .1), c .if1 .taken)
+
+refuse-requires-3 : tie.Need-refuse-requires-3
+refuse-requires-3 c κs = search needs
+
+enum-told-4 : tie.Need-enum-told-4
+enum-told-4 c = search needs
+
 refuse-requires-4 : tie.Need-refuse-requires-4
 refuse-requires-4 c κs = search needs
 
+returns : tie.Need-returns
+returns c =
+    let t = c .before .before .before in
+    free (meets (t .before .args .self) (t .state .ensures) (c .before .enum-told .given .1))
+
 returns-2 : tie.Need-returns-2
 returns-2 c =
-    let s = c .before .before .before .before .before .args .self in
-    rw (c .refuse2 .ensures) (keeps-open-still s round rounding (c .before .enum-told .given .1))
+    let t = c .before .before .before in
+    let s = t .before .args .self in
+    refuses s Open (meets s (t .state .ensures) (c .before .enum-told2 .given .1)) round 9 (still-open rounding) [] (c .refuse2 .ensures)
 
 returns-3 : tie.Need-returns-3
 returns-3 c =
-    let s = c .before .before .before .before .before .before .args .self in
-    keeps-running s round (c .round-running .result) (c .round-running .ensures) (c .before .before .enum-told2 .given .1)
+    let t = c .before .before .before .before in
+    serves (t .before .args .self) (t .state .ensures) (c .before .before .enum-told3 .given .1) (c .round-running .ensures)
 
 returns-4 : tie.Need-returns-4
 returns-4 c =
-    let s = c .before .before .before .before .before .before .args .self in
-    rw (c .refuse3 .ensures) (keeps-last s (c .before .before .enum-told2 .given .1) (c .before .if2 .left))
+    let t = c .before .before .before .before in
+    let s = t .before .args .self in
+    free (λ m p. never-past s (c .before .if1 .left) m p (meets s (t .state .ensures) (c .before .before .enum-told3 .given .1) m p))
 
 returns-5 : tie.Need-returns-5
 returns-5 c =
-    let s = c .before .before .before .before .before .args .self in
-    let p = c .before .enum-told3 .given in
-    rw (c .refuse4 .ensures) (keeps-settled s (p .0 .0) (p .1))
+    let t = c .before .before .before in
+    let s = t .before .args .self in
+    let v = c .before .enum-told4 .given .0 .0 in
+    refuses s (Settled v) (meets s (t .state .ensures) (c .before .enum-told4 .given .1)) round 10 (round-settled v) [] (c .refuse4 .ensures)
 
 pub round-spec : {M : Type 1} → statement M
 round-spec =
     tie.close
     (tie.spec
-    in-range-requires
-    refuse-requires
-    returns
+    state-requires
     enum-told
-    refuse-requires-2
+    refuse-requires
     enum-told-2
+    refuse-requires-2
+    enum-told-3
     round-running-requires
     refuse-requires-3
-    enum-told-3
+    enum-told-4
     refuse-requires-4
+    returns
     returns-2
     returns-3
     returns-4

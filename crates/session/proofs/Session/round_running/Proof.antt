@@ -18,24 +18,21 @@ round-requires : tie.Need-round-requires
 round-requires c κs =
     let k = c .before .before .before .before .before .before .before .before in
     let start = k .before .before in
-    (start .pre .1, subst (λ (r : Rounds). r .count < 129) (sym (k .kept .ensures)) (start .pre .2))
+    (start .pre .0 .few-sets, subst (λ (r : Rounds). r .count < 129) (sym (k .kept .ensures)) (start .pre .1))
 
-with-rounds-requires : tie.Need-with-rounds-requires
-with-rounds-requires c κs = search needs
+done-with-requires : tie.Need-done-with-requires
+done-with-requires c κs = search needs
 
 returns : tie.Need-returns
 returns c =
-    let done = c .before in
-    let a = done .before .before .before .before .before .before .before .before in
+    let d = c .before in
+    let a = d .before .before .before .before .before .before .before .before in
     let k = a .before in
-    let start = k .before .before in
-    let s = start .args .self in
+    let s = k .before .before .args .self in
     let m = a .automaton .result in
-    round-done s m (done .round .result) (c .with-rounds .result) (start .pre .2) (a .automaton .ensures)
-    (subst (λ (r : Rounds). DoesRound (m .letters) (s .sets) (m .lefts) (m .rights) (m .initials) (m .finals) (s .«set_count») r (done .round .result)) (k .kept .ensures) (done .round .ensures))
-    (c .with-rounds .ensures)
+    round-done s m (a .automaton .ensures) (d .round .result) (c .done-with .ensures)
+    (subst (λ (r : Rounds). DoesRound (m .letters) (s .sets) (m .lefts) (m .rights) (m .initials) (m .finals) (s .«set_count») r (d .round .result)) (k .kept .ensures) (d .round .ensures))
 
 pub round-running-spec : {M : Type 1} → statement M
 round-running-spec =
-    tie.close
-    (tie.spec kept-requires automaton-requires round-requires with-rounds-requires returns)
+    tie.close (tie.spec kept-requires automaton-requires round-requires done-with-requires returns)

@@ -35,7 +35,7 @@ row-len-requires : tie.Need-row-len-requires Inv-loop μ-loop
 row-len-requires c κs = search needs
 
 add-len : tie.Need-add-len Inv-loop μ-loop
-add-len c = let h = c .before .before .before in omega (arith, h .before .pre, c .row-len .ensures, row-short (getD (h .before .args .t1 .rows) (h .loop .i) blank .row))
+add-len c = let h = c .before .before .before in omega (arith, h .before .pre .few, c .row-len .ensures, row-short (getD (h .before .args .t1 .rows) (h .loop .i) blank .row))
 
 add-i : tie.Need-add-i Inv-loop μ-loop
 add-i c = omega arith
@@ -47,7 +47,7 @@ loop-again : tie.Need-loop-again Inv-loop μ-loop
 loop-again c =
     let h = c .before .before .before in
     let l = h .before .args .t1 .rows in
-    let e : h .loop .i < length l = omega (arith, long (h .before), h .before .pre) in (
+    let e : h .loop .i < length l = omega (arith, long (h .before), h .before .pre .few) in (
       omega arith,
       omega (arith, c .row-len .ensures, row-short (getD l (h .loop .i) blank .row)),
       rw (bytes-more l (h .loop .i) e, length-append) (omega (arith, c .row-len .ensures)),

@@ -35,7 +35,7 @@ row-at-requires c κs =
     let h = c .before .before .before in
     let s = h .before .before in
     let l = s .args .t1 .rows in
-    let w = bytes-within l (h .loop .next) (s .args .t1 .«row_count») (c .before .before .loop-test .taken) (rw (long s) (s .pre .0)) in
+    let w = bytes-within l (h .loop .next) (s .args .t1 .«row_count») (c .before .before .loop-test .taken) (rw (long s) (s .pre .0 .few)) in
     omega (arith, w, s .pre .1, h .loop .inv .1, h .loop .inv .2 .length-is)
 
 add-next : tie.Need-add-next Inv-loop μ-loop
@@ -49,7 +49,7 @@ loop-again c =
     let h = c .before .before .before .before .before .before in
     let s = h .before .before in
     let l = s .args .t1 .rows in
-    let e : h .loop .next < length l = omega (arith, long s, s .pre .0, h .loop .inv .0, c .before .before .before .before .before .loop-test .taken) in (
+    let e : h .loop .next < length l = omega (arith, long s, s .pre .0 .few, h .loop .inv .0, c .before .before .before .before .before .loop-test .taken) in (
       omega arith,
       c .before .before .row-at .kept .0 ∙ h .loop .inv .1,
       rw (bytes-more l (h .loop .next) e) (c .before .before .row-at .ensures .follows _ _ (h .loop .inv .2)),

@@ -3,13 +3,15 @@ use Prim.Native.Nat.{ℕ, _≤_}
 use mathlib.Core.Path.{_≡_}
 use mathlib.Core.Logic.{_↔_}
 use mathlib.Core.Option.{some}
-use mathlib.Core.List.{List, _∷_, _++_}
+use mathlib.Core.List.{List, [], _∷_, _++_}
 use lib.ListN.{length, take, drop}
 use Rattle.lists.specs.Tests.{gather}
 use Rattle.lists.specs.Order.{sort-by}
 use Rattle.rows.specs.Rows.{row-bytes, batch-of}
 use Rattle.orderings.specs.Systems.{Derivation, Valid, AcceptedIn, NonEmpty}
 use Rattle.orderings.specs.Timelines.{timelines}
+use Rattle.machine.specs.declared.Answer.{Answer}
+use Rattle.machine.specs.declared.Answer.the-variants.{Done, Wrote, Refused}
 use Rattle.machine.specs.declared.Verdict.{Verdict}
 use Rattle.machine.specs.declared.Verdict.the-variants.{NonEmpty as NonEmptyV}
 use Rattle.machine.specs.declared.Phase.the-variants.{Settled}
@@ -17,31 +19,34 @@ use Rattle.machine.specs.Machine.{Machine, open-with, open-claims}
 use Rattle.machine.specs.Order.{Found, Best}
 use Rattle.machine.specs.Search.{shortest}
 use Rattle.machine.specs.Sheet.{verdict-line, opening-line, walk-lines, sheet}
-use Rattle.machine.specs.Calls.{load, print, wrote, call, second}
+use Rattle.machine.specs.Calls.{Call, load, print, save, wrote, answer-of, call, second}
 use Rattle.machine.specs.Causes.{Cause}
 use Rattle.machine.specs.Demands.{Listed, Number}
 use Rattle.session.specs.declared.Session.{Session}
-use Rattle.session.specs.declared.Answer.{Answer}
-use Rattle.session.specs.declared.Answer.the-variants.{Done, Wrote, Refused}
 use Rattle.session.specs.declared.Reply.{Reply}
 use Rattle.session.specs.Record.{record-of}
-use Rattle.session.specs.Promise.{answer-of, Fresh, Keeps}
-use Rattle.demands.specs.Trace.{Exchange, printed, saved, call-of, reply-in, old-of, new-of, Trace, given, fed}
+use Rattle.session.specs.Promise.{Fresh, Keeps}
+use Rattle.demands.specs.Trace.{Exchange, Trace, given, Served, onward, plain-after}
+
+-- a call at its place among calls from a fresh session: what holds of the plain machine that was fed the calls before it, and of the
+-- session that was handed to it
+abbrev pub EveryCall : (Machine → Session → Exchange Call Reply → Type 0) → Type 0
+EveryCall Then =
+    (s : Session) → Fresh s → (es : List (Exchange Call Reply)) → Trace onward Served s es
+    → (before later : List (Exchange Call Reply)) (e : Exchange Call Reply) → es ≡ before ++ (e ∷ later)
+    → Then (plain-after before) (given onward s before) e
 
 -- a call on the session s, where the plain machine that was fed the calls before it is m
-pub record Answered (m : Machine) (s : Session) (e : Exchange) : Type 0 where
+pub record Answered (m : Machine) (s : Session) (e : Exchange Call Reply) : Type 0 where
   -- the call gets a result: the plain machine's answer
-  pub result : reply-in e .answer ≡ answer-of (call m (call-of e) .answer)
+  pub result : e .reply .answer ≡ answer-of (call m (e .asked) .answer)
   -- refused with a number and at a place exactly where document 01's table has that cause
-  pub refused : (n place : ℕ) → (reply-in e .answer ≡ Refused n place) ↔ Cause m (call-of e) n place
+  pub refused : (n place : ℕ) → (e .reply .answer ≡ Refused n place) ↔ Cause m (e .asked) n place
   -- a refusal hands the session back unchanged, and changes no byte of a buffer
-  pub unchanged : (n place : ℕ) → reply-in e .answer ≡ Refused n place → (reply-in e .session ≡ s) × (new-of e ≡ old-of e)
+  pub unchanged : (n place : ℕ) → e .reply .answer ≡ Refused n place → (e .reply .session ≡ s) × (e .new ≡ e .old)
 
 abbrev pub Demand1 : Type 0
-Demand1 =
-    (s : Session) → Fresh s → (es : List Exchange) → Trace s es
-    → (before later : List Exchange) (e : Exchange) → es ≡ before ++ (e ∷ later)
-    → Answered (fed before) (given s before) e
+Demand1 = EveryCall Answered
 
 -- the walk that a non-empty sheet prints
 pub record Walked (m : Machine) (f : Found) : Type 0 where
@@ -54,7 +59,7 @@ pub record Walked (m : Machine) (f : Found) : Type 0 where
   pub best : Best (m .rows) (open-claims m) f
 
 -- the sheet of a settled machine
-pub record Told (m : Machine) (v : Verdict) : Type 0 where
+pub record TrueSheet (m : Machine) (v : Verdict) : Type 0 where
   pub settled : m .phase ≡ Settled v
   -- non-empty exactly when some finite derivation gives a walk from an initial to a final state
   pub verdict : (v ≡ NonEmptyV) ↔ NonEmpty (timelines (m .rows))
@@ -62,28 +67,22 @@ pub record Told (m : Machine) (v : Verdict) : Type 0 where
   pub walked : v ≡ NonEmptyV → (f : Found) × Walked m f
 
 -- an accepted print writes such a sheet
-abbrev pub PrintTold : Machine → List ℕ → List ℕ → Answer → Type 0
-PrintTold m old new a = (n : ℕ) → a ≡ Wrote n → (v : Verdict) × (new ≡ sheet v m ++ drop n old) × Told m v
+abbrev pub PrintsTrue : Machine → List ℕ → List ℕ → Answer → Type 0
+PrintsTrue m old new a = (n : ℕ) → a ≡ Wrote n → (v : Verdict) × (new ≡ sheet v m ++ drop n old) × TrueSheet m v
 
 -- an accepted save writes the rows; the bytes that it wrote, loaded into a fresh session, are accepted and give the same rows
-abbrev pub SaveTold : Machine → List ℕ → List ℕ → Answer → Type 0
-SaveTold m old new a = (n : ℕ) → a ≡ Wrote n
+abbrev pub SavesRows : Machine → List ℕ → List ℕ → Answer → Type 0
+SavesRows m old new a = (n : ℕ) → a ≡ Wrote n
     → (take n new ≡ batch-of (sort-by row-bytes (m .rows)))
-    × ((t : Session) (r : Reply) → Fresh t → Keeps t (load (take n new)) r → (r .answer ≡ Done) × (r .session ≡ record-of (open-with (m .rows))))
+    × ((t : Session) (r : Reply) → Fresh t → Keeps t (load (take n new)) [] [] r → (r .answer ≡ Done) × (r .session ≡ record-of (open-with (m .rows))))
 
 pub record Demand2 : Type 0 where
-  pub prints :
-      (s : Session) → Fresh s → (es : List Exchange) → Trace s es
-      → (before later : List Exchange) (old new : List ℕ) (r : Reply) → es ≡ before ++ (printed old new r ∷ later)
-      → PrintTold (fed before) old new (r .answer)
-  pub saves :
-      (s : Session) → Fresh s → (es : List Exchange) → Trace s es
-      → (before later : List Exchange) (old new : List ℕ) (r : Reply) → es ≡ before ++ (saved old new r ∷ later)
-      → SaveTold (fed before) old new (r .answer)
+  pub prints : EveryCall (λ m s e. (size : ℕ) → e .asked ≡ print size → PrintsTrue m (e .old) (e .new) (e .reply .answer))
+  pub saves : EveryCall (λ m s e. (size : ℕ) → e .asked ≡ save size → SavesRows m (e .old) (e .new) (e .reply .answer))
 
 -- a print, where the plain machine that was fed the calls before it is m; the second machine loads the standing rows sorted, closes and
 -- does rounds until settled
-pub record Printed (m : Machine) (old new : List ℕ) (a : Answer) : Type 0 where
+pub record ExactPrint (m : Machine) (old new : List ℕ) (a : Answer) : Type 0 where
   -- accepted exactly when m is settled and the buffer is long enough for the second machine's sheet
   pub accepted : ((n : ℕ) × (a ≡ Wrote n)) ↔ ((v : Verdict) × (m .phase ≡ Settled v) × (length (sheet v (second (m .rows))) ≤ length old))
   -- then it returns exactly the length and writes exactly the bytes of that sheet
@@ -99,7 +98,4 @@ pub record Printed (m : Machine) (old new : List ℕ) (a : Answer) : Type 0 wher
       → (second (m .rows) .phase ≡ Settled v) × Number (m .rows) v (second (m .rows) .rounds) × (second (m .rows) .rounds ≤ 129)
 
 abbrev pub Demand3 : Type 0
-Demand3 =
-    (s : Session) → Fresh s → (es : List Exchange) → Trace s es
-    → (before later : List Exchange) (old new : List ℕ) (r : Reply) → es ≡ before ++ (printed old new r ∷ later)
-    → Printed (fed before) old new (r .answer)
+Demand3 = EveryCall (λ m s e. (size : ℕ) → e .asked ≡ print size → ExactPrint m (e .old) (e .new) (e .reply .answer))

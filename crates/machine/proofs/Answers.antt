@@ -1,0 +1,42 @@
+-- What the machine came to, from what the engine answered; and a text that is written, or for which the buffer is too short.
+use Prim.Native.Nat.{ℕ, _<_, _≤_}
+use mathlib.Core.Path.{_≡_, refl, ap, sym}
+use mathlib.Core.List.{List}
+use lib.ListN.{length}
+use native.Mathlib.Omega.{arith}
+use borrow.Author.Tests.{lt-ltb, le-ltb}
+use Rattle.lists.specs.Writing as Writing
+use Rattle.machine.specs.declared.Answer.{Answer}
+use Rattle.machine.specs.declared.Answer.the-variants.{Done, Wrote, Refused}
+use Rattle.machine.specs.Calls.{Outcome, done, wrote, refused, answer-of, buffer-after, Tells, TellsText}
+
+pub done-by : (o : Outcome) → answer-of o ≡ Done → o ≡ done
+done-by done e = refl
+done-by (wrote l) e = let z : _≡_ {A = ℕ} 0 1 = cc in absurd (omega arith)
+done-by (refused n place) e = let z : _≡_ {A = ℕ} 0 1 = cc in absurd (omega arith)
+
+pub wrote-by : (o : Outcome) (n : ℕ) → answer-of o ≡ Wrote n → (l : List ℕ) × (o ≡ wrote l) × (n ≡ length l)
+wrote-by done n e = let z : _≡_ {A = ℕ} 0 1 = cc in absurd (omega arith)
+wrote-by (wrote l) n e = (l, refl, cc)
+wrote-by (refused k place) n e = let z : _≡_ {A = ℕ} 0 1 = cc in absurd (omega arith)
+
+pub refused-by : (o : Outcome) (n place : ℕ) → answer-of o ≡ Refused n place → o ≡ refused n place
+refused-by done n place e = let z : _≡_ {A = ℕ} 0 1 = cc in absurd (omega arith)
+refused-by (wrote l) n place e = let z : _≡_ {A = ℕ} 0 1 = cc in absurd (omega arith)
+refused-by (refused k at) n place e = let i : k ≡ n = cc in let j : at ≡ place = cc in cc
+
+-- an outcome, told in other words
+pub tells-as : {o q : Outcome} {old new : List ℕ} {r : Answer} → o ≡ q → Tells o old new r → Tells q old new r
+tells-as e t = rw e at t
+
+-- a refusal, with the buffer as it was
+pub tells-refused : (n place : ℕ) (old : List ℕ) → Tells (refused n place) old old (Refused n place)
+tells-refused n place old = record { answer-is = refl; buffer-is = refl }
+
+-- a text that fits, and one for which the buffer is too short
+module _ (text old : List ℕ) where
+  pub tells-text : {new : List ℕ} {n : ℕ} → length text ≤ length old → Writing.Wrote text old new n → TellsText text old new (Wrote n)
+  tells-text h w = rw (le-ltb (length old) (length text) h) (record { answer-is = ap Wrote (w .length-is); buffer-is = w .bytes-are })
+
+  pub tells-short : length old < length text → TellsText text old old (Refused 12 0)
+  tells-short h = rw (lt-ltb (length old) (length text) h) (tells-refused 12 0 old)

@@ -1,0 +1,35 @@
+-- `print_empty` meets its contract, with a buffer that is too short, and with one that is long enough.
+use native.Mathlib.Omega.{arith}
+use Rattle.machine.specs.declared.Verdict.the-variants.{Empty}
+use Rattle.machine.proofs.Answers.{tells-text, tells-short}
+use Rattle.printing.specs.Text.{head-text}
+use borrow.Author.Needs.{needs}
+use Rattle.printing.proofs.print_empty.Statement.{statement}
+use Rattle.printing.proofs.print_empty.Tie as tie
+
+head-len-requires : tie.Need-head-len-requires
+head-len-requires c κs = search needs
+
+returns : tie.Need-returns
+returns c =
+    let h = c .before in
+    let a = h .before .before .args in
+    tells-short (head-text Empty (a .words .now) (a .k) (a .rounds)) (a .buffer .now) (omega (arith, h .head-len .ensures .0, c .if1 .taken))
+
+put-head-requires : tie.Need-put-head-requires
+put-head-requires c κs = search needs
+
+same-length : tie.Need-same-length
+same-length c = search needs
+
+returns-2 : tie.Need-returns-2
+returns-2 c =
+    let p = c .before .before in
+    let e = p .before .before in
+    let h = e .before in
+    let a = h .before .before .args in
+    tells-text (head-text Empty (a .words .now) (a .k) (a .rounds)) (a .buffer .now) (omega (arith, h .head-len .ensures .0, e .if1 .left)) (p .put-head .ensures)
+
+pub print-empty-spec : {M : Type 1} → statement M
+print-empty-spec =
+    tie.close (tie.spec head-len-requires returns put-head-requires same-length returns-2)
