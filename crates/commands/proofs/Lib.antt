@@ -1,4 +1,5 @@
 pub mod Values
 pub mod Texts
+pub mod Seeking
 pub mod Saved
 pub mod Examples

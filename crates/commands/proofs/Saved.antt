@@ -8,8 +8,9 @@ use native.Mathlib.Omega.{arith}
 use native.Mathlib.Decide.{decLt}
 use borrow.Author.Tests.{lt-ltb, le-ltb}
 use Rattle.machine.specs.Text.{digit}
+use Rattle.commands.specs.declared.Change.{Change}
 use Rattle.commands.specs.Digits.{value, digits, bytes, encoded}
-use Rattle.commands.specs.Meaning.{Meaning, batch}
+use Rattle.commands.specs.Meaning.{change, batch}
 use Rattle.commands.proofs.Values.{value-decimal, value-lower}
 use Rattle.commands.proofs.Texts.{batch-bytes}
 
@@ -45,7 +46,7 @@ bytes-encoded (x ∷ l) b =
     rw (k, bytes-encoded l (λ i. b (suc i)))
 
 -- the batch of the digits of bytes is those bytes, where there is room
-pub reads-back : (f : List ℕ → Meaning) (room : ℕ) (l : List ℕ) → ((i : ℕ) → getD l i 0 < 256) → length l ≤ room → batch f room (encoded l) ≡ f l
-reads-back f room l b h =
+pub reads-back : (call : Change) (room : ℕ) (l : List ℕ) → ((i : ℕ) → getD l i 0 < 256) → length l ≤ room → batch call room (encoded l) ≡ change call l
+reads-back call room l b h =
     let e = encoded-length l in
-    batch-bytes f room (encoded l) (omega arith) (encoded-digits l b) (omega arith) ∙ ap f (bytes-encoded l b)
+    batch-bytes call room (encoded l) (omega arith) (encoded-digits l b) (omega arith) ∙ ap (change call) (bytes-encoded l b)

@@ -2,15 +2,13 @@
 use Prim.Native.Nat.{ℕ, _≤_}
 use mathlib.Core.Path.{_≡_}
 use mathlib.Core.List.{List}
-use lib.ListN.{length, take}
+use lib.ListN.{length, take, drop}
 use Rattle.commands.specs.declared.Command.{Command}
-use Rattle.commands.specs.declared.Command.the-variants.{Load, Withdraw, Close, Round, Reopen, Print, Save, Nothing, BadHex, TooLong, Unknown}
-use Rattle.commands.specs.declared.Decoded.{Decoded}
-use Rattle.commands.specs.declared.Decoded.the-variants.{Bytes, NoPairs, NoRoom}
-use Rattle.commands.specs.declared.Length.{Length}
-use Rattle.commands.specs.declared.Length.the-variants.{Of, NoNumber}
+use Rattle.commands.specs.declared.Command.the-variants.{Changes, Reports, Moves, Nothing, BadHex, TooLong, Unknown}
+use Rattle.commands.specs.declared.Found.{Found}
 use Rattle.commands.specs.Digits.{encoded}
-use Rattle.commands.specs.Meaning as m
+use Rattle.commands.specs.Meaning.{Meaning, change, report, move, nothing, bad-hex, too-long, unknown, words, with-text, after, called}
+use Rattle.commands.specs.Table.{alone-at}
 
 -- the first n bytes lie within the buffer, which is said twice, as a caller that lends them is asked both
 pub record Holds (n : ℕ) (buffer : List ℕ) : Type 0 where
@@ -18,33 +16,27 @@ pub record Holds (n : ℕ) (buffer : List ℕ) : Type 0 where
   pub counted : n ≡ length (take n buffer)
 
 -- for a batch its bytes stand at the start of the buffer
-abbrev pub Means : m.Meaning → List ℕ → Command → Type 0
-Means meant buffer (Load n) = Holds n buffer × (meant ≡ m.load (take n buffer))
-Means meant buffer (Withdraw n) = Holds n buffer × (meant ≡ m.withdraw (take n buffer))
-Means meant buffer Close = meant ≡ m.close
-Means meant buffer Round = meant ≡ m.round
-Means meant buffer Reopen = meant ≡ m.reopen
-Means meant buffer (Print n) = (n ≤ 6400) × (meant ≡ m.print n)
-Means meant buffer (Save n) = (n ≤ 6400) × (meant ≡ m.save n)
-Means meant buffer Nothing = meant ≡ m.nothing
-Means meant buffer BadHex = meant ≡ m.bad-hex
-Means meant buffer TooLong = meant ≡ m.too-long
-Means meant buffer Unknown = meant ≡ m.unknown
+abbrev pub Means : Meaning → List ℕ → Command → Type 0
+Means meant buffer (Changes call n) = Holds n buffer × (meant ≡ change call (take n buffer))
+Means meant buffer (Reports call n) = (n ≤ 6400) × (meant ≡ report call n)
+Means meant buffer (Moves call) = meant ≡ move call
+Means meant buffer Nothing = meant ≡ nothing
+Means meant buffer BadHex = meant ≡ bad-hex
+Means meant buffer TooLong = meant ≡ too-long
+Means meant buffer Unknown = meant ≡ unknown
 
 -- the same where the buffer is not at hand: it holds any bytes
-abbrev pub Asks : m.Meaning → Command → Type 0
+abbrev pub Asks : Meaning → Command → Type 0
 Asks meant r = (buffer : List ℕ) → Means meant buffer r
 
--- the same of hex digits, whatever the call
-abbrev pub Decodes : ℕ → List ℕ → List ℕ → Decoded → Type 0
-Decodes room l buffer (Bytes n) = Holds n buffer × ((f : List ℕ → m.Meaning) → m.batch f room l ≡ f (take n buffer))
-Decodes room l buffer NoPairs = (f : List ℕ → m.Meaning) → m.batch f room l ≡ m.bad-hex
-Decodes room l buffer NoRoom = (f : List ℕ → m.Meaning) → m.batch f room l ≡ m.too-long
+-- the word at a place tells, with what stands in the line from the word's end on
+pub record Tells (l : List ℕ) (r : Found) : Type 0 where
+  pub within : r .end ≤ length l
+  pub told : (room : ℕ) → called words room l ≡ after (alone-at words (r .place)) room (drop (r .end) l)
 
--- the same of decimal digits
-abbrev pub Lends : List ℕ → Length → Type 0
-Lends l (Of n) = (n ≤ 6400) × ((f : ℕ → m.Meaning) → m.lent f l ≡ f n)
-Lends l NoNumber = (f : ℕ → m.Meaning) → m.lent f l ≡ m.unknown
+-- a word with a text behind it, whatever the word means
+abbrev pub Extends : Command → ℕ → List ℕ → List ℕ → Command → Type 0
+Extends word room text buffer r = (meant : Meaning) → Asks meant word → Means (with-text meant room text) buffer r
 
 -- the digits of the bytes stand at the start of the text
 pub record Encodes (l new : List ℕ) (n : ℕ) : Type 0 where

@@ -6,35 +6,45 @@ ghost use lib.ListN.{length, take, drop};
 ghost use Rattle.machine.specs.Text.{digit};
 ghost use Rattle.commands.specs.Digits.{value, digits, bytes, number-from, at-most};
 ghost use Rattle.commands.specs.Meaning as m;
-ghost use Rattle.commands.specs.Meaning.{starts, is, passed-over, lent, word, called, meaning};
-ghost use Rattle.commands.specs.Promise.{Means, Asks, Decodes, Encodes, Lends};
+ghost use Rattle.commands.specs.Meaning.{words, passed-over, called, meaning};
+ghost use Rattle.commands.specs.Table.{alone-at, command-of, ends, further, seek};
+ghost use Rattle.commands.specs.Promise.{Means, Asks, Tells, Extends, Encodes};
 
-// What a line asks for: a call with the count of bytes at the start of the batch or the length of the buffer that it lends; or none.
-pub enum Command {
-    Load(usize),
-    Withdraw(usize),
+// The calls that a batch comes with.
+pub enum Change {
+    Load,
+    Withdraw,
+}
+
+// The calls that write into a buffer.
+pub enum Report {
+    Print,
+    Save,
+}
+
+// The calls that take nothing.
+pub enum Move {
     Close,
     Round,
     Reopen,
-    Print(usize),
-    Save(usize),
+}
+
+// What a line asks for: a call with the count of bytes at the start of the batch, with the length of the buffer that it lends, or
+// with neither; or none.
+pub enum Command {
+    Changes(Change, usize),
+    Reports(Report, usize),
+    Moves(Move),
     Nothing,
     BadHex,
     TooLong,
     Unknown,
 }
 
-// What hex digits gave: a count of bytes at the start of the batch; not pairs of hex digits; more bytes than there is room for.
-pub enum Decoded {
-    Bytes(usize),
-    NoPairs,
-    NoRoom,
-}
-
-// What decimal digits gave: the length of a buffer, or no number.
-pub enum Length {
-    Of(usize),
-    NoNumber,
+// The place in the table of the word that a line starts with, and where it ends in the line; past the last word for none.
+pub struct Found {
+    pub place: usize,
+    pub end: usize,
 }
 
 // The value of a digit of either case; 16 for any other byte.
@@ -102,20 +112,20 @@ pub fn encode(bytes: &[u8], text: &mut [u8]) -> usize
     at
 }
 
-// The batch that hex digits name.
-fn batch_of(text: &[u8], batch: &mut [u8]) -> Decoded
-    ensures { λ r. ⌜ Decodes (length (now (batch .entry))) (now (text .entry)) (now (batch .exit)) r ⌝ }
+// The call with the batch that hex digits name.
+fn with_batch(call: Change, text: &[u8], batch: &mut [u8]) -> Command
+    ensures { λ r. ⌜ Means (m.batch call (length (now (batch .entry))) (now (text .entry))) (now (batch .exit)) r ⌝ }
 {
     if text.len() % 2 != 0 {
-        return Decoded::NoPairs;
+        return Command::BadHex;
     }
     if !digits(text, 16) {
-        return Decoded::NoPairs;
+        return Command::BadHex;
     }
     if text.len() / 2 > batch.len() {
-        return Decoded::NoRoom;
+        return Command::TooLong;
     }
-    Decoded::Bytes(decode(text, batch))
+    Command::Changes(call, decode(text, batch))
 }
 
 // No sheet and no save is longer than 6,400 bytes.
@@ -138,44 +148,17 @@ fn number(text: &[u8]) -> usize
     n
 }
 
-// The length of a buffer, in decimal digits, one at least.
-fn length_of(text: &[u8]) -> Length
-    ensures { λ r. ⌜ Lends (now (text .entry)) r ⌝ }
+// The call with a buffer of the length that decimal digits name, one at least.
+fn with_length(call: Report, text: &[u8]) -> Command
+    ensures { λ r. ⌜ Asks (m.lent call (now (text .entry))) r ⌝ }
 {
     if text.len() == 0 {
-        return Length::NoNumber;
+        return Command::Unknown;
     }
     if !digits(text, 10) {
-        return Length::NoNumber;
+        return Command::Unknown;
     }
-    Length::Of(number(text))
-}
-
-// Does the line start with the text?
-fn starts(text: &[u8], line: &[u8]) -> bool
-    ensures { λ r. ⌜ r ≡ starts (now (text .entry)) (now (line .entry)) ⌝ }
-{
-    if line.len() < text.len() {
-        return false;
-    }
-    let mut i = 0;
-    while i < text.len() {
-        if line[i] != text[i] {
-            return false;
-        }
-        i += 1;
-    }
-    true
-}
-
-// Is the line the text?
-fn is(text: &[u8], line: &[u8]) -> bool
-    ensures { λ r. ⌜ r ≡ is (now (text .entry)) (now (line .entry)) ⌝ }
-{
-    if line.len() != text.len() {
-        return false;
-    }
-    starts(text, line)
+    Command::Reports(call, number(text))
 }
 
 // Is the line empty or a comment?
@@ -188,74 +171,90 @@ fn is_passed_over(line: &[u8]) -> bool
     line[0] == b'#'
 }
 
-// A load of the batch that hex digits name.
-fn load(text: &[u8], batch: &mut [u8]) -> Command
-    ensures { λ r. ⌜ Means (m.batch m.load (length (now (batch .entry))) (now (text .entry))) (now (batch .exit)) r ⌝ }
+// Does a word that goes up to `i` end there in the line?
+fn ends(line: &[u8], i: usize) -> bool
+    ensures { λ r. ⌜ r ≡ ends (now (line .entry)) i ⌝ }
 {
-    match batch_of(text, batch) {
-        Decoded::Bytes(n) => Command::Load(n),
-        Decoded::NoPairs => Command::BadHex,
-        Decoded::NoRoom => Command::TooLong,
+    if i < line.len() {
+        return line[i] == b' ';
+    }
+    i == line.len()
+}
+
+// The place after a byte of a word; past the end of the line where another byte stands in it.
+fn further(line: &[u8], i: usize, c: u8) -> usize
+    ensures { λ r. ⌜ r ≡ further (now (line .entry)) i c ⌝ }
+{
+    if i >= line.len() {
+        return line.len() + 1;
+    }
+    if line[i] != c {
+        return line.len() + 1;
+    }
+    i + 1
+}
+
+// The first word of the table that the line starts with, before a space or its end.
+fn seek(line: &[u8], table: &[u8]) -> Found
+    ensures { λ r. ⌜ r ≡ seek (now (line .entry)) (now (table .entry)) 0 0 ⌝ }
+{
+    let mut place = 0;
+    let mut end = 0;
+    let mut at = 0;
+    while at < table.len() {
+        let c = table[at];
+        at += 1;
+        if c != b'\n' {
+            end = further(line, end, c);
+        } else {
+            if ends(line, end) {
+                return Found { place, end };
+            }
+            place += 1;
+            end = 0;
+        }
+    }
+    Found {
+        place,
+        end: line.len(),
     }
 }
 
-// A withdrawal of the batch that hex digits name.
-fn withdraw(text: &[u8], batch: &mut [u8]) -> Command
-    ensures { λ r. ⌜ Means (m.batch m.withdraw (length (now (batch .entry))) (now (text .entry))) (now (batch .exit)) r ⌝ }
+// The table of words, in the order of `alone`.
+fn find(line: &[u8]) -> Found
+    ensures { λ r. ⌜ Tells (now (line .entry)) r ⌝ }
 {
-    match batch_of(text, batch) {
-        Decoded::Bytes(n) => Command::Withdraw(n),
-        Decoded::NoPairs => Command::BadHex,
-        Decoded::NoRoom => Command::TooLong,
-    }
+    seek(line, b"load\nwithdraw\nprint\nsave\nclose\nround\nreopen\n")
 }
 
-// A print into a buffer of the length that decimal digits name.
-fn print(text: &[u8]) -> Command
-    ensures { λ r. ⌜ Asks (lent m.print (now (text .entry))) r ⌝ }
+// What a word of the table asks for where it stands alone.
+fn alone(place: usize) -> Command
+    ensures { λ r. ⌜ r ≡ command-of (alone-at words place) ⌝ }
 {
-    match length_of(text) {
-        Length::Of(n) => Command::Print(n),
-        Length::NoNumber => Command::Unknown,
+    let commands = [
+        Command::Changes(Change::Load, 0),
+        Command::Changes(Change::Withdraw, 0),
+        Command::Reports(Report::Print, 6400),
+        Command::Reports(Report::Save, 6400),
+        Command::Moves(Move::Close),
+        Command::Moves(Move::Round),
+        Command::Moves(Move::Reopen),
+    ];
+    if place >= commands.len() {
+        return Command::Unknown;
     }
+    commands[place]
 }
 
-// A save into a buffer of the length that decimal digits name.
-fn save(text: &[u8]) -> Command
-    ensures { λ r. ⌜ Asks (lent m.save (now (text .entry))) r ⌝ }
+// What the word asks for with a text behind it.
+fn with_text(word: Command, text: &[u8], batch: &mut [u8]) -> Command
+    ensures { λ r. ⌜ Extends word (length (now (batch .entry))) (now (text .entry)) (now (batch .exit)) r ⌝ }
 {
-    match length_of(text) {
-        Length::Of(n) => Command::Save(n),
-        Length::NoNumber => Command::Unknown,
+    match word {
+        Command::Changes(call, _) => with_batch(call, text, batch),
+        Command::Reports(call, _) => with_length(call, text),
+        _ => Command::Unknown,
     }
-}
-
-// The command of a line that is one word.
-fn word(line: &[u8]) -> Command
-    ensures { λ r. ⌜ Asks (word (now (line .entry))) r ⌝ }
-{
-    if is(b"close", line) {
-        return Command::Close;
-    }
-    if is(b"round", line) {
-        return Command::Round;
-    }
-    if is(b"reopen", line) {
-        return Command::Reopen;
-    }
-    if is(b"load", line) {
-        return Command::Load(0);
-    }
-    if is(b"withdraw", line) {
-        return Command::Withdraw(0);
-    }
-    if is(b"print", line) {
-        return Command::Print(6400);
-    }
-    if is(b"save", line) {
-        return Command::Save(6400);
-    }
-    Command::Unknown
 }
 
 // What stands from a place on.
@@ -266,23 +265,17 @@ fn rest(line: &[u8], at: usize) -> &[u8]
     &line[at..]
 }
 
-// The command of a line that is a word, one space and what the call takes; or one word.
+// The command of a line that starts with a word of the table.
 fn called(line: &[u8], batch: &mut [u8]) -> Command
-    ensures { λ r. ⌜ Means (called (length (now (batch .entry))) (now (line .entry))) (now (batch .exit)) r ⌝ }
+    ensures { λ r. ⌜ Means (called words (length (now (batch .entry))) (now (line .entry))) (now (batch .exit)) r ⌝ }
 {
-    if starts(b"load ", line) {
-        return load(rest(line, 5), batch);
+    let found = find(line);
+    let end = found.end;
+    let word = alone(found.place);
+    if end == line.len() {
+        return word;
     }
-    if starts(b"withdraw ", line) {
-        return withdraw(rest(line, 9), batch);
-    }
-    if starts(b"print ", line) {
-        return print(rest(line, 6));
-    }
-    if starts(b"save ", line) {
-        return save(rest(line, 5));
-    }
-    word(line)
+    with_text(word, rest(line, end + 1), batch)
 }
 
 // The command of a line. A batch that the line brings is decoded to the start of `batch`.

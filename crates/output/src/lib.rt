@@ -1,5 +1,4 @@
-// What the programs share: texts, numbers and answers on standard output, and texts compared.
-use machine::Answer;
+// What the programs share: texts and numbers on standard output, and texts compared.
 ghost use mathlib.Core.Path.{_≡_};
 ghost use Rattle.lists.specs.Tests.{Decides};
 
@@ -20,6 +19,14 @@ pub fn same(a: &[u8], b: &[u8]) -> bool
     true
 }
 
+// The first bytes of a text; all of it where it has fewer.
+pub fn first(text: &[u8], n: usize) -> &[u8] {
+    if n < text.len() {
+        return &text[..n];
+    }
+    text
+}
+
 // Writes a text.
 pub fn say(text: &[u8]) {
     io::write_all(libc::STDOUT_FILENO, text);
@@ -30,19 +37,19 @@ pub fn say_number(n: u64) {
     io::print_decimal(libc::STDOUT_FILENO, n);
 }
 
-// Writes what a call answered.
-pub fn say_answer(answer: Answer) {
-    match answer {
-        Answer::Done => say(b"done"),
-        Answer::Wrote(n) => {
-            say(b"wrote ");
-            say_number(n as u64);
-        }
-        Answer::Refused(number, place) => {
-            say(b"refused ");
-            say_number(number as u64);
-            say(b" at ");
-            say_number(place as u64);
-        }
+// Writes a line: a name and a number.
+pub fn say_count(name: &[u8], n: u64) {
+    say(name);
+    say_number(n);
+    say(b"\n");
+}
+
+// Writes bytes in hex, where they are 6,400 at most: no sheet, no save and no batch of random has more.
+pub fn say_hex(bytes: &[u8]) {
+    if bytes.len() > 6400 {
+        return;
     }
+    let mut text = [0u8; 12800];
+    let n = commands::encode(bytes, &mut text);
+    say(&text[..n]);
 }

@@ -3,24 +3,29 @@ mod dice;
 mod generator;
 mod tally;
 
+use output::first;
+
 // How many automata are tried.
 const AUTOMATA: u64 = 6000;
 
-// Tries one batch and counts what came of it.
+// Compares the sheets and counts what they say.
+fn tell(batch: &[u8], ours: &[u8], theirs: &[u8], counts: &mut [u64]) {
+    tally::compare(batch, ours, theirs, counts);
+    tally::count(ours, counts);
+}
+
+// Tries one batch.
 fn try_batch(batch: &[u8], ours: &mut [u8], theirs: &mut [u8], counts: &mut [u64]) {
     let n = checker::show(batch, ours);
     let m = plain::sheet(batch, theirs);
-    tally::compare(batch, ours, n, theirs, m, counts);
-    tally::count(ours, counts);
+    tell(batch, first(ours, n), first(theirs, m), counts);
 }
 
 // The first `n` bytes of a buffer are the batch.
 fn try_part(buffer: &[u8], n: usize, counts: &mut [u64]) {
     let mut ours = [0u8; 6400];
     let mut theirs = [0u8; 6400];
-    if n <= buffer.len() {
-        try_batch(&buffer[..n], &mut ours, &mut theirs, counts);
-    }
+    try_batch(first(buffer, n), &mut ours, &mut theirs, counts);
 }
 
 fn try_buffer(seed: u64, buffer: &mut [u8], counts: &mut [u64]) {

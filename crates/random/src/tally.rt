@@ -1,25 +1,20 @@
 // Comparing sheets, and counting what they say. The counts: 0 to 39 by rounds; then empty, non-empty, openings, longest walk, different.
+use output::say;
+use output::say_count;
 
-const STDOUT: i32 = 1;
+const EMPTY: usize = 40;
+
+const NONEMPTY: usize = 41;
+
+const OPENINGS: usize = 42;
+
+const LONGEST: usize = 43;
+
+const DIFFERENT: usize = 44;
 
 // The byte of a sheet at `i`, 0 past its end.
 fn byte(sheet: &[u8], i: usize) -> u8 {
     if i < sheet.len() { sheet[i] } else { 0 }
-}
-
-// Are the first `n` bytes of the one the first `m` of the other?
-pub fn is_same(a: &[u8], n: usize, b: &[u8], m: usize) -> bool {
-    if n != m {
-        return false;
-    }
-    let mut i = 0;
-    while i < n {
-        if byte(a, i) != byte(b, i) {
-            return false;
-        }
-        i += 1;
-    }
-    true
 }
 
 fn get(counts: &[u64], i: usize) -> u64 {
@@ -96,7 +91,7 @@ fn rounds(sheet: &[u8]) -> usize {
 }
 
 fn verdict(sheet: &[u8]) -> usize {
-    if is_empty(sheet) { 40 } else { 41 }
+    if is_empty(sheet) { EMPTY } else { NONEMPTY }
 }
 
 fn max(a: u64, b: u64) -> u64 {
@@ -107,15 +102,9 @@ fn max(a: u64, b: u64) -> u64 {
 pub fn count(sheet: &[u8], counts: &mut [u64]) {
     add(counts, rounds(sheet), 1);
     add(counts, verdict(sheet), 1);
-    add(counts, 42, lines(sheet, b'o', b'e'));
-    let longest = max(get(counts, 43), lines(sheet, b's', b'e'));
-    set(counts, 43, longest);
-}
-
-fn print_line(name: &[u8], n: u64) {
-    io::write_all(STDOUT, name);
-    io::print_decimal(STDOUT, n);
-    io::write_all(STDOUT, b"\n");
+    add(counts, OPENINGS, lines(sheet, b'o', b'e'));
+    let longest = max(get(counts, LONGEST), lines(sheet, b's', b'e'));
+    set(counts, LONGEST, longest);
 }
 
 // The line of a count of rounds, if it came up.
@@ -124,9 +113,9 @@ fn report_round(counts: &[u64], k: usize) {
     if n == 0 {
         return;
     }
-    io::write_all(STDOUT, b"rounds ");
-    io::print_decimal(STDOUT, k as u64);
-    print_line(b": ", n);
+    say(b"rounds ");
+    output::say_number(k as u64);
+    say_count(b": ", n);
 }
 
 fn report_rounds(counts: &[u64]) {
@@ -137,64 +126,42 @@ fn report_rounds(counts: &[u64]) {
     }
 }
 
+// How many automata were tried.
+fn tried(counts: &[u64]) -> u64 {
+    std::num::wrapping_add_u64(get(counts, EMPTY), get(counts, NONEMPTY))
+}
+
+fn report_count(name: &[u8], counts: &[u64], i: usize) {
+    say_count(name, get(counts, i));
+}
+
 pub fn report(counts: &[u64]) {
-    print_line(
-        b"automata ",
-        std::num::wrapping_add_u64(get(counts, 40), get(counts, 41)),
-    );
-    print_line(b"empty ", get(counts, 40));
-    print_line(b"nonempty ", get(counts, 41));
+    say_count(b"automata ", tried(counts));
+    report_count(b"empty ", counts, EMPTY);
+    report_count(b"nonempty ", counts, NONEMPTY);
     report_rounds(counts);
-    print_line(b"openings ", get(counts, 42));
-    print_line(b"longest walk ", get(counts, 43));
-    print_line(b"different ", get(counts, 44));
-}
-
-fn wide(b: u8) -> u64 {
-    b as u64
-}
-
-fn print_hex(batch: &[u8]) {
-    let mut i = 0;
-    while i < batch.len() {
-        io::print_hex(STDOUT, wide(batch[i]), 2);
-        i += 1;
-    }
-}
-
-fn print_byte(b: u8) {
-    let one = [b];
-    io::write_all(STDOUT, &one);
-}
-
-// The first `n` bytes of a sheet.
-fn print_sheet(sheet: &[u8], n: usize) {
-    let mut i = 0;
-    while i < n {
-        print_byte(byte(sheet, i));
-        i += 1;
-    }
+    report_count(b"openings ", counts, OPENINGS);
+    report_count(b"longest walk ", counts, LONGEST);
+    report_count(b"different ", counts, DIFFERENT);
 }
 
 // The first difference: how many automata came before it, the batch and both sheets.
-fn show(batch: &[u8], ours: &[u8], n: usize, theirs: &[u8], m: usize, before: u64) {
-    print_line(b"different after ", before);
-    print_hex(batch);
-    io::write_all(STDOUT, b"\nthe engine's sheet:\n");
-    print_sheet(ours, n);
-    io::write_all(STDOUT, b"the plain search's sheet:\n");
-    print_sheet(theirs, m);
+fn show(batch: &[u8], ours: &[u8], theirs: &[u8], before: u64) {
+    say_count(b"different after ", before);
+    output::say_hex(batch);
+    say(b"\nthe engine's sheet:\n");
+    say(ours);
+    say(b"the plain search's sheet:\n");
+    say(theirs);
 }
 
 // Compares the sheets, counts a difference, and shows the first.
-pub fn compare(batch: &[u8], ours: &[u8], n: usize, theirs: &[u8], m: usize, counts: &mut [u64]) {
-    if is_same(ours, n, theirs, m) {
+pub fn compare(batch: &[u8], ours: &[u8], theirs: &[u8], counts: &mut [u64]) {
+    if output::same(ours, theirs) {
         return;
     }
-    let earlier = get(counts, 44);
-    let before = std::num::wrapping_add_u64(get(counts, 40), get(counts, 41));
-    add(counts, 44, 1);
-    if earlier == 0 {
-        show(batch, ours, n, theirs, m, before);
+    if get(counts, DIFFERENT) == 0 {
+        show(batch, ours, theirs, tried(counts));
     }
+    add(counts, DIFFERENT, 1);
 }

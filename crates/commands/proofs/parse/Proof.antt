@@ -28,7 +28,7 @@ unfolding m.meaning
 returns-2 c =
     let a = c .before .before .before .before .before .before .before .before .args in
     let e : m.passed-over (a .line .now) ≡ false = sym (c .before .before .before .before .before .is-passed-over .ensures) ∙ c .before .before .before .before .if1 .left in
-    let f : m.called (length (a .batch .now)) (a .line .now) ≡ m.meaning (length (a .batch .now)) (a .line .now) = simp e in
+    let f : m.called m.words (length (a .batch .now)) (a .line .now) ≡ m.meaning (length (a .batch .now)) (a .line .now) = simp e in
     subst (λ x. Means x (c .before .before .called .last .1 .0) (c .before .before .called .result)) f (c .before .before .called .ensures)
 
 pub parse-spec : {M : Type 1} → statement M

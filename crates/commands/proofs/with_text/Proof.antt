@@ -1,0 +1,50 @@
+-- `with_text` meets its contract: by the word.
+use Rattle.commands.proofs.Seeking.{extends-change, extends-report, extends-other}
+use lib.ListN.{length}
+use borrow.Author.Needs.{needs}
+use Rattle.commands.proofs.with_text.Statement.{statement}
+use Rattle.commands.proofs.with_text.Tie as tie
+
+enum-known-word : tie.Need-enum-known-word
+enum-known-word c = search needs
+
+with-batch-requires : tie.Need-with-batch-requires
+with-batch-requires c κs = search needs
+
+enum-known-word-2 : tie.Need-enum-known-word-2
+enum-known-word-2 c = search needs
+
+with-length-requires : tie.Need-with-length-requires
+with-length-requires c κs = search needs
+
+same-length : tie.Need-same-length
+same-length c = search needs
+
+returns : tie.Need-returns
+returns c = λ meant asks.
+    let w = c .before .before in
+    let s = w .before .before .before in
+    let a = s .before .before .before .before .args in
+    extends-change meant (length (a .batch .now)) (a .text .now) (a .word) _ _ (w .with-batch .last .1 .1 .0) (w .with-batch .result) (s .word .given .1) asks (w .with-batch .ensures)
+
+returns-2 : tie.Need-returns-2
+returns-2 c = λ meant asks.
+    let s = c .before .before in
+    let a = s .before .before .before .before .args in
+    extends-report meant (length (a .batch .now)) (a .text .now) (a .word) _ _ (a .batch .now) (c .with-length .result) (s .word2 .given .1) asks (c .with-length .ensures (a .batch .now))
+
+returns-3 : tie.Need-returns-3
+returns-3 c = λ meant asks. let a = c .before .before .before .args in extends-other meant (length (a .batch .now)) (a .text .now) (a .word) (c .match .keys3) asks
+
+pub with-text-spec : {M : Type 1} → statement M
+with-text-spec =
+    tie.close
+    (tie.spec
+    enum-known-word
+    with-batch-requires
+    enum-known-word-2
+    with-length-requires
+    same-length
+    returns
+    returns-2
+    returns-3)

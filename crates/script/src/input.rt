@@ -1,0 +1,127 @@
+// The lines of standard input.
+use crate::calls::run_line;
+use output::say;
+use session::Session;
+ghost use Prim.Native.Nat.{_≤_};
+ghost use lib.ListN.{length};
+ghost use Rattle.script.specs.Input.{Held, Within};
+
+// What standard input gave: a count of bytes at the start of the buffer, none at its end; or a read that failed.
+enum Input {
+    Bytes(usize),
+    Failed,
+}
+
+// Where a line ends or breaks off, and how many bytes of it are held; more than the buffer has where it is too long.
+struct Piece {
+    at: usize,
+    held: usize,
+}
+
+// The session after whole lines, and how many bytes of the next are held.
+struct State {
+    session: Session,
+    held: usize,
+}
+
+// Reads once.
+fn read_some(buffer: &mut [u8]) -> Input
+    ensures { λ r. ⌜ Held r (now (buffer .exit)) ⌝ }
+{
+    let got = libc::read(libc::STDIN_FILENO, buffer);
+    if got < 0 {
+        return Input::Failed;
+    }
+    Input::Bytes(io::count(got, buffer))
+}
+
+// Says why a read failed.
+fn say_failed() {
+    os::fail(b"standard input");
+}
+
+// Puts a byte behind those that are held, where there is room.
+fn put(line: &mut [u8], held: usize, byte: u8) -> usize {
+    if held < line.len() {
+        line[held] = byte;
+        return held + 1;
+    }
+    usize::MAX
+}
+
+// Takes the bytes of a line up to its end, or to the end of what was read.
+fn take_line(read: &[u8], from: usize, line: &mut [u8], held: usize) -> Piece
+    requires { ⌜ from ≤ length (now read) ⌝ }
+    ensures { λ r. ⌜ Within from (now (read .entry)) (r .at) ⌝ }
+{
+    let mut at = from;
+    let mut held = held;
+    while at < read.len() && read[at] != b'\n' {
+        held = put(line, held, read[at]);
+        at += 1;
+    }
+    Piece { at, held }
+}
+
+// Runs a line that is held, or says that it is too long.
+fn run_held(session: Session, line: &[u8], held: usize, checks: bool) -> Session {
+    if held > line.len() {
+        say(b"too long\n");
+        return session;
+    }
+    run_line(session, &line[..held], checks)
+}
+
+// Runs the lines that end in what was read.
+fn run_lines(session: Session, read: &[u8], line: &mut [u8], held: usize, checks: bool) -> State {
+    let mut last = session;
+    let mut held = held;
+    let mut at = 0;
+    while at < read.len() {
+        let piece = take_line(read, at, line, held);
+        at = piece.at;
+        held = piece.held;
+        if at < read.len() {
+            last = run_held(last, line, held, checks);
+            held = 0;
+            at += 1;
+        }
+    }
+    State {
+        session: last,
+        held,
+    }
+}
+
+// Runs a last line that has no line end.
+fn finish(session: Session, line: &[u8], held: usize, checks: bool) {
+    if held > 0 {
+        run_held(session, line, held, checks);
+    }
+}
+
+// Reads and runs lines to the end of the input. A proved loop has to end, and nothing says that the input does: so the turns are
+// counted down, from a number that no run uses up.
+pub fn run(session: Session, read: &mut [u8], line: &mut [u8], checks: bool) {
+    let mut last = session;
+    let mut held = 0;
+    let mut turns = u64::MAX;
+    while turns > 0 {
+        match read_some(read) {
+            Input::Bytes(n) => {
+                if n == 0 {
+                    finish(last, line, held, checks);
+                    return;
+                }
+                let state = run_lines(last, &read[..n], line, held, checks);
+                last = state.session;
+                held = state.held;
+            }
+            Input::Failed => {
+                say_failed();
+                return;
+            }
+        }
+        turns -= 1;
+    }
+}

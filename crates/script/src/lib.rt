@@ -1,0 +1,15 @@
+// A session in lines: each line of standard input asks for a call, and each call is answered on standard output.
+mod calls;
+mod checks;
+mod input;
+
+use session::Session;
+
+// Runs the lines of standard input on a fresh session. Where it checks, comments are written out, and a refusal says whether the
+// session and the buffer are as they were.
+pub fn run(checks: bool) {
+    let mut read = [0u8; 65536];
+    // A batch of 65,536 bytes in hex and the word before it have 131,081 bytes at most.
+    let mut line = [0u8; 140000];
+    input::run(Session::fresh(), &mut read, &mut line, checks);
+}
