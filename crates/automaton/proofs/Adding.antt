@@ -1,11 +1,11 @@
--- A state that is added to a mask, a mask among 64, the place of a word among words in order.
-use Prim.Native.Nat.{ℕ, _<_, _≤_}
+-- A state that is added to a mask, a mask of a part, the sets of a graph, the place of a set among sets in order.
+use Prim.Native.Nat.{ℕ, zero, suc, _+_, _<_, _≤_}
 use mathlib.Core.Path.{_≡_, refl, ap, sym, _∙_, subst}
 use mathlib.Core.Bool.{Bool, _||_}
-use mathlib.Core.Logic.{_⊎_, inl, inr, ⊎-elim, _↔_}
+use mathlib.Core.Logic.{_⊎_, inl, inr, ⊎-elim, _↔_, _≢_}
 use mathlib.Core.List.{List}
 use lib.Dec.{eqb}
-use lib.ListN.{length, getD, set, length-set}
+use lib.ListN.{length, getD, set, replicate, length-set}
 use lib.Seq.{getD-set-same, getD-set-other}
 use native.Mathlib.Omega.{arith}
 use Rattle.lists.proofs.Deciding.{eqb·, ltb·, dec·}
@@ -13,7 +13,7 @@ use Rattle.masks.specs.Mask.{member, _∈_}
 use Rattle.masks.proofs.Member.{with-same, with-cases, lt-or-le}
 use Rattle.sorted.specs.declared.Place.the-variants.{At, Gap}
 use Rattle.sorted.specs.Keys.{SearchesWord}
-use Rattle.automaton.specs.Promise.{Adds, Puts, Places}
+use Rattle.automaton.specs.Promise.{Adds, Puts, HasSets, Places}
 
 pub added : (m s w : ℕ) → s < 64 → ((t : ℕ) → member t w ≡ (member t m || eqb t s)) → Adds m s w
 added m s w h is t = (
@@ -25,28 +25,57 @@ added m s w h is t = (
 pub not-added : (m s : ℕ) → 64 ≤ s → Adds m s m
 not-added m s h t = (inl, ⊎-elim (λ i. i) (λ p. absurd (omega (arith, p .1))))
 
-pub put-at : (old : List ℕ) (at s v : ℕ) → at < 64 → Adds (getD old at 0) s v → Puts old at s (set old at v)
-put-at old at s v h is = record { length-is = length-set old at v; masks-are = λ len i t. go len i t (dec· (eqb· i at)) }
-  where
-    go : length old ≡ 64 → (i t : ℕ) → Dec (i ≡ at) → (t ∈ getD (set old at v) i 0) ↔ ((t ∈ getD old i 0) ⊎ ((i ≡ at) × (at < 64) × (t ≡ s) × (s < 64)))
-    go len i t (yes e) = let a : getD (set old at v) i 0 ≡ v = ap (λ j. getD (set old at v) j 0) e ∙ getD-set-same old at v 0 (omega arith) in
-        let b : getD old at 0 ≡ getD old i 0 = ap (λ j. getD old j 0) (sym e) in (
-          (λ j. ⊎-elim (λ k. inl (subst (λ x. t ∈ x) b k)) (λ p. inr (e, h, p .0, p .1)) (is t .0 (subst (λ x. t ∈ x) a j))),
-          λ j. subst (λ x. t ∈ x) (sym a) (is t .1 (⊎-elim (λ k. inl (subst (λ x. t ∈ x) (sym b) k)) (λ p. inr (p .2, p .3)) j)),
-        )
-    go len i t (no n) = let a = getD-set-other old at i v 0 n in
-        ((λ j. inl (subst (λ x. t ∈ x) a j)), ⊎-elim (λ j. subst (λ x. t ∈ x) (sym a) j) (λ p. absurd (n (p .0))))
+pub put-at : (old : List ℕ) (base at s v : ℕ) → base ≤ 192 → at < 64 → Adds (getD old (base + at) 0) s v → Puts old base at s (set old (base + at) v)
+put-at old base at s v low h is = record {
+  length-is = length-set old (base + at) v;
+  here = λ len g. subst (λ x. Adds (getD old (base + at) 0) s x) (sym (getD-set-same old (base + at) v 0 (omega arith))) is;
+  others = λ j n. getD-set-other old (base + at) j v 0 (n h);
+}
 
 -- no place, and nothing is put
-pub not-put : (old : List ℕ) (at s : ℕ) → 64 ≤ at → Puts old at s old
-not-put old at s h = record { length-is = refl; masks-are = λ len i t. (inl, ⊎-elim (λ j. j) (λ p. absurd (omega (arith, p .1)))) }
+pub not-put : (old : List ℕ) (base at s : ℕ) → 64 ≤ at → Puts old base at s old
+not-put old base at s h = record { length-is = refl; here = λ len g. absurd (omega arith); others = λ j n. refl }
 
-module _ (words : List ℕ) (n x : ℕ) where
-  -- where the search finds the word, that is its place
-  pub found-place : (i : ℕ) → SearchesWord words n x (At i) → Places words n x i
-  found-place i s rising j l = let f = s .finds rising in ((λ e. ap (λ k. getD words k 0) e ∙ f .1), λ e. only (f .0) (f .1) e)
+-- what a part has where something was put into it
+pub put-iff : (old : List ℕ) (base at s : ℕ) (new : List ℕ) → length old ≡ 256 → Puts old base at s new
+    → (i t : ℕ) → (t ∈ getD new (base + i) 0) ↔ ((t ∈ getD old (base + i) 0) ⊎ ((i ≡ at) × (at < 64) × (t ≡ s) × (s < 64)))
+put-iff old base at s new len put i t = go (dec· (eqb· i at)) (dec· (ltb· at 64))
+  where
+    stays : (at < 64 → base + i ≢ base + at) → ((i ≡ at) → at < 64 → ⊥) → (t ∈ getD new (base + i) 0) ↔ ((t ∈ getD old (base + i) 0) ⊎ ((i ≡ at) × (at < 64) × (t ≡ s) × (s < 64)))
+    stays n m = let e = put .others (base + i) n in ((λ j. inl (subst (λ x. t ∈ x) e j)), ⊎-elim (λ j. subst (λ x. t ∈ x) (sym e) j) (λ p. absurd (m (p .0) (p .1))))
+
+    go : Dec (i ≡ at) → Dec (at < 64) → (t ∈ getD new (base + i) 0) ↔ ((t ∈ getD old (base + i) 0) ⊎ ((i ≡ at) × (at < 64) × (t ≡ s) × (s < 64)))
+    go (yes e) (yes h) = rw e (let is = put .here len h t in ((λ j. ⊎-elim inl (λ p. inr (refl, h, p .0, p .1)) (is .0 j)), λ j. is .1 (⊎-elim inl (λ p. inr (p .2, p .3)) j)))
+    go (no n) d = stays (λ h e. n (omega arith)) (λ e h. n e)
+    go (yes e) (no n) = stays (λ h. absurd (n h)) (λ e h. n h)
+
+-- ---- the sets
+
+pub no-sets : (sets : List ℕ) → HasSets sets 0 (replicate 256 0)
+no-sets sets = record { length-is = refl; sets-are = λ j h. absurd (omega arith); others = λ j h. zeros 256 j }
+  where
+    zeros : (n i : ℕ) → _≡_ {A = ℕ} (getD (replicate n 0) i 0) 0
+    zeros zero i = refl
+    zeros (suc n) zero = refl
+    zeros (suc n) (suc i) = zeros n i
+
+pub one-set-more : (sets r : List ℕ) (i : ℕ) → i < 64 → HasSets sets i r → HasSets sets (i + 1) (set r (64 + i) (getD sets i 0))
+one-set-more sets r i h now = record {
+  length-is = length-set r (64 + i) (getD sets i 0) ∙ now .length-is;
+  sets-are = λ j l. ⊎-elim
+      (λ g. getD-set-other r (64 + i) (64 + j) (getD sets i 0) 0 (λ e. omega arith) ∙ now .sets-are j g)
+      (λ g. let e : j ≡ i = omega arith in rw e (getD-set-same r (64 + i) (getD sets i 0) 0 (omega (arith, now .length-is))))
+      (lt-or-le j i);
+  others = λ j l. getD-set-other r (64 + i) j (getD sets i 0) 0 (λ e. ⊎-elim (λ g. omega arith) (λ g. omega arith) l)
+      ∙ now .others j (⊎-elim inl (λ g. inr (omega arith)) l);
+}
+
+module _ (sets : List ℕ) (n x : ℕ) where
+  -- where the search finds the set, that is its place
+  pub found-place : (i : ℕ) → SearchesWord sets n x (At i) → Places sets n x i
+  found-place i s rising j l = let f = s .finds rising in ((λ e. ap (λ k. getD sets k 0) e ∙ f .1), λ e. only (f .0) (f .1) e)
     where
-      only : i < n → getD words i 0 ≡ x → getD words j 0 ≡ x → j ≡ i
+      only : i < n → getD sets i 0 ≡ x → getD sets j 0 ≡ x → j ≡ i
       only k a b = go (dec· (ltb· j i)) (dec· (ltb· i j))
         where
           go : Dec (j < i) → Dec (i < j) → j ≡ i
@@ -54,7 +83,7 @@ module _ (words : List ℕ) (n x : ℕ) where
           go (no p) (yes q) = absurd (omega (arith, rising i j q l))
           go (no p) (no q) = omega arith
 
-  -- where it finds a gap, no place has the word
-  pub no-place : (i : ℕ) → n ≤ 64 → SearchesWord words n x (Gap i) → Places words n x 64
+  -- where it finds a gap, no place has the set
+  pub no-place : (i : ℕ) → n ≤ 64 → SearchesWord sets n x (Gap i) → Places sets n x 64
   no-place i few s rising j l = let f = s .finds rising in
       ((λ e. absurd (omega arith)), λ e. ⊎-elim (λ k. absurd (omega (arith, f .1 j k))) (λ k. absurd (omega (arith, f .2 j k l))) (lt-or-le j i))

@@ -1,25 +1,30 @@
--- The masks of the rows that were passed, and that with all rows passed they are those that the promise gives.
-use Prim.Native.Nat.{ℕ, zero, suc, _<_, _≤_}
+-- The graph of the rows that were passed, and that with all rows passed it is the one that the promise gives.
+use Prim.Native.Nat.{ℕ, _+_, _<_, _≤_}
 use mathlib.Core.Path.{_≡_, refl, ap, ap₂, sym, _∙_, subst}
-use mathlib.Core.Logic.{_⊎_, inl, inr, ⊎-elim, _↔_}
+use mathlib.Core.Logic.{_⊎_, inl, inr, ⊎-elim, _↔_, _≢_}
 use mathlib.Core.List.{List, [], _∷_, _++_, List·Memᴰ·head, List·Memᴰ·not-nil, List·Memᴰ·append-cases, List·Memᴰ·eq-of-singleton, Memᴰ·cast, Memᴰ·append-left, Memᴰ·append-right}
-use lib.ListN.{length, take, getD, replicate}
-use lib.Seq.{getD-take}
+use lib.ListN.{length, take, getD, length-take, length-drop}
+use lib.Seq.{getD-take, ext-getD}
 use native.Mathlib.Omega.{arith}
 use Rattle.lists.specs.Tests.{_among_}
-use Rattle.lists.proofs.Places.{getD-among, getD-map, rising}
+use Rattle.lists.proofs.Places.{getD-among, getD-map}
+use Rattle.lists.proofs.Deciding.{ltb·, dec·}
 use Rattle.masks.specs.Mask.{_∈_}
 use Rattle.masks.proofs.Member.{in-none}
 use Rattle.sorted.specs.Keys.{Rising}
 use Rattle.rows.specs.declared.Row.{Row}
 use Rattle.rows.specs.declared.Row.the-variants.{Initial, Final, Successor, LeftLimit, RightLimit}
-use Rattle.rows.specs.Rows.{AllFit, sets}
+use Rattle.rows.specs.Rows as Rows
+use Rattle.rows.specs.Rows.{AllFit}
 use Rattle.rows.specs.Keys.{high, low, row-from}
 use Rattle.rows.proofs.Keys.{key-back}
-use Rattle.rows.proofs.Sets.{sets-sorted, sets-once}
+use Rattle.rows.proofs.Sets.{words-rise}
+use Rattle.search.specs.Graph.{part, graph-of}
+use Rattle.search.proofs.Parts.{past-part, letters-at, sets-at, lefts-at, rights-at}
 use Rattle.table.specs.Arrays.{Keyed}
 use Rattle.automaton.specs.declared.Automaton.{Automaton}
-use Rattle.automaton.specs.Promise.{Adds, Puts, Places, Gives}
+use Rattle.automaton.specs.Promise.{Adds, Puts, HasSets, Places, Gives}
+use Rattle.automaton.proofs.Adding.{put-iff}
 
 -- some row of the list has P
 abbrev Some : (Row → Type 0) → List Row → Type 0
@@ -41,33 +46,30 @@ Enters P t x = (x ≡ LeftLimit P t) × (t < 64)
 abbrev Leaves : ℕ → ℕ → Row → Type 0
 Leaves P t x = (x ≡ RightLimit t P) × (t < 64)
 
--- the masks are those of the rows of a list
-pub record Passed (words : List ℕ) (n : ℕ) (l : List Row) (letters lefts rights : List ℕ) (initials finals : ℕ) : Type 0 where
-  pub sizes : (length letters ≡ 64) × (length lefts ≡ 64) × (length rights ≡ 64)
+-- the graph, as an array of masks, is that of the rows of a list, with these sets
+pub record Passed (sets : List ℕ) (n : ℕ) (l : List Row) (graph : List ℕ) (initials finals : ℕ) : Type 0 where
+  pub size : length graph ≡ 256
+  pub kept : (i : ℕ) → i < 64 → getD graph (64 + i) 0 ≡ getD sets i 0
   pub starts : (t : ℕ) → (t ∈ initials) ↔ Some (Starts t) l
   pub ends : (t : ℕ) → (t ∈ finals) ↔ Some (Ends t) l
-  pub leads : (p q : ℕ) → (q ∈ getD letters p 0) ↔ Some (Leads p q) l
-  pub enters : Rising words n → (i t : ℕ) → i < n → (t ∈ getD lefts i 0) ↔ Some (Enters (getD words i 0) t) l
-  pub leaves : Rising words n → (i t : ℕ) → i < n → (t ∈ getD rights i 0) ↔ Some (Leaves (getD words i 0) t) l
+  pub leads : (p q : ℕ) → p < 64 → (q ∈ getD graph p 0) ↔ Some (Leads p q) l
+  pub enters : Rising sets n → (i t : ℕ) → i < n → (t ∈ getD graph (128 + i) 0) ↔ Some (Enters (getD sets i 0) t) l
+  pub leaves : Rising sets n → (i t : ℕ) → i < n → (t ∈ getD graph (192 + i) 0) ↔ Some (Leaves (getD sets i 0) t) l
 
 -- ---- nothing passed
-
-zeros : (n i : ℕ) → _≡_ {A = ℕ} (getD (replicate n 0) i 0) 0
-zeros zero i = refl
-zeros (suc n) zero = refl
-zeros (suc n) (suc i) = zeros n i
 
 nobody : (P : Row → Type 0) (t : ℕ) {m : ℕ} → m ≡ 0 → (t ∈ m) ↔ Some P []
 nobody P t e = ((λ i. absurd (in-none t (subst (λ m. t ∈ m) e i))), λ p. absurd (List·Memᴰ·not-nil (p .1)))
 
-pub none-passed : (words : List ℕ) (n : ℕ) → Passed words n [] (replicate 64 0) (replicate 64 0) (replicate 64 0) 0 0
-none-passed words n = record {
-  sizes = (refl, refl, refl);
+pub none-passed : (sets : List ℕ) (n : ℕ) (graph : List ℕ) → HasSets sets 64 graph → Passed sets n [] graph 0 0
+none-passed sets n graph has = record {
+  size = has .length-is;
+  kept = has .sets-are;
   starts = λ t. nobody (Starts t) t refl;
   ends = λ t. nobody (Ends t) t refl;
-  leads = λ p q. nobody (Leads p q) q (zeros 64 p);
-  enters = λ o i t l. nobody (Enters (getD words i 0) t) t (zeros 64 i);
-  leaves = λ o i t l. nobody (Leaves (getD words i 0) t) t (zeros 64 i);
+  leads = λ p q h. nobody (Leads p q) q (has .others p (inl h));
+  enters = λ o i t l. nobody (Enters (getD sets i 0) t) t (has .others (128 + i) (inr (omega arith)));
+  leaves = λ o i t l. nobody (Leaves (getD sets i 0) t) t (has .others (192 + i) (inr (omega arith)));
 }
 
 -- ---- one row more
@@ -98,74 +100,83 @@ state-own f only m s r e is t = (
   λ i. is t .1 (⊎-elim inl (λ p. let g = only s t (sym e ∙ p .0) in inr (sym g, omega (arith, p .1, g))) i),
 )
 
-step-own : {x : Row} (letters new : List ℕ) {p a q : ℕ} → x ≡ Successor p a q → length letters ≡ 64 → Puts letters p q new
-    → (i t : ℕ) → (t ∈ getD new i 0) ↔ ((t ∈ getD letters i 0) ⊎ Leads i t x)
-step-own letters new {p} {a} {q} e size put i t = let is = put .masks-are size in (
+step-own : {x : Row} (graph new : List ℕ) {p a q : ℕ} → x ≡ Successor p a q → length graph ≡ 256 → Puts graph 0 p q new
+    → (i t : ℕ) → (t ∈ getD new i 0) ↔ ((t ∈ getD graph i 0) ⊎ Leads i t x)
+step-own graph new {p} {a} {q} e size put i t = let z : 0 + i ≡ i = omega arith in let is = rw z at (put-iff graph 0 p q new size put i t) in (
   (λ k. ⊎-elim inl (λ w. let g : Successor p a q ≡ Successor i a t = ap₂ (λ y z. Successor y a z) (sym (w .0)) (sym (w .2)) in
-      inr (a, e ∙ g, omega (arith, w .0, w .1), omega (arith, w .2, w .3))) (is i t .0 k)),
-  λ k. is i t .1 (⊎-elim inl (λ w. let g = sym e ∙ w .1 in let u : p ≡ i = cc in let v : q ≡ t = cc in
+      inr (a, e ∙ g, omega (arith, w .0, w .1), omega (arith, w .2, w .3))) (is .0 k)),
+  λ k. is .1 (⊎-elim inl (λ w. let g = sym e ∙ w .1 in let u : p ≡ i = cc in let v : q ≡ t = cc in
       inr (sym u, omega (arith, w .2), sym v, omega (arith, w .3))) k),
 )
 
--- a limit row, in the mask at the place of its set
-limit-own : (f : ℕ → ℕ → Row) → ((P s Q t : ℕ) → f P s ≡ f Q t → (P ≡ Q) × (s ≡ t)) → (words : List ℕ) (n : ℕ) → n ≤ 64 → {x : Row} (masks new : List ℕ) (P q at : ℕ)
-    → x ≡ f P q → Places words n P at → length masks ≡ 64 → Puts masks at q new
-    → Rising words n → (i t : ℕ) → i < n → (t ∈ getD new i 0) ↔ ((t ∈ getD masks i 0) ⊎ ((x ≡ f (getD words i 0) t) × (t < 64)))
-limit-own f only words n few masks new P q at e there size put o i t l = let is = put .masks-are size in (
-  (λ k. ⊎-elim inl (λ w. inr (e ∙ ap₂ f (sym (there o i l .0 (w .0))) (sym (w .2)), omega (arith, w .2, w .3))) (is i t .0 k)),
-  λ k. is i t .1 (⊎-elim inl (λ w. let g = only P q (getD words i 0) t (sym e ∙ w .0) in let u = there o i l .1 (sym (g .0)) in
+-- a limit row, in the mask at the place of its set, in the part of its kind
+limit-own : (f : ℕ → ℕ → Row) → ((P s Q t : ℕ) → f P s ≡ f Q t → (P ≡ Q) × (s ≡ t)) → (sets : List ℕ) (n base : ℕ) → n ≤ 64 → {x : Row} (graph new : List ℕ) (P q at : ℕ)
+    → x ≡ f P q → Places sets n P at → length graph ≡ 256 → Puts graph base at q new
+    → Rising sets n → (i t : ℕ) → i < n → (t ∈ getD new (base + i) 0) ↔ ((t ∈ getD graph (base + i) 0) ⊎ ((x ≡ f (getD sets i 0) t) × (t < 64)))
+limit-own f only sets n base few graph new P q at e there size put o i t l = let is = put-iff graph base at q new size put i t in (
+  (λ k. ⊎-elim inl (λ w. inr (e ∙ ap₂ f (sym (there o i l .0 (w .0))) (sym (w .2)), omega (arith, w .2, w .3))) (is .0 k)),
+  λ k. is .1 (⊎-elim inl (λ w. let g = only P q (getD sets i 0) t (sym e ∙ w .0) in let u = there o i l .1 (sym (g .0)) in
       inr (u, omega arith, sym (g .1), omega (arith, w .1, g .1))) k),
 )
 
-module _ (words : List ℕ) (n : ℕ) (few : n ≤ 64) {l : List Row} {letters lefts rights : List ℕ} {initials finals : ℕ} (h : Passed words n l letters lefts rights initials finals) (x : Row) where
-  pub pass-initial : {s r : ℕ} → x ≡ Initial s → Adds initials s r → Passed words n (l ++ (x ∷ [])) letters lefts rights r finals
+module _ (sets : List ℕ) (n : ℕ) (few : n ≤ 64) {l : List Row} {graph : List ℕ} {initials finals : ℕ} (h : Passed sets n l graph initials finals) (x : Row) where
+  pub pass-initial : {s r : ℕ} → x ≡ Initial s → Adds initials s r → Passed sets n (l ++ (x ∷ [])) graph r finals
   pass-initial {s} {r} e is = record {
-    sizes = h .sizes;
+    size = h .size;
+    kept = h .kept;
     starts = λ t. own (Starts t) l x (state-own Initial (λ a b i. cc) initials s r e is t) (h .starts t);
     ends = λ t. other (Ends t) l x (λ p. never (cc (p .0))) (h .ends t);
-    leads = λ p q. other (Leads p q) l x (λ w. never (cc (w .1))) (h .leads p q);
-    enters = λ o i t k. other (Enters (getD words i 0) t) l x (λ p. never (cc (p .0))) (h .enters o i t k);
-    leaves = λ o i t k. other (Leaves (getD words i 0) t) l x (λ p. never (cc (p .0))) (h .leaves o i t k);
+    leads = λ p q j. other (Leads p q) l x (λ w. never (cc (w .1))) (h .leads p q j);
+    enters = λ o i t k. other (Enters (getD sets i 0) t) l x (λ p. never (cc (p .0))) (h .enters o i t k);
+    leaves = λ o i t k. other (Leaves (getD sets i 0) t) l x (λ p. never (cc (p .0))) (h .leaves o i t k);
   }
 
-  pub pass-final : {s r : ℕ} → x ≡ Final s → Adds finals s r → Passed words n (l ++ (x ∷ [])) letters lefts rights initials r
+  pub pass-final : {s r : ℕ} → x ≡ Final s → Adds finals s r → Passed sets n (l ++ (x ∷ [])) graph initials r
   pass-final {s} {r} e is = record {
-    sizes = h .sizes;
+    size = h .size;
+    kept = h .kept;
     starts = λ t. other (Starts t) l x (λ p. never (cc (p .0))) (h .starts t);
     ends = λ t. own (Ends t) l x (state-own Final (λ a b i. cc) finals s r e is t) (h .ends t);
-    leads = λ p q. other (Leads p q) l x (λ w. never (cc (w .1))) (h .leads p q);
-    enters = λ o i t k. other (Enters (getD words i 0) t) l x (λ p. never (cc (p .0))) (h .enters o i t k);
-    leaves = λ o i t k. other (Leaves (getD words i 0) t) l x (λ p. never (cc (p .0))) (h .leaves o i t k);
+    leads = λ p q j. other (Leads p q) l x (λ w. never (cc (w .1))) (h .leads p q j);
+    enters = λ o i t k. other (Enters (getD sets i 0) t) l x (λ p. never (cc (p .0))) (h .enters o i t k);
+    leaves = λ o i t k. other (Leaves (getD sets i 0) t) l x (λ p. never (cc (p .0))) (h .leaves o i t k);
   }
 
-  pub pass-step : {p a q : ℕ} {new : List ℕ} → x ≡ Successor p a q → Puts letters p q new → Passed words n (l ++ (x ∷ [])) new lefts rights initials finals
+  -- the masks of the other parts
+  stays : {base at s : ℕ} {new : List ℕ} → Puts graph base at s new → (j : ℕ) → (at < 64 → j ≢ base + at) → {S : Type 0} (t : ℕ) → (t ∈ getD graph j 0) ↔ S → (t ∈ getD new j 0) ↔ S
+  stays is j apart t f = rw (is .others j apart) f
+
+  pub pass-step : {p a q : ℕ} {new : List ℕ} → x ≡ Successor p a q → Puts graph 0 p q new → Passed sets n (l ++ (x ∷ [])) new initials finals
   pass-step {new = new} e is = record {
-    sizes = (is .length-is ∙ h .sizes .0, h .sizes .1, h .sizes .2);
+    size = is .length-is ∙ h .size;
+    kept = λ i j. is .others (64 + i) (λ a b. omega arith) ∙ h .kept i j;
     starts = λ t. other (Starts t) l x (λ p. never (cc (p .0))) (h .starts t);
     ends = λ t. other (Ends t) l x (λ p. never (cc (p .0))) (h .ends t);
-    leads = λ p q. own (Leads p q) l x (step-own letters new e (h .sizes .0) is p q) (h .leads p q);
-    enters = λ o i t k. other (Enters (getD words i 0) t) l x (λ p. never (cc (p .0))) (h .enters o i t k);
-    leaves = λ o i t k. other (Leaves (getD words i 0) t) l x (λ p. never (cc (p .0))) (h .leaves o i t k);
+    leads = λ p q j. own (Leads p q) l x (step-own graph new e (h .size) is p q) (h .leads p q j);
+    enters = λ o i t k. stays is (128 + i) (λ a b. omega arith) t (other (Enters (getD sets i 0) t) l x (λ p. never (cc (p .0))) (h .enters o i t k));
+    leaves = λ o i t k. stays is (192 + i) (λ a b. omega arith) t (other (Leaves (getD sets i 0) t) l x (λ p. never (cc (p .0))) (h .leaves o i t k));
   }
 
-  pub pass-left : {P q : ℕ} (at : ℕ) {new : List ℕ} → x ≡ LeftLimit P q → Places words n P at → Puts lefts at q new → Passed words n (l ++ (x ∷ [])) letters new rights initials finals
+  pub pass-left : {P q : ℕ} (at : ℕ) {new : List ℕ} → x ≡ LeftLimit P q → Places sets n P at → Puts graph 128 at q new → Passed sets n (l ++ (x ∷ [])) new initials finals
   pass-left {P} {q} at {new} e there is = record {
-    sizes = (h .sizes .0, is .length-is ∙ h .sizes .1, h .sizes .2);
+    size = is .length-is ∙ h .size;
+    kept = λ i j. is .others (64 + i) (λ a b. omega arith) ∙ h .kept i j;
     starts = λ t. other (Starts t) l x (λ p. never (cc (p .0))) (h .starts t);
     ends = λ t. other (Ends t) l x (λ p. never (cc (p .0))) (h .ends t);
-    leads = λ p q. other (Leads p q) l x (λ w. never (cc (w .1))) (h .leads p q);
-    enters = λ o i t k. own (Enters (getD words i 0) t) l x (limit-own LeftLimit (λ a b c d i. (cc, cc)) words n few lefts new P q at e there (h .sizes .1) is o i t k) (h .enters o i t k);
-    leaves = λ o i t k. other (Leaves (getD words i 0) t) l x (λ p. never (cc (p .0))) (h .leaves o i t k);
+    leads = λ p q j. stays is p (λ a b. omega arith) q (other (Leads p q) l x (λ w. never (cc (w .1))) (h .leads p q j));
+    enters = λ o i t k. own (Enters (getD sets i 0) t) l x (limit-own LeftLimit (λ a b c d i. (cc, cc)) sets n 128 few graph new P q at e there (h .size) is o i t k) (h .enters o i t k);
+    leaves = λ o i t k. stays is (192 + i) (λ a b. omega arith) t (other (Leaves (getD sets i 0) t) l x (λ p. never (cc (p .0))) (h .leaves o i t k));
   }
 
-  pub pass-right : {P q : ℕ} (at : ℕ) {new : List ℕ} → x ≡ RightLimit q P → Places words n P at → Puts rights at q new → Passed words n (l ++ (x ∷ [])) letters lefts new initials finals
+  pub pass-right : {P q : ℕ} (at : ℕ) {new : List ℕ} → x ≡ RightLimit q P → Places sets n P at → Puts graph 192 at q new → Passed sets n (l ++ (x ∷ [])) new initials finals
   pass-right {P} {q} at {new} e there is = record {
-    sizes = (h .sizes .0, h .sizes .1, is .length-is ∙ h .sizes .2);
+    size = is .length-is ∙ h .size;
+    kept = λ i j. is .others (64 + i) (λ a b. omega arith) ∙ h .kept i j;
     starts = λ t. other (Starts t) l x (λ p. never (cc (p .0))) (h .starts t);
     ends = λ t. other (Ends t) l x (λ p. never (cc (p .0))) (h .ends t);
-    leads = λ p q. other (Leads p q) l x (λ w. never (cc (w .1))) (h .leads p q);
-    enters = λ o i t k. other (Enters (getD words i 0) t) l x (λ p. never (cc (p .0))) (h .enters o i t k);
-    leaves = λ o i t k. own (Leaves (getD words i 0) t) l x (limit-own (λ P q. RightLimit q P) (λ a b c d i. (cc, cc)) words n few rights new P q at e there (h .sizes .2) is o i t k) (h .leaves o i t k);
+    leads = λ p q j. stays is p (λ a b. omega arith) q (other (Leads p q) l x (λ w. never (cc (w .1))) (h .leads p q j));
+    enters = λ o i t k. stays is (128 + i) (λ a b. omega arith) t (other (Enters (getD sets i 0) t) l x (λ p. never (cc (p .0))) (h .enters o i t k));
+    leaves = λ o i t k. own (Leaves (getD sets i 0) t) l x (limit-own (λ P q. RightLimit q P) (λ a b c d i. (cc, cc)) sets n 192 few graph new P q at e there (h .size) is o i t k) (h .leaves o i t k);
   }
 
 -- ---- all rows
@@ -178,32 +189,47 @@ row-there rows fit highs lows n keyed i h =
     let b : getD lows i 0 ≡ low (getD rows i (Initial 0)) = sym (getD-take n lows i 0 h) ∙ ap (λ (l : List ℕ). getD l i 0) (keyed .lows-are) ∙ getD-map low rows i (Initial 0) 0 k in
     rw (a, b) (key-back (getD rows i (Initial 0)) (fit (getD rows i (Initial 0)) (getD-among rows i (Initial 0) k)))
 
-module _ (rows : List Row) (fit : AllFit rows) (words : List ℕ) (k : ℕ) (count : k ≡ length (sets rows)) (are : take k words ≡ sets rows) (few : k ≤ 64) where
-  word-at : (i : ℕ) → i < k → getD words i 0 ≡ getD (sets rows) i 0
-  word-at i l = sym (getD-take k words i 0 l) ∙ ap (λ (s : List ℕ). getD s i 0) are
-
-  -- the sets stand in order
-  words-rise : Rising words k
-  words-rise i j p q = rw (word-at i (omega arith), word-at j q)
-      (rising (sets rows) (sets-sorted rows) (sets-once rows) i j p (omega arith))
-
+module _ (rows : List Row) (fit : AllFit rows) (sets : List ℕ) (k : ℕ) (count : k ≡ length (Rows.sets rows)) (are : take k sets ≡ Rows.sets rows) (few : k ≤ 64) where
   -- a row whose state is below 64 where it stands
   one-row : (x : Row) (t : ℕ) → (x among rows → t < 64) → {X : Type 0} → X ↔ Some (λ y. (y ≡ x) × (t < 64)) rows → X ↔ x among rows
   one-row x t f h = ((λ i. let s = h .0 i in Memᴰ·cast (sym (s .2 .0)) (s .1)), λ m. h .1 (x, m, (refl, f m)))
 
-  -- the masks of all the rows
-  pub passed-all : (a : Automaton) → Passed words k rows (a .letters) (a .lefts) (a .rights) (a .initials) (a .finals) → Gives rows words k a
-  passed-all a h = record {
-    masked = record {
-      few = few;
-      sets-are = are;
-      letter-iff = λ p q. (
-        (λ i. let s = h .leads p q .0 i in (s .2 .0, Memᴰ·cast (sym (s .2 .1)) (s .1))),
-        λ i. let f = fit (Successor p (i .0) q) (i .1) in h .leads p q .1 (Successor p (i .0) q, i .1, (i .0, refl, f .0, f .2)),
-      );
-      left-iff = λ i r l. let x = LeftLimit (getD words i 0) r in one-row x r (λ m. fit x m .2) (h .enters words-rise i r l);
-      right-iff = λ i r l. let x = RightLimit r (getD words i 0) in one-row x r (λ m. fit x m .2) (h .leaves words-rise i r l);
-    };
-    initial-iff = λ t. one-row (Initial t) t (fit (Initial t)) (h .starts t);
-    final-iff = λ t. one-row (Final t) t (fit (Final t)) (h .ends t);
-  }
+  module _ (a : Automaton) (h : Passed sets k rows (a .graph) (a .initials) (a .finals)) where
+    set-is : (i : ℕ) → i < 64 → getD (graph-of (a .graph) .sets) i 0 ≡ getD sets i 0
+    set-is i l = sets-at (a .graph) i l ∙ h .kept i l
+
+    sets-length : length (graph-of (a .graph) .sets) ≡ 64
+    unfolding graph-of part
+    sets-length = simp (length-take, length-drop) (omega (arith, h .size))
+
+    letters-past : (p : ℕ) → 64 ≤ p → getD (graph-of (a .graph) .letters) p 0 ≡ 0
+    unfolding graph-of
+    letters-past p l = past-part (a .graph) 0 p l
+
+    letter-iff : (p q : ℕ) → Dec (p < 64) → (q ∈ getD (graph-of (a .graph) .letters) p 0) ↔ ((x : ℕ) × Successor p x q among rows)
+    letter-iff p q (yes l) = rw (letters-at (a .graph) p l) (
+      (λ i. let s = h .leads p q l .0 i in (s .2 .0, Memᴰ·cast (sym (s .2 .1)) (s .1))),
+      λ i. let f = fit (Successor p (i .0) q) (i .1) in h .leads p q l .1 (Successor p (i .0) q, i .1, (i .0, refl, f .0, f .2)),
+    )
+    letter-iff p q (no n) =
+        ((λ i. absurd (in-none q (subst (λ m. q ∈ m) (letters-past p (omega arith)) i))), λ i. absurd (n (fit (Successor p (i .0) q) (i .1) .0)))
+
+    -- the graph of all the rows
+    pub passed-all : Gives rows sets k a
+    passed-all = record {
+      masked = record {
+        few = few;
+        sets-are = ext-getD 0 (take k (graph-of (a .graph) .sets)) (take k sets)
+            (omega (arith, length-take k (graph-of (a .graph) .sets), sets-length, ap length are, count))
+            (λ i l. let g : i < k = omega (arith, length-take k (graph-of (a .graph) .sets)) in
+            getD-take k (graph-of (a .graph) .sets) i 0 g ∙ set-is i (omega arith) ∙ sym (getD-take k sets i 0 g)) ∙ are;
+        letter-iff = λ p q. letter-iff p q (dec· (ltb· p 64));
+        left-iff = λ i r l. rw (lefts-at (a .graph) i (omega arith), set-is i (omega arith))
+            (let x = LeftLimit (getD sets i 0) r in one-row x r (λ m. fit x m .2) (h .enters (words-rise rows sets k are count) i r l));
+        right-iff = λ i r l. rw (rights-at (a .graph) i (omega arith), set-is i (omega arith))
+            (let x = RightLimit r (getD sets i 0) in one-row x r (λ m. fit x m .2) (h .leaves (words-rise rows sets k are count) i r l));
+      };
+      sets-are = λ e. ext-getD 0 (graph-of (a .graph) .sets) sets (sets-length ∙ sym e) (λ i l. set-is i (omega (arith, sets-length)));
+      initial-iff = λ t. one-row (Initial t) t (fit (Initial t)) (h .starts t);
+      final-iff = λ t. one-row (Final t) t (fit (Final t)) (h .ends t);
+    }

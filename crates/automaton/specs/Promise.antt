@@ -1,16 +1,16 @@
--- The masks that the search reads, as the rows give them.
-use Prim.Native.Nat.{ℕ, _<_}
+-- The graph that the search reads, as the rows give it.
+use Prim.Native.Nat.{ℕ, _+_, _≤_, _<_}
 use mathlib.Core.Path.{_≡_}
-use mathlib.Core.Logic.{_⊎_, _↔_}
+use mathlib.Core.Logic.{_⊎_, _↔_, _≢_}
 use mathlib.Core.List.{List}
 use lib.ListN.{length, take, getD}
-use Rattle.lists.specs.Tests.{_among_}
 use Rattle.masks.specs.Mask.{_∈_}
 use Rattle.sorted.specs.Keys.{Rising}
 use Rattle.rows.specs.declared.Row.{Row}
-use Rattle.rows.specs.declared.Row.the-variants.{Initial, Final}
-use Rattle.rows.specs.Rows.{AllFit, sets}
-use Rattle.search.specs.Masked.{Masked}
+use Rattle.rows.specs.Rows.{AllFit}
+use Rattle.rows.specs.Rows as Rows
+use Rattle.search.specs.Graph.{graph-of}
+use Rattle.search.specs.Masked.{Masked, Initials, Finals}
 use Rattle.table.specs.Arrays.{Keyed}
 use Rattle.automaton.specs.declared.Automaton.{Automaton}
 
@@ -18,21 +18,30 @@ use Rattle.automaton.specs.declared.Automaton.{Automaton}
 abbrev pub Adds : ℕ → ℕ → ℕ → Type 0
 Adds m s r = (t : ℕ) → (t ∈ r) ↔ ((t ∈ m) ⊎ ((t ≡ s) × (s < 64)))
 
--- the same of one of 64 masks, the one at a place, if that is below 64; the other masks stay
-pub record Puts (old : List ℕ) (at s : ℕ) (new : List ℕ) : Type 0 where
+-- the same of one of 64 masks, the one at a place of the part that begins at base, if that is below 64; the other masks stay
+pub record Puts (old : List ℕ) (base at s : ℕ) (new : List ℕ) : Type 0 where
   pub length-is : length new ≡ length old
-  pub masks-are : length old ≡ 64 → (i t : ℕ) → (t ∈ getD new i 0) ↔ ((t ∈ getD old i 0) ⊎ ((i ≡ at) × (at < 64) × (t ≡ s) × (s < 64)))
+  pub here : length old ≡ 256 → at < 64 → Adds (getD old (base + at) 0) s (getD new (base + at) 0)
+  pub others : (j : ℕ) → (at < 64 → j ≢ base + at) → getD new j 0 ≡ getD old j 0
 
--- of n words that stand in order, x is the one at the place r and no other
+-- the first i sets stand in their part, and the other masks are empty
+pub record HasSets (sets : List ℕ) (i : ℕ) (r : List ℕ) : Type 0 where
+  pub length-is : length r ≡ 256
+  pub sets-are : (j : ℕ) → j < i → getD r (64 + j) 0 ≡ getD sets j 0
+  pub others : (j : ℕ) → (j < 64) ⊎ (64 + i ≤ j) → getD r j 0 ≡ 0
+
+-- of n sets that stand in order, x is the one at the place r and no other
 abbrev pub Places : List ℕ → ℕ → ℕ → ℕ → Type 0
-Places words n x r = Rising words n → (i : ℕ) → i < n → (i ≡ r) ↔ (getD words i 0 ≡ x)
+Places sets n x r = Rising sets n → (i : ℕ) → i < n → (i ≡ r) ↔ (getD sets i 0 ≡ x)
 
--- the masks of the rows, whose sets are the first k words; their initial and their final states
-pub record Gives (rows : List Row) (words : List ℕ) (k : ℕ) (r : Automaton) : Type 0 where
-  pub masked : Masked rows (r .letters) words (r .lefts) (r .rights) k
-  pub initial-iff : (t : ℕ) → (t ∈ r .initials) ↔ Initial t among rows
-  pub final-iff : (t : ℕ) → (t ∈ r .finals) ↔ Final t among rows
+-- the graph of the rows, with these sets, of which the first k are the rows'; their initial and their final states
+pub record Gives (rows : List Row) (sets : List ℕ) (k : ℕ) (r : Automaton) : Type 0 where
+  pub masked : Masked rows (graph-of (r .graph)) k
+  pub sets-are : length sets ≡ 64 → graph-of (r .graph) .sets ≡ sets
+  pub initial-iff : Initials rows (r .initials)
+  pub final-iff : Finals rows (r .finals)
 
--- the same of all rows that fit, whose keys are the first n of the arrays, and whose k sets are the first k words
+-- the same of all rows that fit, whose keys are the first n of the arrays, and whose k sets are the first k of theirs
 abbrev pub GivesKeyed : List ℕ → List ℕ → ℕ → List ℕ → ℕ → Automaton → Type 0
-GivesKeyed highs lows n words k r = (rows : List Row) → AllFit rows → Keyed rows highs lows n → k ≡ length (sets rows) → take k words ≡ sets rows → Gives rows words k r
+GivesKeyed highs lows n sets k r =
+    (rows : List Row) → AllFit rows → Keyed rows highs lows n → k ≡ length (Rows.sets rows) → take k sets ≡ Rows.sets rows → Gives rows sets k r

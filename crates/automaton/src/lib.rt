@@ -1,15 +1,15 @@
-// The masks that the search reads, made in one pass over the keys of rows.
+// The graph that the search reads, made in one pass over the keys of rows.
 use rows::Row;
+use search::graphs::LEFTS;
+use search::graphs::RIGHTS;
+use search::graphs::SETS;
 use sorted::Place;
 ghost use Prim.Native.Nat.{_≤_};
-ghost use Rattle.automaton.specs.Promise.{Adds, Puts, Places, GivesKeyed};
+ghost use Rattle.automaton.specs.Promise.{Adds, Puts, HasSets, Places, GivesKeyed};
 
-// For each state the targets of its letter steps; for each set the states that its left-limit rows lead to, and those that its
-// right-limit rows start from; the initial and the final states.
+// The graph of some rows as one array of masks; their initial and their final states.
 pub struct Automaton {
-    pub letters: [u64; 64],
-    pub lefts: [u64; 64],
-    pub rights: [u64; 64],
+    pub graph: [u64; 256],
     pub initials: u64,
     pub finals: u64,
 }
@@ -24,40 +24,53 @@ fn add(m: u64, s: u8) -> u64
     m
 }
 
-// Adds `s` to the mask at the place `at`, if there is one.
-fn put(a: &mut [u64; 64], at: usize, s: u8)
-    ensures { λ _. ⌜ Puts (now (a .entry)) at s (now (a .exit)) ⌝ }
+// Adds `s` to the mask at the place `at` of the part that begins at `base`, if there is one.
+fn put(graph: &mut [u64; 256], base: usize, at: usize, s: u8)
+    requires { ⌜ base ≤ 192 ⌝ }
+    ensures { λ _. ⌜ Puts (now (graph .entry)) base at s (now (graph .exit)) ⌝ }
 {
     if at < 64 {
-        a[at] = add(a[at], s);
+        let i = base + at;
+        graph[i] = add(graph[i], s);
     }
 }
 
-// The place of `x` among the first `n` words, or 64, which is none.
-fn place(words: &[u64; 64], n: usize, x: u64) -> usize
+// The place of `x` among the first `n` sets, or 64, which is none.
+fn place(sets: &[u64; 64], n: usize, x: u64) -> usize
     requires { ⌜ n ≤ 64 ⌝ }
-    ensures { λ r. ⌜ Places (now (words .entry)) n x r ⌝ }
+    ensures { λ r. ⌜ Places (now (sets .entry)) n x r ⌝ }
 {
-    match sorted::find_word(words, n, x) {
+    match sorted::find_word(sets, n, x) {
         Place::At(i) => i,
         Place::Gap(_) => 64,
     }
 }
 
-// The automaton of the rows that have the first `n` keys, whose sets are the first `k` words: each row adds one state to one mask.
+// The graph with these sets and nothing else.
+fn with_sets(sets: &[u64; 64]) -> [u64; 256]
+    ensures { λ r. ⌜ HasSets (now (sets .entry)) 64 r ⌝ }
+{
+    let mut graph = [0u64; 256];
+    let mut i = 0;
+    while i < 64 {
+        graph[SETS + i] = sets[i];
+        i += 1;
+    }
+    graph
+}
+
+// The automaton of the rows that have the first `n` keys, whose sets are the first `k`: each row adds one state to one mask.
 pub fn of_keys(
     high: &[u64; 256],
     low: &[u64; 256],
     n: usize,
-    words: &[u64; 64],
+    sets: &[u64; 64],
     k: usize,
 ) -> Automaton
     requires { ⌜ (n ≤ 256) × (k ≤ 64) ⌝ }
-    ensures { λ r. ⌜ GivesKeyed (now (high .entry)) (now (low .entry)) n (now (words .entry)) k r ⌝ }
+    ensures { λ r. ⌜ GivesKeyed (now (high .entry)) (now (low .entry)) n (now (sets .entry)) k r ⌝ }
 {
-    let mut letters = [0u64; 64];
-    let mut lefts = [0u64; 64];
-    let mut rights = [0u64; 64];
+    let mut graph = with_sets(sets);
     let mut initials: u64 = 0;
     let mut finals: u64 = 0;
     let mut i = 0;
@@ -66,16 +79,14 @@ pub fn of_keys(
         match row {
             Row::Initial(s) => initials = add(initials, s),
             Row::Final(s) => finals = add(finals, s),
-            Row::Successor(p, _, q) => put(&mut letters, p as usize, q),
-            Row::LeftLimit(set, q) => put(&mut lefts, place(words, k, set), q),
-            Row::RightLimit(q, set) => put(&mut rights, place(words, k, set), q),
+            Row::Successor(p, _, q) => put(&mut graph, 0, p as usize, q),
+            Row::LeftLimit(set, q) => put(&mut graph, LEFTS, place(sets, k, set), q),
+            Row::RightLimit(q, set) => put(&mut graph, RIGHTS, place(sets, k, set), q),
         }
         i += 1;
     }
     Automaton {
-        letters,
-        lefts,
-        rights,
+        graph,
         initials,
         finals,
     }

@@ -1,11 +1,12 @@
 -- What stands at a place of a list, and the place of what stands in it.
-use Prim.Native.Nat.{ℕ, zero, suc, _<_}
+use Prim.Native.Nat.{ℕ, zero, suc, _+_, _≤_, _<_}
 use mathlib.Core.Path.{_≡_, refl, ap, sym, _∙_, subst}
 use mathlib.Core.Bool.{Bool, true, false, false≢true}
 use mathlib.Core.Logic.{⊎-elim}
 use mathlib.Core.List.{List, [], _∷_, _++_, map, append-assoc, List·Memᴰ·head, List·Memᴰ·tail, List·Memᴰ·not-nil, List·Memᴰ·cases-cons}
-use lib.ListN.{length, getD, take, drop, length-take}
-use lib.Seq.{getD-take}
+use lib.ListN.{length, take, drop, getD, set, length-take, List·getD-eq-default}
+use lib.Seq.{getD-take, getD-drop, getD-set-same, getD-set-other}
+use borrow.Author.Count.{below-more}
 use native.Mathlib.Omega.{arith}
 use Rattle.lists.specs.Tests.{_among_, Once, gather}
 use Rattle.lists.specs.Order.{before, _≺_, Sorted}
@@ -20,6 +21,20 @@ pub getD-map : {A B : Type 0} (f : A → B) (l : List A) (i : ℕ) (d : A) (e : 
 getD-map f [] i d e h = absurd (omega arith)
 getD-map f (x ∷ l) zero d e h = refl
 getD-map f (x ∷ l) (suc i) d e h = getD-map f l i d e (omega arith)
+
+-- what stands at a place of a part of a list, and behind its first places
+pub part-at : {A : Type 0} (n k : ℕ) (l : List A) (i : ℕ) (d : A) → i < n → getD (take n (drop k l)) i d ≡ getD l (k + i) d
+part-at n k l i d h = getD-take n (drop k l) i d h ∙ getD-drop k l i d
+
+pub take-past : {A : Type 0} (n : ℕ) (l : List A) (i : ℕ) (d : A) → n ≤ i → getD (take n l) i d ≡ d
+take-past n l i d h = List·getD-eq-default (take n l) d (omega (arith, length-take n l))
+
+-- what holds at each place below i holds below i + 1 once the place i is written
+pub set-below : (P : ℕ → ℕ → Type 0) (l : List ℕ) (i v : ℕ) → i < length l → ((j : ℕ) → j < i → P j (getD l j 0)) → P i v
+    → (j : ℕ) → j < i + 1 → P j (getD (set l i v) j 0)
+set-below P l i v h below here = below-more _ i
+    (λ j g. subst (P j) (sym (getD-set-other l i j v 0 (λ e. omega arith))) (below j g))
+    (subst (P i) (sym (getD-set-same l i v 0 h)) here)
 
 pub place-of : (l : List ℕ) (x : ℕ) → x among l → (i : ℕ) × (i < length l) × (getD l i 0 ≡ x)
 place-of [] x m = absurd (List·Memᴰ·not-nil m)

@@ -2,6 +2,7 @@
 use machine::Phase;
 use machine::Verdict;
 use search::Claims;
+use search::graphs;
 use search::openings;
 use search::searches;
 ghost use mathlib.Core.Path.{_≡_};
@@ -10,9 +11,11 @@ ghost use Rattle.lists.specs.Tests.{Decides};
 ghost use Rattle.masks.specs.Mask.{_∈_};
 ghost use Rattle.machine.specs.declared.Phase.the-variants.{Running};
 ghost use Rattle.machine.specs.Machine.{judged};
-ghost use Rattle.search.specs.Hops.{Unites};
+ghost use Rattle.search.specs.Graph.{graph-of};
+ghost use Rattle.search.specs.Hops.{WithNew};
+ghost use Rattle.search.specs.Promises.{OpensBelow};
 ghost use Rattle.rounds.specs.Arrays.{OpenPlaces, Marks};
-ghost use Rattle.rounds.specs.Promises.{Closes, OpensNext, DoesRound, Settles};
+ghost use Rattle.rounds.specs.Promises.{Closes, DoesRound, Settles};
 
 // The rounds in which the loop and the mix of each set opened, 0 for not open; the phase and the count of rounds.
 pub struct Rounds {
@@ -55,8 +58,7 @@ fn nothing(a: u64, b: u64) -> bool
 
 // The claims in force, and new ones.
 fn with_new(force: Claims, new: Claims) -> Claims
-    ensures loops { λ r. ⌜ Unites (force .loops) (new .loops) (r .loops) ⌝ }
-    ensures mixes { λ r. ⌜ Unites (force .mixes) (new .mixes) (r .mixes) ⌝ }
+    ensures { λ r. ⌜ WithNew force new r ⌝ }
 {
     Claims {
         loops: masks::union(force.loops, new.loops),
@@ -86,25 +88,18 @@ fn mark(rounds: &mut [u8; 64], opened: u64, k: u8)
 {
     let mut rest = opened;
     while rest != 0 {
-        let i = masks::lowest(rest);
-        rounds[i as usize] = k;
-        rest = masks::without_lowest(rest);
+        let next = masks::take_lowest(rest);
+        rounds[next.low as usize] = k;
+        rest = next.rest;
     }
 }
 
 // Close: no claim is open.
-pub fn close(
-    letters: &[u64; 64],
-    words: &[u64; 64],
-    lefts: &[u64; 64],
-    rights: &[u64; 64],
-    starts: u64,
-    ends: u64,
-) -> Rounds
-    ensures { λ r. ⌜ Closes (now (letters .entry)) (now (words .entry)) (now (lefts .entry)) (now (rights .entry)) starts ends r ⌝ }
+pub fn close(graph: &[u64; 256], initials: u64, finals: u64) -> Rounds
+    ensures { λ r. ⌜ Closes (graph-of (now (graph .entry))) initials finals r ⌝ }
 {
     let force = Claims { loops: 0, mixes: 0 };
-    let accepted = searches::accepts(letters, words, lefts, rights, force, starts, ends);
+    let accepted = searches::accepts(graph, force, initials, finals);
     let phase = judge(accepted, false);
     let loop_rounds = [0u8; 64];
     let mix_rounds = [0u8; 64];
@@ -117,45 +112,29 @@ pub fn close(
 }
 
 // The claims that a round opens, with the claims in force before it.
-fn opened(
-    letters: &[u64; 64],
-    words: &[u64; 64],
-    lefts: &[u64; 64],
-    rights: &[u64; 64],
-    force: Claims,
-    n: usize,
-) -> Claims
+fn opened(graph: &[u64; 256], force: Claims, n: usize) -> Claims
     requires { ⌜ n ≤ 64 ⌝ }
-    ensures { λ r. ⌜ OpensNext (now (letters .entry)) (now (words .entry)) (now (lefts .entry)) (now (rights .entry)) force n r ⌝ }
+    ensures { λ r. ⌜ OpensBelow (graph-of (now (graph .entry))) force n n r ⌝ }
 {
-    let back = masks::transpose(letters);
-    let to = openings::all_ends(letters, words, lefts, rights, force, n);
-    let from = openings::all_ends(&back, words, rights, lefts, force, n);
-    openings::open_next(letters, &back, words, lefts, rights, force, &to, &from, n)
+    let back = graphs::turned(graph);
+    let to = openings::all_ends(graph, force, n);
+    let from = openings::all_ends(&back, force, n);
+    openings::open_next(graph, &back, force, &to, &from, n)
 }
 
 // One round: what it opens depends on the claims that were open before it, and on no other.
-pub fn round(
-    letters: &[u64; 64],
-    words: &[u64; 64],
-    lefts: &[u64; 64],
-    rights: &[u64; 64],
-    starts: u64,
-    ends: u64,
-    n: usize,
-    before: Rounds,
-) -> Rounds
+pub fn round(graph: &[u64; 256], initials: u64, finals: u64, n: usize, before: Rounds) -> Rounds
     requires { ⌜ (n ≤ 64) × (before .count < 129) ⌝ }
-    ensures { λ r. ⌜ DoesRound (now (letters .entry)) (now (words .entry)) (now (lefts .entry)) (now (rights .entry)) starts ends n before r ⌝ }
+    ensures { λ r. ⌜ DoesRound (graph-of (now (graph .entry))) initials finals n before r ⌝ }
 {
     let mut loop_rounds = before.loop_rounds;
     let mut mix_rounds = before.mix_rounds;
     let loops = open_mask(&loop_rounds, n);
     let mixes = open_mask(&mix_rounds, n);
     let force = Claims { loops, mixes };
-    let new = opened(letters, words, lefts, rights, force, n);
+    let new = opened(graph, force, n);
     let all = with_new(force, new);
-    let accepted = searches::accepts(letters, words, lefts, rights, all, starts, ends);
+    let accepted = searches::accepts(graph, all, initials, finals);
     let phase = judge(accepted, nothing(new.loops, new.mixes));
     let count = before.count + 1;
     mark(&mut loop_rounds, new.loops, count);
@@ -169,26 +148,18 @@ pub fn round(
 }
 
 // Close, and rounds until the automaton is settled: none needs more than 129.
-pub fn settle(
-    letters: &[u64; 64],
-    words: &[u64; 64],
-    lefts: &[u64; 64],
-    rights: &[u64; 64],
-    starts: u64,
-    ends: u64,
-    n: usize,
-) -> Rounds
+pub fn settle(graph: &[u64; 256], initials: u64, finals: u64, n: usize) -> Rounds
     requires { ⌜ n ≤ 64 ⌝ }
-    ensures { λ r. ⌜ Settles (now (letters .entry)) (now (words .entry)) (now (lefts .entry)) (now (rights .entry)) starts ends n r ⌝ }
+    ensures { λ r. ⌜ Settles (graph-of (now (graph .entry))) initials finals n r ⌝ }
 {
-    let back = masks::transpose(letters);
+    let back = graphs::turned(graph);
     let none = Claims { loops: 0, mixes: 0 };
     let mut force = none;
     let mut new = none;
-    let mut to = openings::all_ends(letters, words, lefts, rights, none, n);
-    let mut from = openings::all_ends(&back, words, rights, lefts, none, n);
-    let mut seen = searches::reached(letters, words, lefts, rights, none, starts);
-    let mut phase = judge(searches::accepted(starts, seen, ends), false);
+    let mut to = openings::all_ends(graph, none, n);
+    let mut from = openings::all_ends(&back, none, n);
+    let mut seen = searches::reached(graph, none, initials);
+    let mut phase = judge(searches::accepted(initials, seen, finals), false);
     let mut loop_rounds = [0u8; 64];
     let mut mix_rounds = [0u8; 64];
     let mut count: u8 = 0;
@@ -196,12 +167,12 @@ pub fn settle(
         if !is_running(phase) {
             break;
         }
-        openings::add_ends(&mut to, &mut from, words, lefts, rights, new, n);
-        new = openings::open_next(letters, &back, words, lefts, rights, force, &to, &from, n);
+        openings::add_ends(&mut to, &mut from, graph, &back, new, n);
+        new = openings::open_next(graph, &back, force, &to, &from, n);
         force = with_new(force, new);
-        seen = searches::reached_more(letters, words, lefts, rights, force, new, starts, seen);
+        seen = searches::reached_more(graph, force, new, initials, seen);
         phase = judge(
-            searches::accepted(starts, seen, ends),
+            searches::accepted(initials, seen, finals),
             nothing(new.loops, new.mixes),
         );
         count += 1;

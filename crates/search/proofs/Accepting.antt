@@ -2,7 +2,7 @@
 use Prim.Native.Nat.{ℕ, _<_}
 use mathlib.Core.Path.{_≡_, refl, ap, sym, _∙_, subst}
 use mathlib.Core.Bool.{Bool, not, _||_}
-use mathlib.Core.Logic.{⊎-elim, _↔_}
+use mathlib.Core.Logic.{⊎-elim}
 use mathlib.Core.List.{List, [], _∷_, List·Memᴰ·not-nil, List·Memᴰ·cases-cons}
 use Rattle.lists.specs.Tests.{Decides, _among_}
 use Rattle.lists.proofs.Deciding.{iff·}
@@ -11,14 +11,16 @@ use Rattle.masks.specs.Mask.{member, _∈_}
 use Rattle.masks.proofs.Digit.{digit-none, digit-not}
 use Rattle.masks.proofs.Member.{member-lt, member-digit, union-left, union-right, union-cases}
 use Rattle.rows.specs.declared.Row.{Row}
-use Rattle.rows.specs.declared.Row.the-variants.{Initial, Final, Successor, LeftLimit, RightLimit}
+use Rattle.rows.specs.declared.Row.the-variants.{Successor, LeftLimit, RightLimit}
 use Rattle.rows.specs.Rows.{AllFit}
 use Rattle.orderings.specs.Steps.{Claim, Label, letter, ω, back, mix, Possible, members, content, Walk, Inside}
 use Rattle.orderings.specs.Systems.{Allowed}
 use Rattle.orderings.specs.Timelines.{timelines, Accepting}
 use Rattle.orderings.proofs.Timelines.{members-iff}
-use Rattle.search.specs.Masked.{Masked, Forced}
-use Rattle.search.specs.Hops.{Chain, all, Reached, Inner}
+use Rattle.search.specs.declared.Claims.{Claims}
+use Rattle.search.specs.Graph.{Graph}
+use Rattle.search.specs.Masked.{Masked, Initials, Finals, Forced}
+use Rattle.search.specs.Hops.{Chain, all, Reached, Inner, InnerClaims}
 use Rattle.search.proofs.Chains.{chain-map}
 use Rattle.search.proofs.Steps.{step-hop}
 use Rattle.search.proofs.Walks.{rest-of}
@@ -29,8 +31,11 @@ pub has-all : (s : ℕ) → s < 64 → s ∈ all
 has-all s h = member-digit s _ h ∙ digit-not s 64 0 h (lit< tt) ∙ ap not (digit-none s)
 
 -- every place is inside it
-pub all-inner : (words : List ℕ) (places : ℕ) → Inner words places all places
-all-inner words places i = ((λ h. (h, λ s m. has-all s (member-lt s _ m))), λ h. h .0)
+all-inner : (sets : List ℕ) (places : ℕ) → Inner sets places all places
+all-inner sets places i = ((λ h. (h, λ s m. has-all s (member-lt s _ m))), λ h. h .0)
+
+pub all-claims : (g : Graph) (force : Claims) → InnerClaims g force all force
+all-claims g force = record { loops-are = all-inner (g .sets) (force .loops); mixes-are = all-inner (g .sets) (force .mixes) }
 
 module _ {rows : List Row} (fit : AllFit rows) where
   in-members : (Q s : ℕ) → s among members Q → s ∈ all
@@ -52,30 +57,23 @@ module _ {rows : List Row} (fit : AllFit rows) where
   walk-all In [] h = tt
   walk-all In (t ∷ w) h = (step-all (t .from) (t .label) (t .to) (h .0), walk-all In w (h .2))
 
-  module _ {letters words lefts rights : List ℕ} {n : ℕ} (is-rows : Masked rows letters words lefts rights n)
-      {In : Claim → Type 0} {loop-mask mix-mask : ℕ} (force : Forced In words n loop-mask mix-mask) (starts ends : ℕ)
-      (is-starts : (s : ℕ) → (s ∈ starts) ↔ Initial s among rows) (is-ends : (s : ℕ) → (s ∈ ends) ↔ Final s among rows) where
+  module _ {g : Graph} {n : ℕ} (is-rows : Masked rows g n) {In : Claim → Type 0} {force : Claims} (forced : Forced In g n force)
+      (initials finals : ℕ) (is-initials : Initials rows initials) (is-finals : Finals rows finals) where
     abbrev Accepted : Type 0
     Accepted = (w : Walk) × Accepting rows w × Allowed (timelines rows) In w
 
-    inner-loops : Inner words loop-mask all loop-mask
-    inner-loops = all-inner words loop-mask
-
-    inner-mixes : Inner words mix-mask all mix-mask
-    inner-mixes = all-inner words mix-mask
-
     -- the states seen are those to which one step or more lead
-    pub accepted-iff : (seen both : ℕ) {b : Bool} → Reached letters words lefts rights loop-mask mix-mask starts seen
-        → ((t : ℕ) → member t both ≡ (member t starts || member t seen)) → Decides b ((t : ℕ) × (t ∈ both) × (t ∈ ends)) → Decides b Accepted
+    pub accepted-iff : (seen both : ℕ) {b : Bool} → Reached g force initials seen
+        → ((t : ℕ) → member t both ≡ (member t initials || member t seen)) → Decides b ((t : ℕ) × (t ∈ both) × (t ∈ finals)) → Decides b Accepted
     accepted-iff seen both reached is d = iff· to of d
       where
-        to : (t : ℕ) × (t ∈ both) × (t ∈ ends) → Accepted
-        to (t, h, k) = ⊎-elim (λ g. ([], (t, t, is-starts t .0 g, is-ends t .0 k, refl), tt))
-            (λ g. let x = reached t .0 g in let w = chain-iff is-rows force all loop-mask mix-mask inner-loops inner-mixes (x .0) t .0 (x .2) in
-            (w .0, (x .0, t, is-starts (x .0) .0 (x .1), is-ends t .0 k, w .2), w .1 .1)) (union-cases starts seen both is t h)
+        to : (t : ℕ) × (t ∈ both) × (t ∈ finals) → Accepted
+        to (t, h, k) = ⊎-elim (λ j. ([], (t, t, is-initials t .0 j, is-finals t .0 k, refl), tt))
+            (λ j. let x = reached t .0 j in let w = chain-iff is-rows forced all (all-claims g force) (x .0) t .0 (x .2) in
+            (w .0, (x .0, t, is-initials (x .0) .0 (x .1), is-finals t .0 k, w .2), w .1 .1)) (union-cases initials seen both is t h)
 
-        of : Accepted → (t : ℕ) × (t ∈ both) × (t ∈ ends)
+        of : Accepted → (t : ℕ) × (t ∈ both) × (t ∈ finals)
         of (w, (a, b, ha, hb, leads), allowed) = ⊎-elim
-            (λ e. (a, union-left starts seen both is a (is-starts a .1 ha), subst (λ (x : ℕ). x ∈ ends) (sym e) (is-ends b .1 hb)))
-            (λ c. (b, union-right starts seen both is b (reached b .1 (a, is-starts a .1 ha, chain-map (step-hop is-rows force all loop-mask mix-mask inner-loops inner-mixes) c)), is-ends b .1 hb))
+            (λ e. (a, union-left initials seen both is a (is-initials a .1 ha), subst (λ (x : ℕ). x ∈ finals) (sym e) (is-finals b .1 hb)))
+            (λ c. (b, union-right initials seen both is b (reached b .1 (a, is-initials a .1 ha, chain-map (step-hop is-rows forced all (all-claims g force)) c)), is-finals b .1 hb))
             (rest-of rows In all a w b (leads, allowed, walk-all In w allowed))

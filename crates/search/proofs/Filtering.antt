@@ -7,7 +7,6 @@ use mathlib.Core.List.{List}
 use lib.Dec.{eqb}
 use Rattle.lists.specs.Tests.{Decides}
 use Rattle.lists.proofs.Deciding.{eqb·, iff·}
-use Rattle.masks.specs.Graph.{Turned}
 use Rattle.masks.specs.Mask.{member, _∈_, _⊆_}
 use Rattle.masks.proofs.Member.{in-none, none as empty, union-left, union-right, union-cases, intersection-left, intersection-right, intersection-both}
 use Rattle.rows.specs.declared.Row.{Row}
@@ -15,10 +14,13 @@ use Rattle.orderings.specs.Steps.{Claim}
 use Rattle.orderings.specs.Claims.{Loops, Mixes, Entrance, Exit}
 use Rattle.orderings.specs.Systems.{AtHand}
 use Rattle.orderings.specs.Timelines.{timelines}
+use Rattle.search.specs.declared.Claims.{Claims}
+use Rattle.search.specs.Graph.{Graph, TurnedGraph}
 use Rattle.search.specs.Masked.{Masked, Forced, StepInside}
 use Rattle.search.specs.Hops.{Chain, Between, Ends, Threaded}
 use Rattle.search.proofs.Chains.{chain-first, chain-last}
-use Rattle.search.proofs.Hops.{hop-turn}
+use Rattle.search.proofs.Hops.{hop-turn, inner-back}
+use Rattle.search.proofs.Parts.{turn-back}
 use Rattle.search.proofs.Steps.{step-hop}
 use Rattle.search.proofs.Walks.{leg-chain, leg-between}
 
@@ -46,19 +48,18 @@ threaded p m n to from after before both some-m some-n is-a is-b is = iff·
     (⊎-elim (union-left m to after is-a s) (union-right m to after is-a s) (x .2))
     (⊎-elim (union-left n from before is-b s) (union-right n from before is-b s) (x .3)))
 
-module _ {rows : List Row} {letters back words lefts rights : List ℕ} {n : ℕ} (is : Masked rows letters words lefts rights n) (turned : Turned letters back)
-    {In : Claim → Type 0} {loop-mask mix-mask : ℕ} (force : Forced In words n loop-mask mix-mask) (to from p : ℕ)
-    (is-to : Ends letters words lefts rights loop-mask mix-mask p to) (is-from : Ends back words rights lefts loop-mask mix-mask p from) where
+module _ {rows : List Row} {g back : Graph} {n : ℕ} (is : Masked rows g n) (turned : TurnedGraph g back) {In : Claim → Type 0} {force : Claims} (forced : Forced In g n force)
+    (to from p : ℕ) (is-to : Ends g force p to) (is-from : Ends back force p from) where
   abbrev Step : ℕ → ℕ → Type 0
   Step a b = StepInside rows In p a b
 
   follows : {a b : ℕ} → Chain Step a b → b ∈ to
   follows {a} {b} c = let e = chain-last c in
-      is-to .ends (e .0) b (step-hop is force p (is-to .inner-loops) (is-to .inner-mixes) (is-to .is-loops) (is-to .is-mixes) (e .0) b (e .1))
+      is-to .ends (e .0) b (step-hop is forced p (is-to .is-inner) (e .0) b (e .1))
 
   precedes : {a b : ℕ} → Chain Step a b → a ∈ from
   precedes {a} {b} c = let e = chain-first c in
-      is-from .ends (e .0) a (hop-turn turned a (e .0) (step-hop is force p (is-from .inner-loops) (is-from .inner-mixes) (is-from .is-loops) (is-from .is-mixes) a (e .0) (e .1)))
+      is-from .ends (e .0) a (hop-turn turned a (e .0) (step-hop is forced p (inner-back (turn-back turned) (is-from .is-inner)) a (e .0) (e .1)))
 
   pub looping-passes : Loops (AtHand (timelines rows) In) p → (p ⊆ to) × (p ⊆ from)
   looping-passes f = ((λ s h. follows (leg-chain rows In p s s (f s s h h))), λ s h. precedes (leg-chain rows In p s s (f s s h h)))

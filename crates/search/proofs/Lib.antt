@@ -1,5 +1,5 @@
 -- The laws that the proofs of `search` share.
-pub mod Gathering
+pub mod Parts
 pub mod Chains
 pub mod Hops
 pub mod Steps

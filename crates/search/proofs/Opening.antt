@@ -6,22 +6,20 @@ use mathlib.Core.Logic.{⊎-elim, _↔_}
 use mathlib.Core.List.{List, [], _∷_, List·Memᴰ·head, List·Memᴰ·tail}
 use native.Mathlib.Omega.{arith}
 use lib.ListN.{length, getD}
-use lib.Seq.{getD-take}
 use Rattle.lists.specs.Tests.{Decides, _among_}
-use Rattle.lists.proofs.Places.{getD-among}
+use Rattle.lists.proofs.Places.{getD-among, held-at}
 use Rattle.masks.specs.Mask.{member, _∈_}
 use Rattle.masks.proofs.Member.{in-none, lt-or-le, true-or-false, not-both, union-left, union-right, union-cases}
 use Rattle.rows.specs.declared.Row.{Row}
 use Rattle.rows.specs.Rows.{SetOf, sets}
 use Rattle.rows.proofs.Sets.{sets-iff}
+use Rattle.search.specs.Graph.{Graph}
 use Rattle.search.specs.Masked.{Masked}
 
 -- at each place below n is a set of the rows
-pub set-at : {rows : List Row} {letters words lefts rights : List ℕ} {n : ℕ} → Masked rows letters words lefts rights n → length (sets rows) ≡ n
-    → (i : ℕ) → i < n → SetOf rows (getD words i 0)
-set-at {rows} {words = words} {n = n} is count i l =
-    let e : getD words i 0 ≡ getD (sets rows) i 0 = sym (getD-take n words i 0 l) ∙ ap (λ (x : List ℕ). getD x i 0) (is .sets-are) in
-    sets-iff rows (getD words i 0) .0 (rw e (getD-among (sets rows) i 0 (omega arith)))
+pub set-here : {rows : List Row} {g : Graph} {n : ℕ} → Masked rows g n → length (sets rows) ≡ n → (i : ℕ) → i < n → SetOf rows (getD (g .sets) i 0)
+set-here {rows} {g} {n} is count i l =
+    sets-iff rows (getD (g .sets) i 0) .0 (rw (held-at n (g .sets) (sets rows) (is .sets-are) i 0 l) (getD-among (sets rows) i 0 (omega arith)))
 
 -- a claim C that the mask m has at place i where it is in force; it is tried where it is not, and where F is so, which B, what it says, shows
 module _ {taken tried : Bool} {B C F : Type 0} {n : ℕ} (i m : ℕ) (l : i < n) (force : (i ∈ m) ↔ ((i < n) × C)) (is-taken : taken ≡ member i m)

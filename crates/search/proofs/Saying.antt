@@ -12,8 +12,10 @@ use Rattle.orderings.specs.Steps.{Claim}
 use Rattle.orderings.specs.Claims.{Through, Loops, Mixes, Entrance, Exit}
 use Rattle.orderings.specs.Systems.{AtHand}
 use Rattle.orderings.specs.Timelines.{timelines}
+use Rattle.search.specs.declared.Claims.{Claims}
+use Rattle.search.specs.Graph.{Graph}
 use Rattle.search.specs.Masked.{Masked, Forced, StepInside}
-use Rattle.search.specs.Hops.{Hop, Chain, Onward, Inner, Joined, Between, Covered}
+use Rattle.search.specs.Hops.{Hop, Chain, InnerClaims, Joined, Between, Covered}
 use Rattle.search.proofs.Chains.{chain-map}
 use Rattle.search.proofs.Steps.{hop-step, step-hop}
 use Rattle.search.proofs.Walks.{chain-leg, leg-chain, leg-between, between-leg}
@@ -21,46 +23,38 @@ use Rattle.search.proofs.Walks.{chain-leg, leg-chain, leg-between, betw
 between-map : {E F : ℕ → ℕ → Type 0} → ((a b : ℕ) → E a b → F a b) → (a b s : ℕ) → Between E a b s → Between F a b s
 between-map f a b s = ⊎-elim (λ k. inl (k .0, chain-map f (k .1))) (λ k. inr (chain-map f (k .0), ⊎-elim inl (λ c. inr (chain-map f c)) (k .1)))
 
-module _ {rows : List Row} {letters words lefts rights : List ℕ} {n : ℕ} (is : Masked rows letters words lefts rights n) where
+module _ {rows : List Row} {g : Graph} {n : ℕ} (is : Masked rows g n) where
   -- entrances and exits of the set at place i
-  pub entrance-iff : (i m : ℕ) → i < n → ((t : ℕ) → member t m ≡ (member t (getD lefts i 0) && member t (getD words i 0)))
-      → (e : ℕ) → (e ∈ m) ↔ Entrance rows (getD words i 0) e
+  pub entrance-iff : (i m : ℕ) → i < n → ((t : ℕ) → member t m ≡ (member t (getD (g .lefts) i 0) && member t (getD (g .sets) i 0)))
+      → (e : ℕ) → (e ∈ m) ↔ Entrance rows (getD (g .sets) i 0) e
   entrance-iff i m l is-m e = (
-    (λ h. (intersection-right (getD lefts i 0) (getD words i 0) m is-m e h, is .left-iff i e l .0 (intersection-left (getD lefts i 0) (getD words i 0) m is-m e h))),
-    λ h. intersection-both (getD lefts i 0) (getD words i 0) m is-m e (is .left-iff i e l .1 (h .1)) (h .0),
+    (λ h. (intersection-right (getD (g .lefts) i 0) (getD (g .sets) i 0) m is-m e h, is .left-iff i e l .0 (intersection-left (getD (g .lefts) i 0) (getD (g .sets) i 0) m is-m e h))),
+    λ h. intersection-both (getD (g .lefts) i 0) (getD (g .sets) i 0) m is-m e (is .left-iff i e l .1 (h .1)) (h .0),
   )
 
-  pub exit-iff : (i m : ℕ) → i < n → ((t : ℕ) → member t m ≡ (member t (getD rights i 0) && member t (getD words i 0)))
-      → (f : ℕ) → (f ∈ m) ↔ Exit rows (getD words i 0) f
+  pub exit-iff : (i m : ℕ) → i < n → ((t : ℕ) → member t m ≡ (member t (getD (g .rights) i 0) && member t (getD (g .sets) i 0)))
+      → (f : ℕ) → (f ∈ m) ↔ Exit rows (getD (g .sets) i 0) f
   exit-iff i m l is-m f = (
-    (λ h. (intersection-right (getD rights i 0) (getD words i 0) m is-m f h, is .right-iff i f l .0 (intersection-left (getD rights i 0) (getD words i 0) m is-m f h))),
-    λ h. intersection-both (getD rights i 0) (getD words i 0) m is-m f (is .right-iff i f l .1 (h .1)) (h .0),
+    (λ h. (intersection-right (getD (g .rights) i 0) (getD (g .sets) i 0) m is-m f h, is .right-iff i f l .0 (intersection-left (getD (g .rights) i 0) (getD (g .sets) i 0) m is-m f h))),
+    λ h. intersection-both (getD (g .rights) i 0) (getD (g .sets) i 0) m is-m f (is .right-iff i f l .1 (h .1)) (h .0),
   )
 
-  module _ {In : Claim → Type 0} {loop-mask mix-mask : ℕ} (force : Forced In words n loop-mask mix-mask)
-      (p inner-loops inner-mixes : ℕ) (is-loops : Inner words loop-mask p inner-loops) (is-mixes : Inner words mix-mask p inner-mixes) where
+  module _ {In : Claim → Type 0} {force : Claims} (forced : Forced In g n force) (p : ℕ) {inner : Claims} (is-inner : InnerClaims g force p inner) where
     abbrev Leg : ℕ → ℕ → Type 0
     Leg a b = Through (AtHand (timelines rows) In) p a b
 
     abbrev Links : ℕ → ℕ → Type 0
-    Links a b = Hop letters words lefts rights inner-loops inner-mixes p a b
+    Links a b = Hop g inner p a b
 
     to-step : (a b : ℕ) → Links a b → StepInside rows In p a b
-    to-step = hop-step is force p inner-loops inner-mixes is-loops is-mixes
+    to-step = hop-step is forced p is-inner
 
     of-step : (a b : ℕ) → StepInside rows In p a b → Links a b
-    of-step = step-hop is force p inner-loops inner-mixes is-loops is-mixes
+    of-step = step-hop is forced p is-inner
 
     -- chains by masks are walks inside p
     pub chain-iff : (a b : ℕ) → Chain Links a b ↔ Leg a b
     chain-iff a b = ((λ c. chain-leg rows In p a b (chain-map to-step c)), λ t. chain-map of-step (leg-chain rows In p a b t))
-
-    -- one step, and one or more
-    pub targets-right : (m r : ℕ) → Onward Links m r → Onward (StepInside rows In p) m r
-    targets-right m r f t = ((λ h. let x = f t .0 h in (x .0, x .1, to-step _ _ (x .2))), λ x. f t .1 (x .0, x .1, of-step _ _ (x .2)))
-
-    pub reach-right : (m r : ℕ) → Onward (Chain Links) m r → Onward Leg m r
-    reach-right m r f t = ((λ h. let x = f t .0 h in (x .0, x .1, chain-iff _ _ .0 (x .2))), λ x. f t .1 (x .0, x .1, chain-iff _ _ .1 (x .2)))
 
     pub loops-iff : Joined Links p ↔ Loops (AtHand (timelines rows) In) p
     loops-iff = ((λ h a b ha hb. chain-iff a b .0 (h a b ha hb)), λ h a b ha hb. chain-iff a b .1 (h a b ha hb))

@@ -1,46 +1,40 @@
 -- Steps as the masks have them are the steps of the rows with the claims in force, and chains of them are walks.
-use Prim.Native.Nat.{ℕ, zero, suc, _<_}
+use Prim.Native.Nat.{ℕ, _<_}
 use mathlib.Core.Path.{_≡_, refl, sym, subst}
 use mathlib.Core.Logic.{inl, inr, ⊎-elim}
 use mathlib.Core.List.{List, [], _∷_, List·Memᴰ·head, List·Memᴰ·tail, List·Memᴰ·not-nil, List·Memᴰ·cases-cons}
-use native.Mathlib.Omega.{arith}
-use lib.ListN.{take, getD}
+use lib.ListN.{getD}
 use Rattle.lists.specs.Tests.{_among_}
 use Rattle.masks.specs.Mask.{_∈_, _⊆_}
 use Rattle.rows.specs.declared.Row.{Row}
 use Rattle.rows.specs.declared.Row.the-variants.{LeftLimit, RightLimit}
 use Rattle.rows.specs.Rows.{SetOf}
-use Rattle.rows.proofs.Sets.{sets-iff}
+use Rattle.rows.proofs.Sets.{set-place}
 use Rattle.orderings.specs.Steps.{Claim, loops, mixes, letter, ω, back, mix, members}
 use Rattle.orderings.proofs.Timelines.{members-iff}
+use Rattle.search.specs.declared.Claims.{Claims}
+use Rattle.search.specs.Graph.{Graph}
 use Rattle.search.specs.Masked.{Masked, Forced, StepInside}
-use Rattle.search.specs.Hops.{Hop, Inner}
+use Rattle.search.specs.Hops.{Hop, InnerClaims}
 
--- an element of the first n has a place below n
-place-of : (x n : ℕ) (l : List ℕ) → x among take n l → (i : ℕ) × (i < n) × (x ≡ getD l i 0)
-place-of x zero l m = absurd (List·Memᴰ·not-nil m)
-place-of x (suc n) [] m = absurd (List·Memᴰ·not-nil m)
-place-of x (suc n) (y ∷ l) m = ⊎-elim (λ e. (0, omega arith, e)) (λ k. let r = place-of x n l k in (suc (r .0), omega (arith, r .1), r .2)) (List·Memᴰ·cases-cons m)
-
-module _ {rows : List Row} {letters words lefts rights : List ℕ} {n : ℕ} (is : Masked rows letters words lefts rights n) where
+module _ {rows : List Row} {g : Graph} {n : ℕ} (is : Masked rows g n) where
   -- a set of the rows has a place
-  set-place : (P : ℕ) → SetOf rows P → (i : ℕ) × (i < n) × (P ≡ getD words i 0)
-  set-place P h = place-of P n words (subst (λ (l : List ℕ). P among l) (sym (is .sets-are)) (sets-iff rows P .1 h))
+  place : (P : ℕ) → SetOf rows P → (i : ℕ) × (i < n) × (P ≡ getD (g .sets) i 0)
+  place = set-place rows (g .sets) n (is .sets-are)
 
-  left-place : (P q : ℕ) → LeftLimit P q among rows → (i : ℕ) × (i < n) × (P ≡ getD words i 0)
-  left-place P q m = set-place P (LeftLimit P q, m, List·Memᴰ·head refl)
+  left-place : (P q : ℕ) → LeftLimit P q among rows → (i : ℕ) × (i < n) × (P ≡ getD (g .sets) i 0)
+  left-place P q m = place P (LeftLimit P q, m, List·Memᴰ·head refl)
 
-  right-place : (P q : ℕ) → RightLimit q P among rows → (i : ℕ) × (i < n) × (P ≡ getD words i 0)
-  right-place P q m = set-place P (RightLimit q P, m, List·Memᴰ·head refl)
+  right-place : (P q : ℕ) → RightLimit q P among rows → (i : ℕ) × (i < n) × (P ≡ getD (g .sets) i 0)
+  right-place P q m = place P (RightLimit q P, m, List·Memᴰ·head refl)
 
-  module _ {In : Claim → Type 0} {loop-mask mix-mask : ℕ} (force : Forced In words n loop-mask mix-mask)
-      (p inner-loops inner-mixes : ℕ) (is-loops : Inner words loop-mask p inner-loops) (is-mixes : Inner words mix-mask p inner-mixes) where
+  module _ {In : Claim → Type 0} {force : Claims} (forced : Forced In g n force) (p : ℕ) {inner : Claims} (is-inner : InnerClaims g force p inner) where
     abbrev HopIn : ℕ → ℕ → Type 0
-    HopIn a b = Hop letters words lefts rights inner-loops inner-mixes p a b
+    HopIn a b = Hop g inner p a b
 
-    -- the states of a word inside p, with others in p
-    words-in : (Q : ℕ) → Q ⊆ p → (s : ℕ) → s among members Q → s ∈ p
-    words-in Q h s m = h s (members-iff Q s .0 m)
+    -- the states of a set inside p, with others in p
+    set-in : (Q : ℕ) → Q ⊆ p → (s : ℕ) → s among members Q → s ∈ p
+    set-in Q h s m = h s (members-iff Q s .0 m)
 
     and-in : (x : ℕ) (l : List ℕ) → x ∈ p → ((s : ℕ) → s among l → s ∈ p) → (s : ℕ) → s among (x ∷ l) → s ∈ p
     and-in x l h f s m = ⊎-elim (λ e. subst (λ (y : ℕ). y ∈ p) (sym e) h) (f s) (List·Memᴰ·cases-cons m)
@@ -50,34 +44,34 @@ module _ {rows : List Row} {letters words lefts rights : List ℕ} {n : ℕ} (is
         (λ e. let x = is .letter-iff a b .0 e in
         (letter (x .0), x .1, tt, and-in a (b ∷ []) (h .start) (and-in b [] (h .end) (λ s m. absurd (List·Memᴰ·not-nil m)))))
         (⊎-elim
-        (λ e. let i = e .0 in let j = is-loops i .0 (e .1) in let f = force .loop-iff i .0 (j .0) in
-        (ω (getD words i 0), (is .left-iff i b (f .0) .0 (e .3), e .2), f .1, and-in b _ (h .end) (words-in _ (j .1))))
         (⊎-elim
-        (λ e. let i = e .0 in let j = is-loops i .0 (e .1) in let f = force .loop-iff i .0 (j .0) in
-        (back (getD words i 0), (is .right-iff i a (f .0) .0 (e .2), e .3), f .1, and-in a _ (h .start) (words-in _ (j .1))))
-        (λ e. let i = e .0 in let j = is-mixes i .0 (e .1) in let f = force .mix-iff i .0 (j .0) in (
-          mix (getD words i 0),
+        (λ e. let i = e .0 in let j = is-inner .loops-are i .0 (e .1) in let f = forced .loop-iff i .0 (j .0) in
+        (ω (getD (g .sets) i 0), (is .left-iff i b (f .0) .0 (e .3), e .2), f .1, and-in b _ (h .end) (set-in _ (j .1))))
+        (λ e. let i = e .0 in let j = is-inner .loops-are i .0 (e .1) in let f = forced .loop-iff i .0 (j .0) in
+        (back (getD (g .sets) i 0), (is .right-iff i a (f .0) .0 (e .2), e .3), f .1, and-in a _ (h .start) (set-in _ (j .1)))))
+        (λ e. let i = e .0 in let j = is-inner .mixes-are i .0 (e .1) in let f = forced .mix-iff i .0 (j .0) in (
+          mix (getD (g .sets) i 0),
           (is .right-iff i a (f .0) .0 (e .2), is .left-iff i b (f .0) .0 (e .3)),
           f .1,
-          and-in b _ (h .end) (and-in a _ (h .start) (words-in _ (j .1))),
-        ))))
+          and-in b _ (h .end) (and-in a _ (h .start) (set-in _ (j .1))),
+        )))
         (h .kind)
 
     -- a claim in force of a set inside p
-    loop-inner : (Q i : ℕ) → i < n → Q ≡ getD words i 0 → In (loops Q) → Q ⊆ p → i ∈ inner-loops
-    loop-inner Q i l e f h = is-loops i .1 (force .loop-iff i .1 (l, subst (λ (x : ℕ). In (loops x)) e f), subst (λ (x : ℕ). x ⊆ p) e h)
+    loop-inner : (Q i : ℕ) → i < n → Q ≡ getD (g .sets) i 0 → In (loops Q) → Q ⊆ p → i ∈ inner .loops
+    loop-inner Q i l e f h = is-inner .loops-are i .1 (forced .loop-iff i .1 (l, subst (λ (x : ℕ). In (loops x)) e f), subst (λ (x : ℕ). x ⊆ p) e h)
 
-    mix-inner : (Q i : ℕ) → i < n → Q ≡ getD words i 0 → In (mixes Q) → Q ⊆ p → i ∈ inner-mixes
-    mix-inner Q i l e f h = is-mixes i .1 (force .mix-iff i .1 (l, subst (λ (x : ℕ). In (mixes x)) e f), subst (λ (x : ℕ). x ⊆ p) e h)
+    mix-inner : (Q i : ℕ) → i < n → Q ≡ getD (g .sets) i 0 → In (mixes Q) → Q ⊆ p → i ∈ inner .mixes
+    mix-inner Q i l e f h = is-inner .mixes-are i .1 (forced .mix-iff i .1 (l, subst (λ (x : ℕ). In (mixes x)) e f), subst (λ (x : ℕ). x ⊆ p) e h)
 
-    in-left : (Q q i : ℕ) → i < n → Q ≡ getD words i 0 → LeftLimit Q q among rows → q ∈ getD lefts i 0
+    in-left : (Q q i : ℕ) → i < n → Q ≡ getD (g .sets) i 0 → LeftLimit Q q among rows → q ∈ getD (g .lefts) i 0
     in-left Q q i l e m = is .left-iff i q l .1 (subst (λ (x : ℕ). LeftLimit x q among rows) e m)
 
-    in-right : (Q q i : ℕ) → i < n → Q ≡ getD words i 0 → RightLimit q Q among rows → q ∈ getD rights i 0
+    in-right : (Q q i : ℕ) → i < n → Q ≡ getD (g .sets) i 0 → RightLimit q Q among rows → q ∈ getD (g .rights) i 0
     in-right Q q i l e m = is .right-iff i q l .1 (subst (λ (x : ℕ). RightLimit q x among rows) e m)
 
-    in-word : (Q s i : ℕ) → Q ≡ getD words i 0 → s ∈ Q → s ∈ getD words i 0
-    in-word Q s i e h = subst (λ (x : ℕ). s ∈ x) e h
+    in-set : (Q s i : ℕ) → Q ≡ getD (g .sets) i 0 → s ∈ Q → s ∈ getD (g .sets) i 0
+    in-set Q s i e h = subst (λ (x : ℕ). s ∈ x) e h
 
     pub step-hop : (a b : ℕ) → StepInside rows In p a b → HopIn a b
     step-hop a b (letter x, can, f, c) = record {
@@ -91,7 +85,7 @@ module _ {rows : List Row} {letters words lefts rights : List ℕ} {n : ℕ} (is
         record {
           start = h a (can .1);
           end = c b (List·Memᴰ·head refl);
-          kind = inr (inl (i .0, loop-inner Q _ (i .1) (i .2) f h, in-word Q a _ (i .2) (can .1), in-left Q b _ (i .1) (i .2) (can .0)));
+          kind = inr (inl (inl (i .0, loop-inner Q _ (i .1) (i .2) f h, in-set Q a _ (i .2) (can .1), in-left Q b _ (i .1) (i .2) (can .0))));
         }
     step-hop a b (back Q, can, f, c) =
         let i = right-place Q a (can .0) in
@@ -99,7 +93,7 @@ module _ {rows : List Row} {letters words lefts rights : List ℕ} {n : ℕ} (is
         record {
           start = c a (List·Memᴰ·head refl);
           end = h b (can .1);
-          kind = inr (inr (inl (i .0, loop-inner Q _ (i .1) (i .2) f h, in-right Q a _ (i .1) (i .2) (can .0), in-word Q b _ (i .2) (can .1))));
+          kind = inr (inl (inr (i .0, loop-inner Q _ (i .1) (i .2) f h, in-right Q a _ (i .1) (i .2) (can .0), in-set Q b _ (i .2) (can .1))));
         }
     step-hop a b (mix Q, can, f, c) =
         let i = right-place Q a (can .0) in
@@ -107,5 +101,5 @@ module _ {rows : List Row} {letters words lefts rights : List ℕ} {n : ℕ} (is
         record {
           start = c a (List·Memᴰ·tail (List·Memᴰ·head refl));
           end = c b (List·Memᴰ·head refl);
-          kind = inr (inr (inr (i .0, mix-inner Q _ (i .1) (i .2) f h, in-right Q a _ (i .1) (i .2) (can .0), in-left Q b _ (i .1) (i .2) (can .1))));
+          kind = inr (inr (i .0, mix-inner Q _ (i .1) (i .2) f h, in-right Q a _ (i .1) (i .2) (can .0), in-left Q b _ (i .1) (i .2) (can .1)));
         }

@@ -6,24 +6,38 @@ use mathlib.Core.Logic.{_⊎_, _↔_, _≢_}
 use mathlib.Core.List.{List}
 use lib.ListN.{getD}
 use Rattle.masks.specs.Mask.{member, _∈_, _⊆_}
+use Rattle.search.specs.declared.Claims.{Claims}
+use Rattle.search.specs.Graph.{Graph}
 
 -- a and b lie in the sets that two lists of masks have at one of the places
 abbrev pub Passes : List ℕ → List ℕ → ℕ → ℕ → ℕ → Type 0
 Passes here there places a b = (i : ℕ) × (i ∈ places) × (a ∈ getD here i 0) × (b ∈ getD there i 0)
 
--- a step from a to b by a claim in force: omega, back or mix by one of its places
-abbrev pub Claimed : List ℕ → List ℕ → List ℕ → ℕ → ℕ → ℕ → ℕ → Type 0
-Claimed words lefts rights loops mixes a b = Passes words lefts loops a b ⊎ (Passes rights words loops a b ⊎ Passes rights lefts mixes a b)
+-- a letter step from a to b
+abbrev pub Lettered : Graph → ℕ → ℕ → Type 0
+Lettered g a b = b ∈ getD (g .letters) a 0
+
+-- an omega or a back step from a to b by one of the places
+abbrev pub Looping : Graph → ℕ → ℕ → ℕ → Type 0
+Looping g places a b = Passes (g .sets) (g .lefts) places a b ⊎ Passes (g .rights) (g .sets) places a b
+
+-- a mix step
+abbrev pub Mixing : Graph → ℕ → ℕ → ℕ → Type 0
+Mixing g places a b = Passes (g .rights) (g .lefts) places a b
+
+-- a step from a to b by a claim in force
+abbrev pub Claimed : Graph → Claims → ℕ → ℕ → Type 0
+Claimed g force a b = Looping g (force .loops) a b ⊎ Mixing g (force .mixes) a b
 
 -- a step from a to b, both in p: by a letter, or by a claim in force
-pub record Hop (letters words lefts rights : List ℕ) (loops mixes p a b : ℕ) : Type 0 where
+pub record Hop (g : Graph) (force : Claims) (p a b : ℕ) : Type 0 where
   pub start : a ∈ p
   pub end : b ∈ p
-  pub kind : (b ∈ getD letters a 0) ⊎ Claimed words lefts rights loops mixes a b
+  pub kind : Lettered g a b ⊎ Claimed g force a b
 
 -- a step from a to b by a letter, both in p
-abbrev pub LetterHop : List ℕ → ℕ → ℕ → ℕ → Type 0
-LetterHop letters p a b = (a ∈ p) × (b ∈ p) × (b ∈ getD letters a 0)
+abbrev pub LetterHop : Graph → ℕ → ℕ → ℕ → Type 0
+LetterHop g p a b = (a ∈ p) × (b ∈ p) × Lettered g a b
 
 -- one or more steps E, from a
 pub data Chain (E : ℕ → ℕ → Type 0) (a : ℕ) : ℕ → Type 0 where
@@ -49,12 +63,17 @@ abbrev pub all : ℕ
 all = 2 ^ 64 - 1
 
 -- r is the set of the states to which chains lead from the states m
-abbrev pub Reached : List ℕ → List ℕ → List ℕ → List ℕ → ℕ → ℕ → ℕ → ℕ → Type 0
-Reached letters words lefts rights loops mixes m r = Onward (Chain (Hop letters words lefts rights loops mixes all)) m r
+abbrev pub Reached : Graph → Claims → ℕ → ℕ → Type 0
+Reached g force m r = Onward (Chain (Hop g force all)) m r
 
--- the places whose words are parts of p
+-- the places whose sets are parts of p
 abbrev pub Inner : List ℕ → ℕ → ℕ → ℕ → Type 0
-Inner words places p r = (i : ℕ) → (i ∈ r) ↔ ((i ∈ places) × (getD words i 0 ⊆ p))
+Inner sets places p r = (i : ℕ) → (i ∈ r) ↔ ((i ∈ places) × (getD sets i 0 ⊆ p))
+
+-- the claims about parts of p
+pub record InnerClaims (g : Graph) (force : Claims) (p : ℕ) (inner : Claims) : Type 0 where
+  pub loops-are : Inner (g .sets) (force .loops) p (inner .loops)
+  pub mixes-are : Inner (g .sets) (force .mixes) p (inner .mixes)
 
 -- a chain leads from each state of p to each, itself too
 abbrev pub Joined : (ℕ → ℕ → Type 0) → ℕ → Type 0
@@ -69,20 +88,23 @@ abbrev pub Covered : (ℕ → ℕ → Type 0) → ℕ → ℕ → ℕ → Type 0
 Covered E m n p = (s : ℕ) → s ∈ p → (a : ℕ) × (b : ℕ) × (a ∈ m) × (b ∈ n) × Between E a b s
 
 -- r has the end of every step inside p, by a letter or by a claim about a part of p
-pub record Ends (letters words lefts rights : List ℕ) (loops mixes p r : ℕ) : Type 0 where
-  pub inner-loops : ℕ
-  pub inner-mixes : ℕ
-  pub is-loops : Inner words loops p inner-loops
-  pub is-mixes : Inner words mixes p inner-mixes
-  pub ends : (a b : ℕ) → Hop letters words lefts rights inner-loops inner-mixes p a b → b ∈ r
+pub record Ends (g : Graph) (force : Claims) (p r : ℕ) : Type 0 where
+  pub inner : Claims
+  pub is-inner : InnerClaims g force p inner
+  pub ends : (a b : ℕ) → Hop g inner p a b → b ∈ r
 
--- the same of each of the first n words, and the mask at its place
-abbrev pub EndsBelow : List ℕ → List ℕ → List ℕ → List ℕ → ℕ → ℕ → ℕ → List ℕ → Type 0
-EndsBelow letters words lefts rights loops mixes n l = (i : ℕ) → i < n → Ends letters words lefts rights loops mixes (getD words i 0) (getD l i 0)
+-- the same of each of the first n sets, and the mask at its place
+abbrev pub EndsBelow : Graph → Claims → ℕ → List ℕ → Type 0
+EndsBelow g force n l = (i : ℕ) → i < n → Ends g force (getD (g .sets) i 0) (getD l i 0)
 
 -- r has the places of a and those of b
 abbrev pub Unites : ℕ → ℕ → ℕ → Type 0
 Unites a b r = (t : ℕ) → member t r ≡ (member t a || member t b)
+
+-- the claims in force are old ones and new ones
+pub record WithNew (old new force : Claims) : Type 0 where
+  pub loops-are : Unites (old .loops) (new .loops) (force .loops)
+  pub mixes-are : Unites (old .mixes) (new .mixes) (force .mixes)
 
 -- where p has a state, m and n have one; each state of p is in m or a step ends in it, and it is in n or a step starts from it
 abbrev pub Threaded : ℕ → ℕ → ℕ → ℕ → ℕ → Type 0

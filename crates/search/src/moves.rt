@@ -1,17 +1,21 @@
 // One step: where the letters and the claims in force lead to from a set of states.
+use crate::Claims;
+use crate::graphs::lefts_at;
+use crate::graphs::rights_at;
+use crate::graphs::set_at;
 use masks::intersection;
 use masks::is_subset;
-use masks::lowest;
+use masks::take_lowest;
 use masks::union;
 use masks::with;
-use masks::without_lowest;
 ghost use mathlib.Core.Path.{_≡_};
-ghost use mathlib.Core.Logic.{_⊎_, _↔_};
+ghost use mathlib.Core.Logic.{_↔_};
 ghost use mathlib.Core.Bool.{true};
 ghost use Prim.Native.Nat.{ℕ, _<_};
 ghost use Rattle.lists.specs.Tests.{Decides};
 ghost use Rattle.masks.specs.Mask.{_∈_};
-ghost use Rattle.search.specs.Hops.{Passes, Claimed, Hop, Onward, Inner};
+ghost use Rattle.search.specs.Graph.{graph-of};
+ghost use Rattle.search.specs.Hops.{Lettered, Looping, Mixing, Claimed, Hop, Onward, Inner, InnerClaims};
 
 // Do `a` and `b` have a state in common?
 pub(crate) fn meets(a: u64, b: u64) -> bool
@@ -28,18 +32,35 @@ pub(crate) fn marked(b: bool, i: u8) -> u64
     if b { with(0, i) } else { 0 }
 }
 
-// The places whose words are parts of `p`.
-pub fn inside(words: &[u64; 64], places: u64, p: u64) -> u64
-    ensures { λ r. ⌜ Inner (now (words .entry)) places p r ⌝ }
+// The places whose sets are parts of `p`.
+fn inside(graph: &[u64; 256], places: u64, p: u64) -> u64
+    ensures { λ r. ⌜ Inner (graph-of (now (graph .entry)) .sets) places p r ⌝ }
 {
     let mut r: u64 = 0;
     let mut rest = places;
     while rest != 0 {
-        let i = lowest(rest);
-        r = union(r, marked(is_subset(words[i as usize], p), i));
-        rest = without_lowest(rest);
+        let next = take_lowest(rest);
+        let set = set_at(graph, next.low as usize);
+        r = union(r, marked(is_subset(set, p), next.low));
+        rest = next.rest;
     }
     r
+}
+
+// The claims about parts of `p`.
+pub(crate) fn inner(graph: &[u64; 256], force: Claims, p: u64) -> Claims
+    ensures { λ r. ⌜ InnerClaims (graph-of (now (graph .entry))) force p r ⌝ }
+{
+    let loops = inside(graph, force.loops, p);
+    let mixes = inside(graph, force.mixes, p);
+    Claims { loops, mixes }
+}
+
+// The states to which a letter leads from the states `m`.
+pub(crate) fn lettered(graph: &[u64; 256], m: u64) -> u64
+    ensures { λ r. ⌜ Onward (Lettered (graph-of (now (graph .entry)))) m r ⌝ }
+{
+    masks::targets(graph, m)
 }
 
 // The set `there` where `here` has one of the states `m`, else nothing.
@@ -49,68 +70,53 @@ fn passed(here: u64, there: u64, m: u64) -> u64
     if meets(m, here) { there } else { 0 }
 }
 
-// The sets of `there` at the places where `here` has one of the states `m`.
-fn passing(here: &[u64; 64], there: &[u64; 64], places: u64, m: u64) -> u64
-    ensures { λ r. ⌜ Onward (Passes (now (here .entry)) (now (there .entry)) places) m r ⌝ }
+// The states to which an omega or a back step by one of the places leads from the states `m`. One pass for both kinds.
+fn looping(graph: &[u64; 256], places: u64, m: u64) -> u64
+    ensures { λ r. ⌜ Onward (Looping (graph-of (now (graph .entry))) places) m r ⌝ }
 {
     let mut r: u64 = 0;
     let mut rest = places;
     while rest != 0 {
-        let i = lowest(rest);
-        r = union(r, passed(here[i as usize], there[i as usize], m));
-        rest = without_lowest(rest);
+        let next = take_lowest(rest);
+        let at = next.low as usize;
+        let p = set_at(graph, at);
+        let omega = passed(p, lefts_at(graph, at), m);
+        let back = passed(rights_at(graph, at), p, m);
+        r = union(r, union(omega, back));
+        rest = next.rest;
     }
     r
 }
 
-// The states to which an omega or a back step by one of the places leads from the states `m`. One pass for both kinds.
-fn looping(words: &[u64; 64], lefts: &[u64; 64], rights: &[u64; 64], places: u64, m: u64) -> u64
-    ensures { λ r. ⌜ Onward (λ s t. Passes (now (words .entry)) (now (lefts .entry)) places s t ⊎ Passes (now (rights .entry)) (now (words .entry)) places s t) m r ⌝ }
+// The states to which a mix step by one of the places leads from the states `m`.
+fn mixing(graph: &[u64; 256], places: u64, m: u64) -> u64
+    ensures { λ r. ⌜ Onward (Mixing (graph-of (now (graph .entry))) places) m r ⌝ }
 {
     let mut r: u64 = 0;
     let mut rest = places;
     while rest != 0 {
-        let i = lowest(rest);
-        let at = i as usize;
-        let p = words[at];
-        let omega = passed(p, lefts[at], m);
-        let back = passed(rights[at], p, m);
-        r = union(r, union(omega, back));
-        rest = without_lowest(rest);
+        let next = take_lowest(rest);
+        let at = next.low as usize;
+        r = union(r, passed(rights_at(graph, at), lefts_at(graph, at), m));
+        rest = next.rest;
     }
     r
 }
 
 // The states to which a step by a claim leads from the states `m`.
-pub(crate) fn claimed(
-    words: &[u64; 64],
-    lefts: &[u64; 64],
-    rights: &[u64; 64],
-    loops: u64,
-    mixes: u64,
-    m: u64,
-) -> u64
-    ensures { λ r. ⌜ Onward (Claimed (now (words .entry)) (now (lefts .entry)) (now (rights .entry)) loops mixes) m r ⌝ }
+pub(crate) fn claimed(graph: &[u64; 256], force: Claims, m: u64) -> u64
+    ensures { λ r. ⌜ Onward (Claimed (graph-of (now (graph .entry))) force) m r ⌝ }
 {
-    let omega_or_back = looping(words, lefts, rights, loops, m);
-    union(omega_or_back, passing(rights, lefts, mixes, m))
+    let omega_or_back = looping(graph, force.loops, m);
+    union(omega_or_back, mixing(graph, force.mixes, m))
 }
 
 // The states to which one step inside `p` leads from the states `m`.
-pub fn targets(
-    letters: &[u64; 64],
-    words: &[u64; 64],
-    lefts: &[u64; 64],
-    rights: &[u64; 64],
-    loops: u64,
-    mixes: u64,
-    p: u64,
-    m: u64,
-) -> u64
-    ensures { λ r. ⌜ Onward (Hop (now (letters .entry)) (now (words .entry)) (now (lefts .entry)) (now (rights .entry)) loops mixes p) m r ⌝ }
+pub fn targets(graph: &[u64; 256], force: Claims, p: u64, m: u64) -> u64
+    ensures { λ r. ⌜ Onward (Hop (graph-of (now (graph .entry))) force p) m r ⌝ }
 {
     let from = intersection(m, p);
-    let letter = masks::targets(letters, from);
-    let claim = claimed(words, lefts, rights, loops, mixes, from);
+    let letter = lettered(graph, from);
+    let claim = claimed(graph, force, from);
     intersection(union(letter, claim), p)
 }

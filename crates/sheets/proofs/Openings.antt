@@ -15,7 +15,8 @@ use Rattle.lists.proofs.Places.{place-of, rising}
 use Rattle.lists.proofs.Counting.{once-append}
 use Rattle.lists.proofs.Sorting.{before·, ≺-irreflexive, ≺-trans, sorted-append, sorted-same}
 use Rattle.rows.specs.declared.Row.{Row}
-use Rattle.rows.specs.Rows.{SetOf, sets}
+use Rattle.rows.specs.Rows as Rows
+use Rattle.rows.specs.Rows.{SetOf}
 use Rattle.rows.proofs.Sets.{sets-iff, sets-sorted, sets-once}
 use Rattle.orderings.specs.Steps.{Claim, loops, mixes, set-of}
 use Rattle.orderings.specs.Rounds.{Opens}
@@ -134,37 +135,37 @@ subject : (rows : List Row) (k : ℕ) (c : Claim) → Opens (timelines rows) k c
 subject rows zero c o = absurd o
 subject rows (suc k) c o = (omega arith, o .0 .0)
 
-module _ (m : Machine) (loop-rounds mix-rounds words : List ℕ) (n : ℕ) (a : Recorded m loop-rounds mix-rounds words n) where
+module _ (m : Machine) (loop-rounds mix-rounds sets : List ℕ) (n : ℕ) (a : Recorded m loop-rounds mix-rounds sets n) where
   abbrev at : ℕ → ℕ → List Opening
-  at k i = openings-at loop-rounds mix-rounds words k i
+  at k i = openings-at loop-rounds mix-rounds sets k i
 
   at-out : (k i : ℕ) (o : Opening) → o among at k i
-      → ((getD loop-rounds i 0 ≡ k) × (o ≡ opened k (loops (getD words i 0)))) ⊎ ((getD mix-rounds i 0 ≡ k) × (o ≡ opened k (mixes (getD words i 0))))
-  at-out k i o m = ⊎-elim (λ j. inl (in-out k (getD loop-rounds i 0) (loops (getD words i 0)) o j)) (λ j. inr (in-out k (getD mix-rounds i 0) (mixes (getD words i 0)) o j))
-      (List·Memᴰ·append-cases (opening-in k (getD loop-rounds i 0) (loops (getD words i 0))) m)
+      → ((getD loop-rounds i 0 ≡ k) × (o ≡ opened k (loops (getD sets i 0)))) ⊎ ((getD mix-rounds i 0 ≡ k) × (o ≡ opened k (mixes (getD sets i 0))))
+  at-out k i o m = ⊎-elim (λ j. inl (in-out k (getD loop-rounds i 0) (loops (getD sets i 0)) o j)) (λ j. inr (in-out k (getD mix-rounds i 0) (mixes (getD sets i 0)) o j))
+      (List·Memᴰ·append-cases (opening-in k (getD loop-rounds i 0) (loops (getD sets i 0))) m)
 
   at-round : (k i : ℕ) (o : Opening) → o among at k i → o .round ≡ k
   at-round k i o m = ⊎-elim (λ p. ap (λ (q : Opening). q .round) (p .1)) (λ p. ap (λ (q : Opening). q .round) (p .1)) (at-out k i o m)
 
-  at-set : (k i : ℕ) (o : Opening) → o among at k i → set-of (o .claim) ≡ getD words i 0
+  at-set : (k i : ℕ) (o : Opening) → o among at k i → set-of (o .claim) ≡ getD sets i 0
   at-set k i o m = ⊎-elim (λ p. ap (λ (q : Opening). set-of (q .claim)) (p .1)) (λ p. ap (λ (q : Opening). set-of (q .claim)) (p .1)) (at-out k i o m)
 
   at-ordered : (k i : ℕ) → Ordered opening-key (at k i)
-  at-ordered k i = ordered-append opening-key _ _ (in-ordered k (getD loop-rounds i 0) (loops (getD words i 0))) (in-ordered k (getD mix-rounds i 0) (mixes (getD words i 0)))
-      (λ x y p q. let P = getD words i 0 in
+  at-ordered k i = ordered-append opening-key _ _ (in-ordered k (getD loop-rounds i 0) (loops (getD sets i 0))) (in-ordered k (getD mix-rounds i 0) (mixes (getD sets i 0)))
+      (λ x y p q. let P = getD sets i 0 in
       rw (in-out k (getD loop-rounds i 0) (loops P) x p .1, in-out k (getD mix-rounds i 0) (mixes P) y q .1) (next-less {x = k} (P ∷ 0 ∷ []) (P ∷ 1 ∷ []) refl (next-less {x = P} (0 ∷ []) (1 ∷ []) refl (first-less {x = 0} {y = 1} [] [] (omega arith)))))
 
-  words-rise : (i j : ℕ) → i < j → j < n → getD words i 0 < getD words j 0
-  words-rise i j h l = rw (a .words-are i (omega arith), a .words-are j l) (rising (sets (m .rows)) (sets-sorted (m .rows)) (sets-once (m .rows)) i j h (omega (arith, a .count)))
+  words-rise : (i j : ℕ) → i < j → j < n → getD sets i 0 < getD sets j 0
+  words-rise i j h l = rw (a .words-are i (omega arith), a .words-are j l) (rising (Rows.sets (m .rows)) (sets-sorted (m .rows)) (sets-once (m .rows)) i j h (omega (arith, a .count)))
 
-  below-ordered : (k : ℕ) → Ordered opening-key (openings-below loop-rounds mix-rounds words n k)
+  below-ordered : (k : ℕ) → Ordered opening-key (openings-below loop-rounds mix-rounds sets n k)
   below-ordered k = upto-ordered opening-key (at k) n (λ i h. at-ordered k i) (λ i j x y h l p q.
       set-less x y (at-round k i x p ∙ sym (at-round k j y q)) (omega (arith, at-set k i x p, at-set k j y q, words-rise i j h l)))
 
-  in-round : (k : ℕ) (o : Opening) → o among openings-below loop-rounds mix-rounds words n k → o .round ≡ k
+  in-round : (k : ℕ) (o : Opening) → o among openings-below loop-rounds mix-rounds sets n k → o .round ≡ k
   in-round k o m = let r = upto-out (at k) o n m in at-round k (r .0) o (r .2)
 
-  all-ordered : (rounds : ℕ) → Ordered opening-key (openings-in loop-rounds mix-rounds words n rounds)
+  all-ordered : (rounds : ℕ) → Ordered opening-key (openings-in loop-rounds mix-rounds sets n rounds)
   all-ordered rounds = upto-ordered opening-key _ rounds (λ k h. below-ordered (k + 1)) (λ i j x y h l p q.
       round-less x y (omega (arith, in-round (i + 1) x p, in-round (j + 1) y q)))
 
@@ -173,13 +174,13 @@ module _ (m : Machine) (loop-rounds mix-rounds words : List ℕ) (n : ℕ) (a : 
   noted-out c round k o d e f = ⊎-elim (λ p. absurd (omega (arith, p .1)))
       (λ i. subst (λ (x : Opening). x among m .openings) (ap (λ (r : ℕ). opened r c) e ∙ sym f) i) d
 
-  all-open : (rounds : ℕ) → openings-in loop-rounds mix-rounds words n rounds part-of m .openings
+  all-open : (rounds : ℕ) → openings-in loop-rounds mix-rounds sets n rounds part-of m .openings
   all-open rounds o i =
-      let r = upto-out (λ k. openings-below loop-rounds mix-rounds words n (k + 1)) o rounds i in
+      let r = upto-out (λ k. openings-below loop-rounds mix-rounds sets n (k + 1)) o rounds i in
       let q = upto-out (at (r .0 + 1)) o n (r .2) in
       ⊎-elim
-      (λ p. noted-out (loops (getD words (q .0) 0)) (getD loop-rounds (q .0) 0) (r .0) o (a .loops-are (q .0) (q .1)) (p .0) (p .1))
-      (λ p. noted-out (mixes (getD words (q .0) 0)) (getD mix-rounds (q .0) 0) (r .0) o (a .mixes-are (q .0) (q .1)) (p .0) (p .1))
+      (λ p. noted-out (loops (getD sets (q .0) 0)) (getD loop-rounds (q .0) 0) (r .0) o (a .loops-are (q .0) (q .1)) (p .0) (p .1))
+      (λ p. noted-out (mixes (getD sets (q .0) 0)) (getD mix-rounds (q .0) 0) (r .0) o (a .mixes-are (q .0) (q .1)) (p .0) (p .1))
       (at-out (r .0 + 1) (q .0) o (q .2))
 
   module _ (d : Listed m) where
@@ -188,28 +189,28 @@ module _ (m : Machine) (loop-rounds mix-rounds words : List ℕ) (n : ℕ) (a : 
     noted-in o c round i e t = ⊎-elim (λ p. absurd (p .0 (subst (λ (x : Claim). x among open-claims m) e (map-in (λ (o : Opening). o .claim) i))))
         (λ j. once-claims (m .openings) (d .once) (opened round c) o j i (sym e)) t
 
-    at-place-in : (o : Opening) (c : Claim) (i : ℕ) → o among m .openings → i < n → getD words i 0 ≡ set-of c → o .claim ≡ c → o among at (o .round) i
-    at-place-in o (loops P) i j h e f = let q = noted-in o (loops (getD words i 0)) (getD loop-rounds i 0) j (f ∙ ap loops (sym e)) (a .loops-are i h) in
+    at-place-in : (o : Opening) (c : Claim) (i : ℕ) → o among m .openings → i < n → getD sets i 0 ≡ set-of c → o .claim ≡ c → o among at (o .round) i
+    at-place-in o (loops P) i j h e f = let q = noted-in o (loops (getD sets i 0)) (getD loop-rounds i 0) j (f ∙ ap loops (sym e)) (a .loops-are i h) in
         let r : getD loop-rounds i 0 ≡ o .round = ap (λ (x : Opening). x .round) q in
-        subst (λ (x : Opening). x among at (o .round) i) (ap (λ (k : ℕ). opened k (loops (getD words i 0))) (sym r) ∙ q)
-        (Memᴰ·append-left _ (in-in (o .round) (getD loop-rounds i 0) (loops (getD words i 0)) r))
-    at-place-in o (mixes P) i j h e f = let q = noted-in o (mixes (getD words i 0)) (getD mix-rounds i 0) j (f ∙ ap mixes (sym e)) (a .mixes-are i h) in
+        subst (λ (x : Opening). x among at (o .round) i) (ap (λ (k : ℕ). opened k (loops (getD sets i 0))) (sym r) ∙ q)
+        (Memᴰ·append-left _ (in-in (o .round) (getD loop-rounds i 0) (loops (getD sets i 0)) r))
+    at-place-in o (mixes P) i j h e f = let q = noted-in o (mixes (getD sets i 0)) (getD mix-rounds i 0) j (f ∙ ap mixes (sym e)) (a .mixes-are i h) in
         let r : getD mix-rounds i 0 ≡ o .round = ap (λ (x : Opening). x .round) q in
-        subst (λ (x : Opening). x among at (o .round) i) (ap (λ (k : ℕ). opened k (mixes (getD words i 0))) (sym r) ∙ q)
-        (Memᴰ·append-right (opening-in (o .round) (getD loop-rounds i 0) (loops (getD words i 0))) (in-in (o .round) (getD mix-rounds i 0) (mixes (getD words i 0)) r))
+        subst (λ (x : Opening). x among at (o .round) i) (ap (λ (k : ℕ). opened k (mixes (getD sets i 0))) (sym r) ∙ q)
+        (Memᴰ·append-right (opening-in (o .round) (getD loop-rounds i 0) (loops (getD sets i 0))) (in-in (o .round) (getD mix-rounds i 0) (mixes (getD sets i 0)) r))
 
-    open-all : m .openings part-of openings-in loop-rounds mix-rounds words n (m .rounds)
+    open-all : m .openings part-of openings-in loop-rounds mix-rounds sets n (m .rounds)
     open-all o i =
         let t = d .depths o .0 i in
         let s = subject (m .rows) (o .round) (o .claim) (opens-iff-least (timelines (m .rows)) (lawful (m .rows)) (o .round) (o .claim) .1 (t .1)) in
-        let p = place-of (sets (m .rows)) (set-of (o .claim)) (sets-iff (m .rows) (set-of (o .claim)) .1 (s .1)) in
+        let p = place-of (Rows.sets (m .rows)) (set-of (o .claim)) (sets-iff (m .rows) (set-of (o .claim)) .1 (s .1)) in
         let h : p .0 < n = omega (arith, p .1, a .count) in
         let k : o .round ≡ o .round - 1 + 1 = omega (arith, s .0) in
         let j = at-place-in o (o .claim) (p .0) i h (a .words-are (p .0) h ∙ p .2) refl in
-        upto-in (λ k. openings-below loop-rounds mix-rounds words n (k + 1)) o (o .round - 1) (m .rounds) (omega (arith, s .0, t .0))
+        upto-in (λ k. openings-below loop-rounds mix-rounds sets n (k + 1)) o (o .round - 1) (m .rounds) (omega (arith, s .0, t .0))
         (upto-in (at (o .round - 1 + 1)) o (p .0) n h (subst (λ (x : ℕ). o among at x (p .0)) k j))
 
-    listed-are : openings-in loop-rounds mix-rounds words n (m .rounds) ≡ m .openings
+    listed-are : openings-in loop-rounds mix-rounds sets n (m .rounds) ≡ m .openings
     listed-are = sorted-same opening-key _ _ (λ x y i j. key-apart x y) (all-ordered (m .rounds) .0) (d .order) (all-ordered (m .rounds) .1) (once-openings (m .openings) (d .once)) (all-open (m .rounds)) open-all
       where
         once-openings : (l : List Opening) → Once (map (λ (o : Opening). o .claim) l) → Once l
@@ -217,6 +218,6 @@ module _ (m : Machine) (loop-rounds mix-rounds words : List ℕ) (n : ℕ) (a : 
         once-openings (o ∷ l) u = ((λ i. u .0 (map-in (λ (o : Opening). o .claim) i)), once-openings l (u .1))
 
 -- arrays that hold a machine's rounds have its openings, as its sheet lists them
-pub openings-are : (m : Machine) → WellFormed m → Worked m → (loop-rounds mix-rounds words : List ℕ) (n : ℕ) → Recorded m loop-rounds mix-rounds words n
-    → openings-in loop-rounds mix-rounds words n (m .rounds) ≡ m .openings
-openings-are m w k loop-rounds mix-rounds words n a = listed-are m loop-rounds mix-rounds words n a (worked-listed m w k)
+pub openings-are : (m : Machine) → WellFormed m → Worked m → (loop-rounds mix-rounds sets : List ℕ) (n : ℕ) → Recorded m loop-rounds mix-rounds sets n
+    → openings-in loop-rounds mix-rounds sets n (m .rounds) ≡ m .openings
+openings-are m w k loop-rounds mix-rounds sets n a = listed-are m loop-rounds mix-rounds sets n a (worked-listed m w k)

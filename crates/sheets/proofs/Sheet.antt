@@ -7,7 +7,7 @@ use mathlib.Core.List.{List, _++_, map, append-nil}
 use lib.ListN.{length, getD, length-map, List·getD-append}
 use native.Mathlib.Omega.{arith}
 use Rattle.lists.specs.Tests.{gather}
-use Rattle.rows.specs.Rows.{sets}
+use Rattle.rows.specs.Rows as Rows
 use Rattle.orderings.specs.Steps.{Claim, loops, mixes}
 use Rattle.machine.specs.declared.Verdict.{Verdict}
 use Rattle.machine.specs.declared.Verdict.the-variants.{NonEmpty, Empty}
@@ -27,32 +27,32 @@ use Rattle.sheets.proofs.Openings.{openings-are}
 
 -- lists of the sets and of the rounds of their claims, filled up, hold a machine's rounds
 module _ (m : Machine) (round : Claim → ℕ) (is : (c : Claim) → Noted m c (round c)) where
-  word-at : (size i : ℕ) → i < length (sets (m .rows)) → getD (padded size 0 (sets (m .rows))) i 0 ≡ getD (sets (m .rows)) i 0
-  word-at size i h = List·getD-append (sets (m .rows)) _ 0 i h
+  word-at : (size i : ℕ) → i < length (Rows.sets (m .rows)) → getD (padded size 0 (Rows.sets (m .rows))) i 0 ≡ getD (Rows.sets (m .rows)) i 0
+  word-at size i h = List·getD-append (Rows.sets (m .rows)) _ 0 i h
 
-  round-at : (claim : ℕ → Claim) (size i : ℕ) → i < length (sets (m .rows))
-      → getD (padded size 0 (map (λ P. round (claim P)) (sets (m .rows)))) i 0 ≡ round (claim (getD (padded size 0 (sets (m .rows))) i 0))
-  round-at claim size i h = List·getD-append (map (λ P. round (claim P)) (sets (m .rows))) _ 0 i (rw length-map h)
-      ∙ getD-map (λ P. round (claim P)) (sets (m .rows)) i 0 0 h ∙ ap (λ P. round (claim P)) (sym (word-at size i h))
+  round-at : (claim : ℕ → Claim) (size i : ℕ) → i < length (Rows.sets (m .rows))
+      → getD (padded size 0 (map (λ P. round (claim P)) (Rows.sets (m .rows)))) i 0 ≡ round (claim (getD (padded size 0 (Rows.sets (m .rows))) i 0))
+  round-at claim size i h = List·getD-append (map (λ P. round (claim P)) (Rows.sets (m .rows))) _ 0 i (rw length-map h)
+      ∙ getD-map (λ P. round (claim P)) (Rows.sets (m .rows)) i 0 0 h ∙ ap (λ P. round (claim P)) (sym (word-at size i h))
 
-  pub recorded : (size : ℕ) → Recorded m (padded size 0 (map (λ P. round (loops P)) (sets (m .rows)))) (padded size 0 (map (λ P. round (mixes P)) (sets (m .rows)))) (padded size 0 (sets (m .rows))) (length (sets (m .rows)))
+  pub recorded : (size : ℕ) → Recorded m (padded size 0 (map (λ P. round (loops P)) (Rows.sets (m .rows)))) (padded size 0 (map (λ P. round (mixes P)) (Rows.sets (m .rows)))) (padded size 0 (Rows.sets (m .rows))) (length (Rows.sets (m .rows)))
   recorded size = record {
     count = refl;
     words-are = word-at size;
-    loops-are = λ i h. rw (round-at loops size i h) (is (loops (getD (padded size 0 (sets (m .rows))) i 0)));
-    mixes-are = λ i h. rw (round-at mixes size i h) (is (mixes (getD (padded size 0 (sets (m .rows))) i 0)));
+    loops-are = λ i h. rw (round-at loops size i h) (is (loops (getD (padded size 0 (Rows.sets (m .rows))) i 0)));
+    mixes-are = λ i h. rw (round-at mixes size i h) (is (mixes (getD (padded size 0 (Rows.sets (m .rows))) i 0)));
   }
 
-module _ (m : Machine) (w : WellFormed m) (loop-rounds mix-rounds words : List ℕ) (n : ℕ) (a : Recorded m loop-rounds mix-rounds words n) where
-  settled-openings : (v : Verdict) → m .phase ≡ Settled v → openings-in loop-rounds mix-rounds words n (m .rounds) ≡ m .openings
-  settled-openings v e = openings-are m w (subst (Made m) e (w .made)) loop-rounds mix-rounds words n a
+module _ (m : Machine) (w : WellFormed m) (loop-rounds mix-rounds sets : List ℕ) (n : ℕ) (a : Recorded m loop-rounds mix-rounds sets n) where
+  settled-openings : (v : Verdict) → m .phase ≡ Settled v → openings-in loop-rounds mix-rounds sets n (m .rounds) ≡ m .openings
+  settled-openings v e = openings-are m w (subst (Made m) e (w .made)) loop-rounds mix-rounds sets n a
 
-  settled-sheet : (v : Verdict) → m .phase ≡ Settled v → sheet v m ≡ verdict-line v (m .rounds) ++ (gather opening-line (openings-in loop-rounds mix-rounds words n (m .rounds)) ++ last-lines v m)
+  settled-sheet : (v : Verdict) → m .phase ≡ Settled v → sheet v m ≡ verdict-line v (m .rounds) ++ (gather opening-line (openings-in loop-rounds mix-rounds sets n (m .rounds)) ++ last-lines v m)
   unfolding sheet
   settled-sheet v e = rw (settled-openings v e)
 
   -- the verdict and the openings
-  pub sheet-empty : m .phase ≡ Settled Empty → sheet Empty m ≡ verdict-line Empty (m .rounds) ++ gather opening-line (openings-in loop-rounds mix-rounds words n (m .rounds))
+  pub sheet-empty : m .phase ≡ Settled Empty → sheet Empty m ≡ verdict-line Empty (m .rounds) ++ gather opening-line (openings-in loop-rounds mix-rounds sets n (m .rounds))
   sheet-empty e = settled-sheet Empty e ∙ ap (λ (l : List ℕ). verdict-line Empty (m .rounds) ++ l) (append-nil _)
 
   -- some walk was found
@@ -65,7 +65,7 @@ module _ (m : Machine) (w : WellFormed m) (loop-rounds mix-rounds words : List �
 
   -- the verdict, the openings and the walk that was found
   pub sheet-nonempty : m .phase ≡ Settled NonEmpty → (walk : Walk) → Answers (m .rows) (open-claims m) walk
-      → sheet NonEmpty m ≡ verdict-line NonEmpty (m .rounds) ++ (gather opening-line (openings-in loop-rounds mix-rounds words n (m .rounds)) ++ walk-lines (some (walk-of walk)))
+      → sheet NonEmpty m ≡ verdict-line NonEmpty (m .rounds) ++ (gather opening-line (openings-in loop-rounds mix-rounds sets n (m .rounds)) ++ walk-lines (some (walk-of walk)))
   sheet-nonempty e walk r = settled-sheet NonEmpty e
-      ∙ ap (λ (o : Option Found). verdict-line NonEmpty (m .rounds) ++ (gather opening-line (openings-in loop-rounds mix-rounds words n (m .rounds)) ++ walk-lines o))
+      ∙ ap (λ (o : Option Found). verdict-line NonEmpty (m .rounds) ++ (gather opening-line (openings-in loop-rounds mix-rounds sets n (m .rounds)) ++ walk-lines o))
       (answers-some (m .rows) (open-claims m) walk r (walk-found e walk r))

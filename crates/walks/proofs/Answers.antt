@@ -2,17 +2,14 @@
 use Prim.Native.Nat.{ℕ, zero, suc, _-_, _≤_, _<_}
 use mathlib.Core.Path.{_≡_, refl, ap, subst, _∙_}
 use mathlib.Core.Bool.{true, false}
-use mathlib.Core.Logic.{⊎-elim, _↔_}
+use mathlib.Core.Logic.{⊎-elim}
 use mathlib.Core.Option.{Option, none, some}
 use mathlib.Core.List.{List}
 use native.Mathlib.Omega.{arith}
 use lib.ListN.{length, getD}
-use Rattle.lists.specs.Tests.{_among_}
-use Rattle.masks.specs.Graph.{Turned}
 use Rattle.masks.specs.Mask.{_∈_}
-use Rattle.masks.proofs.Member.{not-both, member-lt}
+use Rattle.masks.proofs.Member.{not-both}
 use Rattle.rows.specs.declared.Row.{Row}
-use Rattle.rows.specs.declared.Row.the-variants.{Initial, Final}
 use Rattle.rows.specs.Rows.{sets}
 use Rattle.orderings.specs.Steps.{Claim}
 use Rattle.machine.specs.Order.{Found}
@@ -20,6 +17,9 @@ use Rattle.machine.specs.Search.{shortest}
 use Rattle.machine.specs.WellFormed.{Table}
 use Rattle.machine.proofs.Search.{shortest-best, shortest-some}
 use Rattle.machine.proofs.Walks.{best-unique}
+use Rattle.search.specs.declared.Claims.{Claims}
+use Rattle.search.specs.Graph.{Graph, TurnedGraph}
+use Rattle.search.specs.Masked.{Initials, Finals}
 use Rattle.search.specs.Promises.{Stands}
 use Rattle.table.specs.Arrays.{Keyed}
 use Rattle.walks.specs.declared.Distance.the-variants.{At, Nowhere}
@@ -30,22 +30,21 @@ use Rattle.walks.specs.Walks.{state-at, walk-of, Follows, Answers}
 use Rattle.walks.proofs.Standing.{in-order, way-can, can-way, can-ahead, ahead-can}
 use Rattle.walks.proofs.Best.{Goes, no-candidate, best}
 
-module _ {letters words lefts rights : List ℕ} {loop-mask mix-mask : ℕ} {rows : List Row} {claims : List Claim} {k : ℕ}
-    (is : Stands letters words lefts rights loop-mask mix-mask rows claims k) (count : length (sets rows) ≡ k)
-    {highs lows : List ℕ} {n : ℕ} (keyed : Keyed rows highs lows n) (table : Table rows) (turned : List ℕ) (is-turned : Turned letters turned)
-    (initials finals : ℕ) (is-initials : (s : ℕ) → (s ∈ initials) ↔ Initial s among rows) (is-finals : (s : ℕ) → (s ∈ finals) ↔ Final s among rows) where
+module _ {g back : Graph} (turned : TurnedGraph g back) {force : Claims} {rows : List Row} {claims : List Claim} {k : ℕ} (is : Stands g force rows claims k) (count : length (sets rows) ≡ k)
+    {highs lows : List ℕ} {n : ℕ} (keyed : Keyed rows highs lows n) (table : Table rows)
+    (initials finals : ℕ) (is-initials : Initials rows initials) (is-finals : Finals rows finals) where
   abbrev E : ℕ → ℕ → Type 0
-  E = Ahead turned words lefts rights loop-mask mix-mask
+  E = Ahead back force
 
   pub answer-none : (layers : List ℕ) (w : Walk) → w .found ≡ false → Spread E initials finals layers Nowhere → Answers rows claims w
   answer-none layers w e s = record {
     best = λ t. absurd (not-both t e);
-    none = λ f. no-candidate rows claims E (can-ahead is count keyed table turned is-turned) initials finals is-initials is-finals (s .0) (s .1) (s .2) (s .3);
+    none = λ f. no-candidate rows claims E (can-ahead turned is count keyed table) initials finals is-initials is-finals (s .0) (s .1) (s .2) (s .3);
   }
 
   module _ (layers : List ℕ) (d start : ℕ) (w : Walk) (spread : Spread E initials finals layers (At d)) (in-layer : start ∈ getD layers d 0) (in-initials : start ∈ initials)
       (lowest : (s : ℕ) → s ∈ getD layers d 0 → s ∈ initials → start ≤ s)
-      (f : Follows (Way highs n words lefts rights loop-mask mix-mask) (InOrder highs lows n words loop-mask mix-mask) layers start d w) where
+      (f : Follows (Way highs n back force) (InOrder highs lows n back force) layers start d w) where
     abbrev state : ℕ → ℕ
     state j = state-at start (w .targets) j
 
@@ -54,11 +53,11 @@ module _ {letters words lefts rights : List ℕ} {loop-mask mix-mask : ℕ} {row
     state-in zero h = let z : d ≡ d - 0 = omega arith in subst (λ (x : ℕ). start ∈ getD layers x 0) z in-layer
     state-in (suc j) h = let z : d - 1 - j ≡ d - suc j = omega arith in subst (λ (x : ℕ). state (suc j) ∈ getD layers x 0) z (f .chosen j h .1)
 
-    goes : (j : ℕ) → j < w .count → Goes rows claims E (can-ahead is count keyed table turned is-turned) initials finals is-initials is-finals layers d (spread .1) start (w .kinds) (w .values) (w .targets) j
+    goes : (j : ℕ) → j < w .count → Goes rows claims E (can-ahead turned is count keyed table) initials finals is-initials is-finals layers d (spread .1) start (w .kinds) (w .values) (w .targets) j
     goes j h = let c = f .chosen j h in record {
-      can = way-can is count keyed table (state j) (member-lt (state j) (getD layers (d - j) 0) (state-in j (omega arith))) (named (getD (w .kinds) j 0) (getD (w .values) j 0)) (getD (w .targets) j 0) (c .0);
+      can = way-can turned is count keyed table (state j) (named (getD (w .kinds) j 0) (getD (w .values) j 0)) (getD (w .targets) j 0) (c .0);
       into = c .1;
-      first = λ l u can m. c .2 (in-order is count keyed table) l u (can-way is count keyed table (state j) l u can) m;
+      first = λ l u can m. c .2 (in-order turned is count keyed table) l u (can-way turned is count keyed table (state j) l u can) m;
     }
 
     -- there is a step wherever there are steps left
@@ -66,13 +65,13 @@ module _ {letters words lefts rights : List ℕ} {loop-mask mix-mask : ℕ} {row
     whole = ⊎-elim (λ e. e) (λ s. absurd (
         let z : d - w .count ≡ suc (d - 1 - w .count) = omega (arith, s .0) in
         let r = spread .1 .sound (d - 1 - w .count) (state (w .count)) (omega (arith, s .0)) (subst (λ (x : ℕ). state (w .count) ∈ getD layers x 0) z (state-in (w .count) (omega arith))) in
-        let c = ahead-can is count keyed table turned is-turned (state (w .count)) (r .0) (r .1) in
-        s .1 (in-order is count keyed table) (c .0) (r .0) (can-way is count keyed table (state (w .count)) (c .0) (r .0) (c .1)) (r .2)
+        let c = ahead-can turned is count keyed table (state (w .count)) (r .0) (r .1) in
+        s .1 (in-order turned is count keyed table) (c .0) (r .0) (can-way turned is count keyed table (state (w .count)) (c .0) (r .0) (c .1)) (r .2)
         )) (f .stopped)
 
     pub answer-best : Answers rows claims w
     answer-best =
-        let b = best rows claims E (can-ahead is count keyed table turned is-turned) initials finals is-initials is-finals layers d (spread .1) start (w .kinds) (w .values) (w .targets)
+        let b = best rows claims E (can-ahead turned is count keyed table) initials finals is-initials is-finals layers d (spread .1) start (w .kinds) (w .values) (w .targets)
         (λ j h. goes j (omega (arith, whole))) (spread .3) in-layer in-initials lowest in
         record {
           best = λ e. rw (f .begins, whole) b;

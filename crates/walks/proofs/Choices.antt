@@ -9,32 +9,32 @@ use Rattle.lists.specs.Order.{_≺_}
 use Rattle.lists.proofs.Sorting.{before·, ≺-irreflexive}
 use Rattle.masks.specs.Mask.{_∈_}
 use Rattle.masks.proofs.Member.{lt-or-le, in-none}
-use Rattle.search.proofs.Gathering.{Gathered, gather-end}
+use Rattle.masks.proofs.Gathering.{Gathered, gather-end}
 use Rattle.orderings.specs.Steps.{Label, letter, ω, back, mix}
 use Rattle.machine.specs.Order.{kind, value}
 use Rattle.walks.specs.declared.Choice.{Choice}
 use Rattle.walks.specs.declared.Choice.the-variants.{Taken, Nothing}
 use Rattle.walks.specs.Choices.{named, PassAt, RisingAt, First, Picked, Chooses}
 
-module _ (words here there : List ℕ) (places a layer : ℕ) where
+module _ (sets here there : List ℕ) (places a layer : ℕ) where
   -- a step by the place i leads to t
   abbrev pub Enters : ℕ → ℕ → Type 0
   Enters i t = (a ∈ getD here i 0) × (t ∈ getD there i 0) × (t ∈ layer)
 
-  pub pass-end : (rest : ℕ) → Gathered Enters places rest 0 → rest ≡ 0 → First layer (PassAt words here there places a) Nothing
+  pub pass-end : (rest : ℕ) → Gathered Enters places rest 0 → rest ≡ 0 → First layer (PassAt sets here there places a) Nothing
   pass-end rest g z P t r m = in-none t (gather-end g z t .1 (r .0, r .1, (r .3, r .4, m)))
 
   -- the lowest place left with a step, and its lowest target
   pub pass-first : (rest i met t k : ℕ) → Gathered Enters places rest 0 → i ∈ rest → ((j : ℕ) → j ∈ rest → i ≤ j) → ((u : ℕ) → (u ∈ met) ↔ Enters i u)
-      → ((u : ℕ) → u ∈ met → t ≤ u) → RisingAt words places → First layer (PassAt words here there places a) (Taken k (getD words i 0) t)
+      → ((u : ℕ) → u ∈ met → t ≤ u) → RisingAt sets places → First layer (PassAt sets here there places a) (Taken k (getD sets i 0) t)
   pass-first rest i met t k g is-i low is-met low-t rising P u r m = ⊎-elim
       (λ h. ⊎-elim
-      (λ l. inl (rw (r .2) (rising i (r .0) (g .left i is-i) (r .1) l)))
+      (λ l. inl (rw (r .2) (rising i (r .0) (g .through .left i is-i) (r .1) l)))
       (λ l. let e : r .0 ≡ i = omega (arith, low (r .0) h) in
       inr (rw (r .2, e), low-t u (is-met u .1 (subst (λ (x : ℕ). a ∈ getD here x 0) e (r .3), subst (λ (x : ℕ). u ∈ getD there x 0) e (r .4), m))))
       (lt-or-le i (r .0)))
       (λ f. absurd (in-none u (f u (r .3, r .4, m))))
-      (g .passed (r .0) (r .1))
+      (g .through .passed (r .0) (r .1))
 
 pub not-nothing : {r : Choice} {k v t : ℕ} → r ≡ Taken k v t → r ≡ Nothing → ⊥
 not-nothing e n = let z : _≡_ {A = ℕ} 0 1 = cc in omega arith

@@ -10,6 +10,8 @@ use lib.Seq.{getD-set-same, getD-set-other}
 use Rattle.masks.proofs.Member.{lt-or-le, member-lt}
 use Rattle.orderings.specs.Steps.{Label}
 use Rattle.rows.proofs.Keys.{letter-bytes}
+use Rattle.search.specs.declared.Claims.{Claims}
+use Rattle.search.specs.Graph.{Graph}
 use Rattle.walks.specs.declared.Choice.the-variants.{Taken}
 use Rattle.walks.specs.Choices.{named, Way, Chooses}
 use Rattle.walks.specs.declared.Walk.{Walk}
@@ -56,12 +58,12 @@ module _ (W : ℕ → Label → ℕ → Type 0) (Ordered : Type 0) (layers : Lis
   }
 
 -- every step leads into a layer, and the letters are bytes of keys
-pub bounded : (high : List ℕ) (n : ℕ) (words lefts rights : List ℕ) (loops mixes : ℕ) {Ordered : Type 0} (layers : List ℕ) (start d : ℕ) (w : Walk)
-    → Follows (Way high n words lefts rights loops mixes) Ordered layers start d w → start < 64 → d < 64 → Bounded w
-bounded high n words lefts rights loops mixes layers start d w f s l = record {
+pub bounded : (high : List ℕ) (n : ℕ) (b : Graph) (force : Claims) {Ordered : Type 0} (layers : List ℕ) (start d : ℕ) (w : Walk)
+    → Follows (Way high n b force) Ordered layers start d w → start < 64 → d < 64 → Bounded w
+bounded high n b force layers start d w f s l = record {
   few = omega (arith, f .within);
   low-start = rw (f .begins) s;
   low-target = λ j h. member-lt (getD (w .targets) j 0) (getD layers (d - 1 - j) 0) (f .chosen j h .1);
-  low-letter = λ j h e. let r = subst (λ (k : ℕ). Way high n words lefts rights loops mixes (state-at start (w .targets) j) (named k (getD (w .values) j 0)) (getD (w .targets) j 0)) e (f .chosen j h .0) in
+  low-letter = λ j h e. let r = subst (λ (k : ℕ). Way high n b force (state-at start (w .targets) j) (named k (getD (w .values) j 0)) (getD (w .targets) j 0)) e (f .chosen j h .0) in
       letter-bytes (getD high (r .0) 0) (r .2) .0;
 }

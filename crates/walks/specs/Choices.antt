@@ -11,6 +11,8 @@ use Rattle.rows.specs.declared.Row.the-variants.{Successor}
 use Rattle.rows.specs.Keys.{row-from}
 use Rattle.orderings.specs.Steps.{Label, letter, ω, back, mix}
 use Rattle.machine.specs.Order.{kind, value}
+use Rattle.search.specs.declared.Claims.{Claims}
+use Rattle.search.specs.Graph.{Graph, part}
 use Rattle.walks.specs.declared.Choice.{Choice}
 use Rattle.walks.specs.declared.Choice.the-variants.{Taken, Nothing}
 
@@ -31,14 +33,14 @@ LetterAt high n a x t = (j : ℕ) × (j < n) × LetterRow high a j x t
 
 -- a and t lie in the sets that two lists of masks have at the place of the set P
 abbrev pub PassAt : List ℕ → List ℕ → List ℕ → ℕ → ℕ → ℕ → ℕ → Type 0
-PassAt words here there places a P t = (i : ℕ) × (i ∈ places) × (P ≡ getD words i 0) × (a ∈ getD here i 0) × (t ∈ getD there i 0)
+PassAt sets here there places a P t = (i : ℕ) × (i ∈ places) × (P ≡ getD sets i 0) × (a ∈ getD here i 0) × (t ∈ getD there i 0)
 
--- a step with a label from a to t
-abbrev pub Way : List ℕ → ℕ → List ℕ → List ℕ → List ℕ → ℕ → ℕ → ℕ → Label → ℕ → Type 0
-Way high n words lefts rights loops mixes a (letter x) t = LetterAt high n a x t
-Way high n words lefts rights loops mixes a (ω P) t = PassAt words words lefts loops a P t
-Way high n words lefts rights loops mixes a (back P) t = PassAt words rights words loops a P t
-Way high n words lefts rights loops mixes a (mix P) t = PassAt words rights lefts mixes a P t
+-- a step with a label from a to t, as the graph turned round has it: its rights are the lefts, and its lefts the rights
+abbrev pub Way : List ℕ → ℕ → Graph → Claims → ℕ → Label → ℕ → Type 0
+Way high n b force a (letter x) t = LetterAt high n a x t
+Way high n b force a (ω P) t = PassAt (b .sets) (b .sets) (b .rights) (force .loops) a P t
+Way high n b force a (back P) t = PassAt (b .sets) (b .lefts) (b .sets) (force .loops) a P t
+Way high n b force a (mix P) t = PassAt (b .sets) (b .lefts) (b .rights) (force .mixes) a P t
 
 -- where the keys stand in order, those before the place r have high words less than h, and the others have not
 pub record RowsFrom (high low : List ℕ) (n h r : ℕ) : Type 0 where
@@ -48,7 +50,7 @@ pub record RowsFrom (high low : List ℕ) (n h r : ℕ) : Type 0 where
 
 -- of two places the higher has the greater set
 abbrev pub RisingAt : List ℕ → ℕ → Type 0
-RisingAt words places = (i j : ℕ) → i ∈ places → j ∈ places → i < j → getD words i 0 < getD words j 0
+RisingAt sets places = (i j : ℕ) → i ∈ places → j ∈ places → i < j → getD sets i 0 < getD sets j 0
 
 -- what is chosen is one of the steps P of one kind, into the layer
 abbrev pub Picks : ℕ → (ℕ → ℕ → Type 0) → ℕ → Choice → Type 0
@@ -64,9 +66,14 @@ pub record Picked (layer : ℕ) (P : ℕ → ℕ → Type 0) (kind : ℕ) (Order
   pub is : Picks layer P kind r
   pub first : Ordered → First layer P r
 
+-- the same of the steps by the places, from the masks of one part of an array to those of another
+abbrev pub PickedPass : List ℕ → ℕ → ℕ → ℕ → ℕ → ℕ → ℕ → Choice → Type 0
+PickedPass l here there places a layer kind r =
+    Picked layer (PassAt (part l 64) (part l here) (part l there) places a) kind (RisingAt (part l 64) places) r
+
 -- the rows stand in order, and so do the sets
-abbrev pub InOrder : List ℕ → List ℕ → ℕ → List ℕ → ℕ → ℕ → Type 0
-InOrder high low n words loops mixes = Ascending high low n × RisingAt words loops × RisingAt words mixes
+abbrev pub InOrder : List ℕ → List ℕ → ℕ → Graph → Claims → Type 0
+InOrder high low n b force = Ascending high low n × RisingAt (b .sets) (force .loops) × RisingAt (b .sets) (force .mixes)
 
 -- what is chosen is a step into the layer, and by kind, letter or set, and target none comes before it; or there is none
 abbrev pub Chooses : ℕ → (Label → ℕ → Type 0) → Type 0 → Choice → Type 0

@@ -2,18 +2,17 @@
 use Prim.Native.Nat.{ℕ, zero, suc, _-_, _≤_, _<_}
 use mathlib.Core.Path.{_≡_}
 use mathlib.Core.Bool.{true, false}
-use mathlib.Core.Logic.{_⊎_, _↔_}
+use mathlib.Core.Logic.{_⊎_}
 use mathlib.Core.List.{List, [], _∷_}
 use lib.ListN.{length, getD}
-use Rattle.lists.specs.Tests.{_among_}
-use Rattle.masks.specs.Graph.{Turned}
-use Rattle.masks.specs.Mask.{_∈_}
 use Rattle.rows.specs.declared.Row.{Row}
-use Rattle.rows.specs.declared.Row.the-variants.{Initial, Final}
 use Rattle.rows.specs.Rows.{sets}
 use Rattle.orderings.specs.Steps.{Claim, Label, Step}
 use Rattle.machine.specs.Order.{Found, Candidate, Best}
 use Rattle.machine.specs.WellFormed.{Table}
+use Rattle.search.specs.declared.Claims.{Claims}
+use Rattle.search.specs.Graph.{Graph, TurnedGraph}
+use Rattle.search.specs.Masked.{Initials, Finals}
 use Rattle.search.specs.Promises.{Stands}
 use Rattle.table.specs.Arrays.{Keyed}
 use Rattle.walks.specs.declared.Choice.the-variants.{Taken, Nothing}
@@ -59,10 +58,8 @@ pub record Answers (rows : List Row) (claims : List Claim) (w : Walk) : Type 0 w
   pub best : w .found ≡ true → Best rows claims (walk-of w)
   pub none : w .found ≡ false → (g : Found) → ¬ Candidate rows claims g
 
--- for all rows and claims that the arrays stand for
-abbrev pub FirstWalk : List ℕ → List ℕ → ℕ → List ℕ → List ℕ → List ℕ → List ℕ → ℕ → ℕ → ℕ → ℕ → Walk → Type 0
-FirstWalk high low n back words lefts rights loop-mask mix-mask initials finals w =
-    (letters : List ℕ) (rows : List Row) (claims : List Claim) (k : ℕ) → Turned letters back
-    → Stands letters words lefts rights loop-mask mix-mask rows claims k → length (sets rows) ≡ k → Keyed rows high low n → Table rows
-    → ((s : ℕ) → (s ∈ initials) ↔ Initial s among rows) → ((s : ℕ) → (s ∈ finals) ↔ Final s among rows)
-    → Answers rows claims w
+-- for all rows and claims that the arrays and the graph, which is turned round, stand for
+abbrev pub FirstWalk : List ℕ → List ℕ → ℕ → Graph → Claims → ℕ → ℕ → Walk → Type 0
+FirstWalk high low n back force initials finals w = (g : Graph) (rows : List Row) (claims : List Claim) (k : ℕ) → TurnedGraph g back
+    → Stands g force rows claims k → length (sets rows) ≡ k → Keyed rows high low n → Table rows
+    → Initials rows initials → Finals rows finals → Answers rows claims w

@@ -1,5 +1,11 @@
 // The walk that a sheet prints: the first of the shortest from an initial to a final state.
 
+use search::Claims;
+use search::graphs::LEFTS;
+use search::graphs::RIGHTS;
+use search::graphs::SETS;
+use search::graphs::mask_at;
+use search::graphs::set_at;
 use search::moves;
 ghost use mathlib.Core.Path.{_≡_};
 ghost use mathlib.Core.Bool.{false};
@@ -8,57 +14,51 @@ ghost use Prim.Native.Nat.{ℕ, _≤_, _<_};
 ghost use lib.ListN.{length};
 ghost use Rattle.masks.specs.Mask.{member, _∈_};
 ghost use Rattle.sorted.specs.Keys.{Ascending};
+ghost use Rattle.search.specs.Graph.{graph-of};
 ghost use Rattle.walks.specs.Layers.{Ahead, Spread};
-ghost use Rattle.walks.specs.Choices.{LetterAt, PassAt, Way, RowsFrom, RisingAt, Picked, InOrder, Chooses};
+ghost use Rattle.walks.specs.Choices.{LetterAt, Way, RowsFrom, Picked, PickedPass, InOrder, Chooses};
 ghost use Rattle.walks.specs.Walks.{Bounded, Follows, FirstWalk};
 use masks::difference;
 use masks::has;
 use masks::intersection;
 use masks::lowest;
+use masks::take_lowest;
 use masks::union;
-use masks::with;
 use rows::Row;
 use rows::high_of;
 use rows::row_of;
 use sorted::Place;
 use sorted::find_key;
 
-// How many steps lead to the nearest end, or that none do.
+// How many steps lead to the nearest final state, or that none do.
 enum Distance {
     At(usize),
     Nowhere,
 }
 
-// The states by their distance from the ends, up to the first layer that meets the starts. `back` has the letter steps turned round.
+// The states by their distance from the final ones, up to the first layer that has an initial one. `back` is the graph turned round.
 fn spread(
-    back: &[u64; 64],
-    words: &[u64; 64],
-    lefts: &[u64; 64],
-    rights: &[u64; 64],
-    loops: u64,
-    mixes: u64,
-    starts: u64,
-    ends: u64,
+    back: &[u64; 256],
+    force: Claims,
+    initials: u64,
+    finals: u64,
     layers: &mut [u64; 64],
 ) -> Distance
     requires { ⌜ length (now layers) ≡ 64 ⌝ }
-    ensures { λ r. ⌜ Spread (Ahead (now (back .entry)) (now (words .entry)) (now (lefts .entry)) (now (rights .entry)) loops mixes) starts ends (now (layers .exit)) r ⌝ }
+    ensures { λ r. ⌜ Spread (Ahead (graph-of (now (back .entry))) force) initials finals (now (layers .exit)) r ⌝ }
 {
-    if ends == 0 {
+    if finals == 0 {
         return Distance::Nowhere;
     }
     let mut k = 0;
-    let mut layer = ends;
-    let mut seen = ends;
-    layers[0] = ends;
+    let mut layer = finals;
+    let mut seen = finals;
+    layers[0] = finals;
     loop {
-        if intersection(layer, starts) != 0 {
+        if intersection(layer, initials) != 0 {
             return Distance::At(k);
         }
-        let next = difference(
-            moves::targets(back, words, rights, lefts, loops, mixes, !0u64, layer),
-            seen,
-        );
+        let next = difference(moves::targets(back, force, !0u64, layer), seen);
         if next == 0 {
             return Distance::Nowhere;
         }
@@ -128,62 +128,59 @@ fn entered(here: u64, there: u64, a: u8, layer: u64) -> u64
     }
 }
 
-// The first step from `a` into `layer` by one of the places: from a state of `here` to one of `there`.
+// The first step from `a` into `layer` by one of the places: from a state of its mask in one part to one of its mask in another.
 fn first_pass(
-    words: &[u64; 64],
-    here: &[u64; 64],
-    there: &[u64; 64],
+    back: &[u64; 256],
+    here: usize,
+    there: usize,
     places: u64,
     a: u8,
     layer: u64,
     kind: u8,
 ) -> Choice
-    requires { ⌜ a < 64 ⌝ }
-    ensures { λ r. ⌜ Picked layer (PassAt (now (words .entry)) (now (here .entry)) (now (there .entry)) places a) kind (RisingAt (now (words .entry)) places) r ⌝ }
+    requires { ⌜ (a < 64) × (here ≤ 192) × (there ≤ 192) ⌝ }
+    ensures { λ r. ⌜ PickedPass (now (back .entry)) here there places a layer kind r ⌝ }
 {
     let mut rest = places;
     while rest != 0 {
-        let i = lowest(rest);
-        let at = i as usize;
-        let met = entered(here[at], there[at], a, layer);
+        let next = take_lowest(rest);
+        let at = next.low as usize;
+        let met = entered(mask_at(back, here, at), mask_at(back, there, at), a, layer);
         if met != 0 {
-            return Choice::Taken(kind, words[at], lowest(met));
+            return Choice::Taken(kind, set_at(back, at), lowest(met));
         }
-        rest = difference(rest, with(0, i));
+        rest = next.rest;
     }
     Choice::Nothing
 }
 
-// The first step from `a` into `layer`: by kind, then by letter or set, then by target.
+// The first step from `a` into `layer`: by kind, then by letter or set, then by target. The graph is turned round, so its rights are the lefts.
 fn first_step(
     high: &[u64; 256],
     low: &[u64; 256],
     n: usize,
-    words: &[u64; 64],
-    lefts: &[u64; 64],
-    rights: &[u64; 64],
-    loops: u64,
-    mixes: u64,
+    back: &[u64; 256],
+    force: Claims,
     a: u8,
     layer: u64,
 ) -> Choice
     requires { ⌜ (n ≤ 256) × (a < 64) ⌝ }
-    ensures { λ r. ⌜ Chooses layer (Way (now (high .entry)) n (now (words .entry)) (now (lefts .entry)) (now (rights .entry)) loops mixes a)
-        (InOrder (now (high .entry)) (now (low .entry)) n (now (words .entry)) loops mixes) r ⌝ }
+    ensures { λ r. ⌜ Chooses layer (Way (now (high .entry)) n (graph-of (now (back .entry))) force a)
+        (InOrder (now (high .entry)) (now (low .entry)) n (graph-of (now (back .entry))) force) r ⌝ }
 {
     let letter = first_letter(high, low, n, a, layer);
     let Choice::Nothing = letter else {
         return letter;
     };
-    let omega = first_pass(words, words, lefts, loops, a, layer, 1);
-    let Choice::Nothing = omega else {
-        return omega;
+    let by_omega = first_pass(back, SETS, RIGHTS, force.loops, a, layer, 1);
+    let Choice::Nothing = by_omega else {
+        return by_omega;
     };
-    let back = first_pass(words, rights, words, loops, a, layer, 2);
-    let Choice::Nothing = back else {
-        return back;
+    let by_back = first_pass(back, LEFTS, SETS, force.loops, a, layer, 2);
+    let Choice::Nothing = by_back else {
+        return by_back;
     };
-    first_pass(words, rights, lefts, mixes, a, layer, 3)
+    first_pass(back, LEFTS, RIGHTS, force.mixes, a, layer, 3)
 }
 
 // A walk, if there is one: its start, how many steps it has, and of each step its kind, its letter or set, and its target.
@@ -215,18 +212,15 @@ fn follow(
     high: &[u64; 256],
     low: &[u64; 256],
     n: usize,
-    words: &[u64; 64],
-    lefts: &[u64; 64],
-    rights: &[u64; 64],
-    loops: u64,
-    mixes: u64,
+    back: &[u64; 256],
+    force: Claims,
     layers: &[u64; 64],
     start: u8,
     d: usize,
 ) -> Walk
     requires { ⌜ (n ≤ 256) × (start < 64) × (d ≤ 64) ⌝ }
-    ensures { λ r. ⌜ Follows (Way (now (high .entry)) n (now (words .entry)) (now (lefts .entry)) (now (rights .entry)) loops mixes)
-        (InOrder (now (high .entry)) (now (low .entry)) n (now (words .entry)) loops mixes) (now (layers .entry)) start d r ⌝ }
+    ensures { λ r. ⌜ Follows (Way (now (high .entry)) n (graph-of (now (back .entry))) force)
+        (InOrder (now (high .entry)) (now (low .entry)) n (graph-of (now (back .entry))) force) (now (layers .entry)) start d r ⌝ }
 {
     let mut kinds = [0u8; 64];
     let mut values = [0u64; 64];
@@ -235,7 +229,7 @@ fn follow(
     let mut i = 0;
     while i < d {
         let layer = layers[d - 1 - i];
-        let step = first_step(high, low, n, words, lefts, rights, loops, mixes, a, layer);
+        let step = first_step(high, low, n, back, force, a, layer);
         let Choice::Taken(kind, value, target) = step else {
             break;
         };
@@ -255,52 +249,26 @@ fn follow(
     }
 }
 
-// The first of the shortest walks from an initial to a final state, with the claims whose places are `loops` and `mixes`.
+// The first of the shortest walks from an initial to a final state, with the claims in force. `back` is the graph turned round.
 pub fn first_walk(
     high: &[u64; 256],
     low: &[u64; 256],
     n: usize,
-    back: &[u64; 64],
-    words: &[u64; 64],
-    lefts: &[u64; 64],
-    rights: &[u64; 64],
-    loops: u64,
-    mixes: u64,
+    back: &[u64; 256],
+    force: Claims,
     initials: u64,
     finals: u64,
 ) -> Walk
     requires { ⌜ n ≤ 256 ⌝ }
     ensures bounded { λ r. ⌜ Bounded r ⌝ }
-    ensures first { λ r. ⌜ FirstWalk (now (high .entry)) (now (low .entry)) n (now (back .entry)) (now (words .entry)) (now (lefts .entry)) (now (rights .entry))
-        loops mixes initials finals r ⌝ }
+    ensures first { λ r. ⌜ FirstWalk (now (high .entry)) (now (low .entry)) n (graph-of (now (back .entry))) force
+        initials finals r ⌝ }
 {
     let mut layers = [0u64; 64];
-    match spread(
-        back,
-        words,
-        lefts,
-        rights,
-        loops,
-        mixes,
-        initials,
-        finals,
-        &mut layers,
-    ) {
+    match spread(back, force, initials, finals, &mut layers) {
         Distance::At(d) => {
             let start = lowest(intersection(layers[d], initials));
-            follow(
-                high,
-                low,
-                n,
-                words,
-                lefts,
-                rights,
-                loops,
-                mixes,
-                &layers,
-                start,
-                d,
-            )
+            follow(high, low, n, back, force, &layers, start, d)
         }
         Distance::Nowhere => no_walk(),
     }

@@ -17,14 +17,17 @@ use Rattle.automaton.proofs.of_keys.Statement.{statement}
 use Rattle.automaton.proofs.of_keys.Tie as tie
 
 abbrev Inv-loop : tie.InvT-loop
-Inv-loop high low n words k letters₀ lefts₀ rights₀ initials₀ finals₀ i₀ letters lefts rights initials finals i =
-    (i ≤ n) × ((rows : List Row) → AllFit rows → Keyed rows high low n → Passed words k (take i rows) letters lefts rights initials finals)
+Inv-loop high low n sets k graph₀ initials₀ finals₀ i₀ graph initials finals i =
+    (i ≤ n) × ((rows : List Row) → AllFit rows → Keyed rows high low n → Passed sets k (take i rows) graph initials finals)
 
 abbrev μ-loop : tie.MeasureT-loop
-μ-loop high low n words k letters₀ lefts₀ rights₀ initials₀ finals₀ i₀ letters lefts rights initials finals i = n - i
+μ-loop high low n sets k graph₀ initials₀ finals₀ i₀ graph initials finals i = n - i
+
+with-sets-requires : tie.Need-with-sets-requires Inv-loop μ-loop
+with-sets-requires c κs = search needs
 
 loop-holds : tie.Need-loop-holds Inv-loop μ-loop
-loop-holds c = (omega arith, λ rows f key. none-passed _ _)
+loop-holds c = (omega arith, λ rows f key. none-passed _ _ _ (c .with-sets .ensures))
 
 mul-row-of : tie.Need-mul-row-of Inv-loop μ-loop
 mul-row-of c = search needs
@@ -90,9 +93,9 @@ loop-again : tie.Need-loop-again Inv-loop μ-loop
 loop-again c =
     let read = c .before in
     let h = read .before .before .before .before in
-    let a = h .before .args in
-    let few = h .before .pre .1 in
-    let words = a .words .now in
+    let a = h .before .before .args in
+    let few = h .before .before .pre .1 in
+    let sets = a .sets .now in
     let i = h .loop .i in (
       omega arith,
       λ rows f key.
@@ -101,19 +104,19 @@ loop-again c =
           let there : x ≡ read .row-of .result = sym (read .row-of .ensures ∙ row-there rows f (a .high .now) (a .low .now) (a .n) key i (read .before .before .before .loop-test .taken)) in
           rw (add-one i, take-suc rows i (Initial 0) (omega (arith, key .count)))
           (elim (c .match .came) [
-            | inl w ↦ rw (w .4, w .5, w .6, w .7, w .8) (pass-initial words (a .k) few p x (there ∙ w .1 .given .1) (w .3 .ensures))
-            | inr (inl w) ↦ rw (w .4, w .5, w .6, w .7, w .8) (pass-final words (a .k) few p x (there ∙ w .1 .given .1) (w .3 .ensures))
-            | inr (inr (inl w)) ↦ rw (w .5, w .6, w .7, w .8, w .9) (pass-step words (a .k) few p x (there ∙ w .1 .given .1) (w .4 .ensures))
-            | inr (inr (inr (inl w))) ↦ rw (w .6, w .7, w .8, w .9, w .10) (pass-left words (a .k) few p x (w .4 .result) (there ∙ w .1 .given .1) (w .4 .ensures) (w .5 .ensures))
-            | inr (inr (inr (inr w))) ↦ rw (w .6, w .7, w .8, w .9, w .10) (pass-right words (a .k) few p x (w .4 .result) (there ∙ w .1 .given .1) (w .4 .ensures) (w .5 .ensures))
+            | inl w ↦ rw (w .4, w .5, w .6) (pass-initial sets (a .k) few p x (there ∙ w .1 .given .1) (w .3 .ensures))
+            | inr (inl w) ↦ rw (w .4, w .5, w .6) (pass-final sets (a .k) few p x (there ∙ w .1 .given .1) (w .3 .ensures))
+            | inr (inr (inl w)) ↦ rw (w .5, w .6, w .7) (pass-step sets (a .k) few p x (there ∙ w .1 .given .1) (w .4 .ensures))
+            | inr (inr (inr (inl w))) ↦ rw (w .6, w .7, w .8) (pass-left sets (a .k) few p x (w .4 .result) (there ∙ w .1 .given .1) (w .4 .ensures) (w .5 .ensures))
+            | inr (inr (inr (inr w))) ↦ rw (w .6, w .7, w .8) (pass-right sets (a .k) few p x (w .4 .result) (there ∙ w .1 .given .1) (w .4 .ensures) (w .5 .ensures))
           ]),
     )
 
 returns : tie.Need-returns Inv-loop μ-loop
 returns c rows f key count are =
     let l = c .before .loop in
-    let s = c .before .before in
-    passed-all rows f (s .args .words .now) (s .args .k) count are (s .pre .1) _
+    let s = c .before .before .before in
+    passed-all rows f (s .args .sets .now) (s .args .k) count are (s .pre .1) _
     (rw (take-all (l .i) rows (omega (arith, key .count, c .loop-test .left))) at (l .inv .1 rows f key))
 
 pub of-keys-spec : {M : Type 1} → statement M
@@ -122,6 +125,7 @@ of-keys-spec =
     (tie.spec
     Inv-loop
     μ-loop
+    with-sets-requires
     loop-holds
     mul-row-of
     element-copy-out-row-of

@@ -15,11 +15,11 @@ enum-told c = search needs
 
 returns : tie.Need-returns
 returns c = let a = c .before .before .before .before .before .args in
-    found-place (a .words .now) (a .n) (a .x) _ (rw (c .before .i .given .1) at (c .before .before .before .find-word .ensures))
+    found-place (a .sets .now) (a .n) (a .x) _ (rw (c .before .i .given .1) at (c .before .before .before .find-word .ensures))
 
 returns-2 : tie.Need-returns-2
 returns-2 c = let s = c .before .before .before .before in
-    no-place (s .args .words .now) (s .args .n) (s .args .x) _ (s .pre) (rw (c .enum-told .given .1) at (c .before .before .find-word .ensures))
+    no-place (s .args .sets .now) (s .args .n) (s .args .x) _ (s .pre) (rw (c .enum-told .given .1) at (c .before .before .find-word .ensures))
 
 pub place-spec : {M : Type 1} → statement M
 place-spec = tie.close (tie.spec find-word-requires enum-known-i enum-told returns returns-2)

@@ -16,9 +16,9 @@ judge-requires : tie.Need-judge-requires
 judge-requires c κs = search needs
 
 returns : tie.Need-returns
-returns c m n g = let a = c .before .before .args in
+returns c m n g =
     subst (λ (p : Phase). Kept (closed m) (replicate 64 0) (replicate 64 0) p 0) (sym (c .judge .ensures))
-    (closed-kept m (a .letters .now) (a .words .now) (a .lefts .now) (a .rights .now) (a .starts) (a .ends) n g (c .before .accepts .result) (c .before .accepts .ensures))
+    (closed-kept m g (c .before .accepts .result) (c .before .accepts .ensures))
 
 pub close-spec : {M : Type 1} → statement M
 close-spec = tie.close (tie.spec accepts-requires judge-requires returns)

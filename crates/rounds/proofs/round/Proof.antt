@@ -54,10 +54,14 @@ returns c m w g kept =
     let b = a .before in
     let force : Claims = record { loops = loops .open-mask .result; mixes = mixes .open-mask2 .result } in
     subst (λ (p : Phase). Kept (next-round m) (looped .mark .last .0) (c .mark2 .last .0) p (b .count + 1)) (sym (phased .judge .ensures))
-    (round-kept m w (a .letters .now) (a .words .now) (a .lefts .now) (a .rights .now) (a .starts) (a .ends) (a .n) g force (new .opened .result) (all .with-new .result)
-    (b .«loop_rounds») (b .«mix_rounds») (b .phase) (b .count) kept (loops .open-mask .ensures) (mixes .open-mask2 .ensures) (new .opened .ensures)
-    (tested .accepts .result) (vain .nothing .result) (looped .mark .last .0) (c .mark2 .last .0) (all .with-new .ensures .0) (all .with-new .ensures .1)
-    (tested .accepts .ensures) (vain .nothing .ensures) (looped .mark .ensures) (c .mark2 .ensures))
+    (round-kept m w g force (new .opened .result) (all .with-new .result) kept (loops .open-mask .ensures) (mixes .open-mask2 .ensures) (record {
+      opens = new .opened .ensures;
+      with-new = all .with-new .ensures;
+      tested = tested .accepts .ensures;
+      vain-iff = vain .nothing .ensures;
+      loop-marked = looped .mark .ensures;
+      mix-marked = c .mark2 .ensures;
+    }))
 
 pub round-spec : {M : Type 1} → statement M
 round-spec =

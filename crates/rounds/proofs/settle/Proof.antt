@@ -9,27 +9,28 @@ use native.Mathlib.Omega.{arith}
 use lib.ListN.{length, replicate}
 use borrow.Author.Needs.{needs}
 use borrow.Author.Tests.{not-true, not-false}
-use Rattle.masks.specs.Graph.{Turned}
 use Rattle.masks.proofs.Member.{member-none}
 use Rattle.rows.specs.declared.Row.{Row}
 use Rattle.machine.specs.declared.Phase.{Phase}
+use Rattle.search.specs.Graph.{graph-of, TurnedGraph}
 use Rattle.search.specs.Hops.{EndsBelow, Reached}
 use Rattle.rounds.specs.Promises.{Given}
-use Rattle.rounds.proofs.Settled.{Stage, none, Tracked, stage-start, stage-more, kept-settled}
+use Rattle.rounds.proofs.Settled.{Stage, Tracked, stage-start, stage-more, kept-settled}
+use Rattle.rounds.proofs.Turn.{none}
 use Rattle.rounds.proofs.settle.Statement.{statement}
 use Rattle.rounds.proofs.settle.Tie as tie
 
 abbrev Inv-loop : tie.InvT-loop
-Inv-loop letters words lefts rights starts ends n back force₀ new₀ to₀ from₀ seen₀ phase₀ loop-rounds₀ mix-rounds₀ count₀ force new to from seen phase loop-rounds mix-rounds count =
-    (count ≤ 129) × (length to ≡ 64) × (length from ≡ 64) × Turned letters back × Tracked letters back words lefts rights n force new to from
-    × Reached letters words lefts rights (force .loops) (force .mixes) starts seen
-    × ((rows : List Row) → Given rows letters words lefts rights starts ends n → Stage rows words n force loop-rounds mix-rounds phase count)
+Inv-loop graph initials finals n back force₀ new₀ to₀ from₀ seen₀ phase₀ loop-rounds₀ mix-rounds₀ count₀ force new to from seen phase loop-rounds mix-rounds count =
+    (count ≤ 129) × (length to ≡ 64) × (length from ≡ 64) × TurnedGraph (graph-of graph) (graph-of back) × Tracked (graph-of graph) (graph-of back) n force new to from
+    × Reached (graph-of graph) force initials seen
+    × ((rows : List Row) → Given rows (graph-of graph) initials finals n → Stage rows (graph-of graph) n force loop-rounds mix-rounds phase count)
 
 abbrev μ-loop : tie.MeasureT-loop
-μ-loop letters words lefts rights starts ends n back force₀ new₀ to₀ from₀ seen₀ phase₀ loop-rounds₀ mix-rounds₀ count₀ force new to from seen phase loop-rounds mix-rounds count = 129 - count
+μ-loop graph initials finals n back force₀ new₀ to₀ from₀ seen₀ phase₀ loop-rounds₀ mix-rounds₀ count₀ force new to from seen phase loop-rounds mix-rounds count = 129 - count
 
-transpose-requires : tie.Need-transpose-requires Inv-loop μ-loop
-transpose-requires c κs = search needs
+turned-requires : tie.Need-turned-requires Inv-loop μ-loop
+turned-requires c κs = search needs
 
 all-ends-requires : tie.Need-all-ends-requires Inv-loop μ-loop
 all-ends-requires c κs = search needs
@@ -50,7 +51,7 @@ abbrev start : (c : tie.At-loop Inv-loop μ-loop) → tie.Start Inv-loop μ-loop
 start c = c .before .before .before .before .before .before .before .before
 
 abbrev back : (c : tie.At-loop Inv-loop μ-loop) → List ℕ
-back c = c .before .before .before .before .before .before .before .transpose .result
+back c = c .before .before .before .before .before .before .before .turned .result
 
 loop-holds : tie.Need-loop-holds Inv-loop μ-loop
 loop-holds c =
@@ -63,50 +64,49 @@ loop-holds c =
       omega arith,
       ends .all-ends .ensures .1,
       turned-ends .all-ends2 .ensures .1,
-      back .transpose .ensures,
+      back .turned .ensures,
       record {
         old = none;
-        loops-are = λ t. rw (member-none t) refl;
-        mixes-are = λ t. rw (member-none t) refl;
+        with-new = record { loops-are = λ t. rw (member-none t) refl; mixes-are = λ t. rw (member-none t) refl };
         forward = ends .all-ends .ensures .0;
         backward = turned-ends .all-ends2 .ensures .0;
       },
       first .reached .ensures,
-      λ rows g. subst (λ (p : Phase). Stage rows (a .words .now) (a .n) none (replicate 64 0) (replicate 64 0) p 0) (sym (c .judge .ensures))
-          (stage-start rows (a .letters .now) (a .words .now) (a .lefts .now) (a .rights .now) (a .starts) (a .ends) (a .n) g (tested .accepted .result)
-          (tested .accepted .ensures (a .letters .now) (a .words .now) (a .lefts .now) (a .rights .now) 0 0 (first .reached .ensures))),
+      λ rows g. subst (λ (p : Phase). Stage rows (graph-of (a .graph .now)) (a .n) none (replicate 64 0) (replicate 64 0) p 0) (sym (c .judge .ensures))
+          (stage-start rows g (tested .accepted .result) (tested .accepted .ensures (graph-of (a .graph .now)) none (first .reached .ensures))),
     )
 
 is-running-requires : tie.Need-is-running-requires Inv-loop μ-loop
 is-running-requires c κs = search needs
 
 add-ends-requires : tie.Need-add-ends-requires Inv-loop μ-loop
-add-ends-requires c κs = start (c .before .before .before .before .before) .pre
+add-ends-requires c κs = let at = c .before .before .before .before .before .before in (start at .pre, at .loop .inv .3)
 
 -- the turn before it goes on
 abbrev at-turn : (c : tie.After-add-ends Inv-loop μ-loop) → tie.At-loop Inv-loop μ-loop
-at-turn c = c .before .before .before .before .before .before
+at-turn c = c .before .before .before .before .before .before .before
 
 -- the ends of all steps with the claims in force
 forward : (c : tie.After-add-ends Inv-loop μ-loop) → let at = at-turn c in let a = start at .args in
-    EndsBelow (a .letters .now) (a .words .now) (a .lefts .now) (a .rights .now) (at .loop .force .loops) (at .loop .force .mixes) (a .n) (c .add-ends .last .0)
+    EndsBelow (graph-of (a .graph .now)) (at .loop .force) (a .n) (c .add-ends .last .0)
 forward c i l = let at = at-turn c in let t = at .loop .inv .4 in
-    c .add-ends .ensures .0 .ends-are (at .loop .inv .1) i l (start at .args .letters .now) (t .old) (at .loop .force) (t .loops-are) (t .mixes-are) (t .forward i l)
+    c .add-ends .ensures .0 .ends-are (at .loop .inv .1) i l (t .old) (at .loop .force) (t .with-new) (t .forward i l)
 
-backward : (c : tie.After-add-ends Inv-loop μ-loop) → let at = at-turn c in let a = start at .args in
-    EndsBelow (back at) (a .words .now) (a .rights .now) (a .lefts .now) (at .loop .force .loops) (at .loop .force .mixes) (a .n) (c .add-ends .last .1 .0)
+backward : (c : tie.After-add-ends Inv-loop μ-loop) → let at = at-turn c in
+    EndsBelow (graph-of (back at)) (at .loop .force) (start at .args .n) (c .add-ends .last .1 .0)
 backward c i l = let at = at-turn c in let t = at .loop .inv .4 in
-    c .add-ends .ensures .1 .ends-are (at .loop .inv .2) i l (back at) (t .old) (at .loop .force) (t .loops-are) (t .mixes-are) (t .backward i l)
+    c .add-ends .ensures .1 .ends-are (at .loop .inv .2) i l (t .old) (at .loop .force) (t .with-new) (t .backward i l)
 
 open-next-requires : tie.Need-open-next-requires Inv-loop μ-loop
-open-next-requires c κs = let e = c .before .before .before in (start (at-turn e) .pre, forward e, backward e)
+open-next-requires c κs = let e = c .before .before .before in let at = at-turn e in
+    record { few = start at .pre; turned = at .loop .inv .3; forward = forward e; backward = backward e }
 
 with-new-requires : tie.Need-with-new-requires Inv-loop μ-loop
 with-new-requires c κs = search needs
 
 reached-more-requires : tie.Need-reached-more-requires Inv-loop μ-loop
 reached-more-requires c κs = let at = at-turn (c .before .before .before .before .before) in
-    record { old = at .loop .force; loops-are = c .with-new .ensures .0; mixes-are = c .with-new .ensures .1; reached = at .loop .inv .5 }
+    record { old = at .loop .force; with-new = c .with-new .ensures; reached = at .loop .inv .5 }
 
 accepted-requires-2 : tie.Need-accepted-requires-2 Inv-loop μ-loop
 accepted-requires-2 c κs = search needs
@@ -118,7 +118,7 @@ judge-requires-2 : tie.Need-judge-requires-2 Inv-loop μ-loop
 judge-requires-2 c κs = search needs
 
 add-count : tie.Need-add-count Inv-loop μ-loop
-add-count c = omega (arith, c .before .before .before .before .before .before .before .before .before .before .before .before .before .before .loop-test .taken)
+add-count c = omega (arith, c .before .before .before .before .before .before .before .before .before .before .before .before .before .before .before .loop-test .taken)
 
 mark-requires : tie.Need-mark-requires Inv-loop μ-loop
 mark-requires c κs = search needs
@@ -127,7 +127,7 @@ mark-requires-2 : tie.Need-mark-requires-2 Inv-loop μ-loop
 mark-requires-2 c κs = search needs
 
 loop-less : tie.Need-loop-less Inv-loop μ-loop
-loop-less c = omega (arith, c .before .before .before .before .before .before .before .before .before .before .before .before .before .before .before .before .before .before .loop-test .taken)
+loop-less c = omega (arith, c .before .before .before .before .before .before .before .before .before .before .before .before .before .before .before .before .before .before .before .loop-test .taken)
 
 loop-again : tie.Need-loop-again Inv-loop μ-loop
 loop-again c =
@@ -139,26 +139,27 @@ loop-again c =
     let all = seen .before in
     let new = all .before in
     let ends = new .before .before .before .before in
-    let test = ends .before .before .before .before in
+    let test = ends .before .before .before .before .before in
     let at = test .before .before in
     let a = start at .args in
     let inv = at .loop .inv in
-    let loops-are = all .with-new .ensures .0 in
-    let mixes-are = all .with-new .ensures .1 in
     let old = at .loop .force in
     let both = all .with-new .result in (
       omega arith,
       ends .add-ends .ensures .0 .length-is ∙ inv .1,
       ends .add-ends .ensures .1 .length-is ∙ inv .2,
       inv .3,
-      record { old = old; loops-are = loops-are; mixes-are = mixes-are; forward = forward ends; backward = backward ends },
+      record { old = old; with-new = all .with-new .ensures; forward = forward ends; backward = backward ends },
       seen .reached-more .ensures,
-      λ rows g. subst (λ (p : Phase). Stage rows (a .words .now) (a .n) both (looped .mark .last .0) (c .mark2 .last .0) p (at .loop .count + 1)) (sym (judged .judge2 .ensures))
-          (stage-more rows (a .letters .now) (a .words .now) (a .lefts .now) (a .rights .now) (a .starts) (a .ends) (a .n) g old (new .open-next .result) both
-          (at .loop .loop-rounds) (at .loop .mix-rounds) (at .loop .phase) (at .loop .count) (inv .6 rows g) (back at) (inv .3) (new .open-next .ensures)
-          (tested .accepted2 .result) (vain .nothing .result) (looped .mark .last .0) (c .mark2 .last .0) (test .is-running .ensures .to (not-false (test .is-running .result) (ends .before .before .before .if1 .left)))
-          loops-are mixes-are (tested .accepted2 .ensures (a .letters .now) (a .words .now) (a .lefts .now) (a .rights .now) (both .loops) (both .mixes) (seen .reached-more .ensures))
-          (vain .nothing .ensures) (looped .mark .ensures) (c .mark2 .ensures)),
+      λ rows g. subst (λ (p : Phase). Stage rows (graph-of (a .graph .now)) (a .n) both (looped .mark .last .0) (c .mark2 .last .0) p (at .loop .count + 1)) (sym (judged .judge2 .ensures))
+          (stage-more rows g (inv .6 rows g) (test .is-running .ensures .to (not-false (test .is-running .result) (ends .before .before .before .before .if1 .left))) (record {
+            opens = new .open-next .ensures;
+            with-new = all .with-new .ensures;
+            tested = tested .accepted2 .ensures (graph-of (a .graph .now)) both (seen .reached-more .ensures);
+            vain-iff = vain .nothing .ensures;
+            loop-marked = looped .mark .ensures;
+            mix-marked = c .mark2 .ensures;
+          })),
     )
 
 returns : tie.Need-returns Inv-loop μ-loop
@@ -179,7 +180,7 @@ settle-spec =
     (tie.spec
     Inv-loop
     μ-loop
-    transpose-requires
+    turned-requires
     all-ends-requires
     all-ends-requires-2
     reached-requires

@@ -3,6 +3,7 @@ use Prim.Native.Nat.{ℕ}
 use denote.Ref.{now}
 use borrow.Author.Needs.{needs}
 use Rattle.orderings.specs.Steps.{Label}
+use Rattle.search.specs.Graph.{graph-of}
 use Rattle.walks.specs.Choices.{Way, InOrder}
 use Rattle.walks.proofs.Choices.{not-nothing, Lacks, lacks, choose-letter, choose-omega, choose-back, choose-mix}
 use Rattle.walks.proofs.first_step.Statement.{statement}
@@ -10,10 +11,10 @@ use Rattle.walks.proofs.first_step.Tie as tie
 
 -- the steps from the state, and the order that the contract assumes
 abbrev ways : tie.Start → Label → ℕ → Type 0
-ways s = let a = s .args in Way (now (a .high)) (a .n) (now (a .words)) (now (a .lefts)) (now (a .rights)) (a .loops) (a .mixes) (a .a)
+ways s = let a = s .args in Way (now (a .high)) (a .n) (graph-of (now (a .back))) (a .force) (a .a)
 
 abbrev ordered : tie.Start → Type 0
-ordered s = let a = s .args in InOrder (now (a .high)) (now (a .low)) (a .n) (now (a .words)) (a .loops) (a .mixes)
+ordered s = let a = s .args in InOrder (now (a .high)) (now (a .low)) (a .n) (graph-of (now (a .back))) (a .force)
 
 abbrev lacking : (s : tie.Start) → ℕ → Type 0
 lacking s k = ordered s → Lacks (s .args .layer) (ways s) (ordered s) k
@@ -41,12 +42,14 @@ enum-told-3 : tie.Need-enum-told-3
 enum-told-3 c = search needs
 
 no-omega : (c : tie.After-enum-told3) → lacking (c .before .before .before .before .before .before) 1
+unfolding graph-of
 no-omega c o = let s = c .before .before .before .before .before .before in lacks (s .args .layer) (ways s) (ordered s) 1 (c .enum-told3 .given .1) (c .before .before .first-pass .ensures) (o .1)
 
 enum-told-4 : tie.Need-enum-told-4
 enum-told-4 c = search needs
 
 returns-2 : tie.Need-returns-2
+unfolding graph-of
 returns-2 c = let s = c .before .before .before .before .before .before in
     choose-omega (s .args .layer) (ways s) (ordered s) (no-letter (c .before .before .before)) (c .before .before .first-pass .result) (not-nothing (c .enum-told4 .given .1)) (λ o. o .1)
     (c .before .before .first-pass .ensures)
@@ -58,12 +61,14 @@ enum-told-5 : tie.Need-enum-told-5
 enum-told-5 c = search needs
 
 no-back : (c : tie.After-enum-told5) → lacking (c .before .before .before .before .before .before .before .before .before) 2
+unfolding graph-of
 no-back c o = let s = c .before .before .before .before .before .before .before .before .before in lacks (s .args .layer) (ways s) (ordered s) 2 (c .enum-told5 .given .1) (c .before .before .first-pass2 .ensures) (o .1)
 
 enum-told-6 : tie.Need-enum-told-6
 enum-told-6 c = search needs
 
 returns-3 : tie.Need-returns-3
+unfolding graph-of
 returns-3 c = let s = c .before .before .before .before .before .before .before .before .before in
     choose-back (s .args .layer) (ways s) (ordered s) (no-letter (c .before .before .before .before .before .before)) (no-omega (c .before .before .before)) (c .before .before .first-pass2 .result) (not-nothing (c .enum-told6 .given .1)) (λ o. o .1)
     (c .before .before .first-pass2 .ensures)
@@ -72,6 +77,7 @@ first-pass-requires-3 : tie.Need-first-pass-requires-3
 first-pass-requires-3 c κs = search needs
 
 returns-4 : tie.Need-returns-4
+unfolding graph-of
 returns-4 c = let s = c .before .before .before .before .before .before .before .before .before .before in
     choose-mix (s .args .layer) (ways s) (ordered s) (no-letter (c .before .before .before .before .before .before .before)) (no-omega (c .before .before .before .before)) (no-back (c .before)) (c .first-pass3 .result) (λ o. o .2) (c .first-pass3 .ensures)
 

@@ -9,11 +9,11 @@ use denote.Ref.{now}
 use borrow.Author.Needs.{needs}
 use Rattle.masks.specs.Mask.{_∈_}
 use Rattle.masks.proofs.Member.{lt-or-le, in-none, member-lt, intersection-left, intersection-right, intersection-both}
+use Rattle.search.specs.Graph.{graph-of}
 use Rattle.walks.specs.declared.Distance.the-variants.{At}
 use Rattle.walks.specs.Layers.{Ahead, Spread}
 use Rattle.walks.proofs.Following.{bounded}
 use Rattle.walks.proofs.Answers.{answer-none, answer-best}
-use borrow.Author.Needs.{needs}
 use Rattle.walks.proofs.first_walk.Statement.{statement}
 use Rattle.walks.proofs.first_walk.Tie as tie
 
@@ -25,11 +25,10 @@ enum-known-d c = search needs
 
 -- the layers that `spread` leaves
 abbrev left-by : tie.After-known-told → List ℕ
-left-by c = c .before .before .before .spread .last .1 .1 .1 .1 .1 .1 .1 .1 .0
+left-by c = c .before .before .before .spread .last .1 .1 .1 .1 .0
 
-laid : (c : tie.After-known-told)
-    → Spread (Ahead (now (c .before .before .before .before .before .args .back)) (now (c .before .before .before .before .before .args .words)) (now (c .before .before .before .before .before .args .lefts)) (now (c .before .before .before .before .before .args .rights)) (c .before .before .before .before .before .args .loops) (c .before .before .before .before .before .args .mixes))
-    (c .before .before .before .before .before .args .initials) (c .before .before .before .before .before .args .finals) (left-by c) (At (c .before .d .given .0 .0))
+laid : (c : tie.After-known-told) → let a = c .before .before .before .before .before .args in
+    Spread (Ahead (graph-of (a .back .now)) (a .force)) (a .initials) (a .finals) (left-by c) (At (c .before .d .given .0 .0))
 laid c = rw (c .before .d .given .1) at (c .before .before .before .spread .ensures)
 
 mul-intersection : tie.Need-mul-intersection
@@ -69,10 +68,10 @@ returns c =
     let low = c .before .before .lowest in
     let layer = getD (left-by t) (t .before .d .given .0 .0) 0 in
     let low-start : low .result < 64 = member-lt (low .result) r (low .ensures .0) in (
-      bounded (now (a .high)) (a .n) (now (a .words)) (now (a .lefts)) (now (a .rights)) (a .loops) (a .mixes) (left-by t) (low .result) (t .before .d .given .0 .0) (c .follow .result) (c .follow .ensures)
+      bounded (now (a .high)) (a .n) (graph-of (now (a .back))) (a .force) (left-by t) (low .result) (t .before .d .given .0 .0) (c .follow .result) (c .follow .ensures)
           low-start (laid t .0),
-      λ letters rows claims k turned is count keyed table is-initials is-finals.
-          answer-best is count keyed table (now (a .back)) turned (a .initials) (a .finals) is-initials is-finals (left-by t) (t .before .d .given .0 .0) (low .result) (c .follow .result) (laid t)
+      λ g rows claims k turned is count keyed table is-initials is-finals.
+          answer-best turned is count keyed table (a .initials) (a .finals) is-initials is-finals (left-by t) (t .before .d .given .0 .0) (low .result) (c .follow .result) (laid t)
           (intersection-left layer (a .initials) r meet (low .result) (low .ensures .0)) (intersection-right layer (a .initials) r meet (low .result) (low .ensures .0))
           (λ s h g. low .ensures .1 s (intersection-both layer (a .initials) r meet s h g)) (c .follow .ensures),
     )
@@ -87,8 +86,8 @@ returns-2 c =
         low-target = λ j h. absurd (omega (arith, e .2));
         low-letter = λ j h. absurd (omega (arith, e .2));
       },
-      λ letters rows claims k turned is count keyed table is-initials is-finals.
-          answer-none is count keyed table (now (a .back)) turned (a .initials) (a .finals) is-initials is-finals (c .before .before .before .spread .last .1 .1 .1 .1 .1 .1 .1 .1 .0) (c .no-walk .result) (e .0)
+      λ g rows claims k turned is count keyed table is-initials is-finals.
+          answer-none turned is count keyed table (a .initials) (a .finals) is-initials is-finals (c .before .before .before .spread .last .1 .1 .1 .1 .0) (c .no-walk .result) (e .0)
           (rw (c .before .enum-told .given .1) at (c .before .before .before .spread .ensures)),
     )
 

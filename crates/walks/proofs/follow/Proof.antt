@@ -5,17 +5,18 @@ use mathlib.Core.Logic.{inl, inr}
 use native.Mathlib.Omega.{arith}
 use denote.Ref.{now}
 use borrow.Author.Needs.{needs}
+use Rattle.search.specs.Graph.{graph-of}
 use Rattle.walks.specs.Choices.{Way, InOrder}
 use Rattle.walks.proofs.Following.{Taking, take-more}
 use Rattle.walks.proofs.follow.Statement.{statement}
 use Rattle.walks.proofs.follow.Tie as tie
 
 abbrev Inv-loop : tie.InvT-loop
-Inv-loop high low n words lefts rights loops mixes layers start d kinds₀ values₀ targets₀ a₀ i₀ kinds values targets a i =
-    Taking (Way high n words lefts rights loops mixes) (InOrder high low n words loops mixes) layers start d kinds values targets a i
+Inv-loop high low n back force layers start d kinds₀ values₀ targets₀ a₀ i₀ kinds values targets a i =
+    Taking (Way high n (graph-of back) force) (InOrder high low n (graph-of back) force) layers start d kinds values targets a i
 
 abbrev μ-loop : tie.MeasureT-loop
-μ-loop high low n words lefts rights loops mixes layers start d kinds₀ values₀ targets₀ a₀ i₀ kinds values targets a i =
+μ-loop high low n back force layers start d kinds₀ values₀ targets₀ a₀ i₀ kinds values targets a i =
     d - i
 
 loop-holds : tie.Need-loop-holds Inv-loop μ-loop
@@ -74,7 +75,7 @@ loop-again c =
     let a = p .before .args in
     let at = p .loop in
     let x = c .before .step .given in
-    take-more (Way (now (a .high)) (a .n) (now (a .words)) (now (a .lefts)) (now (a .rights)) (a .loops) (a .mixes)) (InOrder (now (a .high)) (now (a .low)) (a .n) (now (a .words)) (a .loops) (a .mixes)) (now (a .layers)) (a .start) (a .d)
+    take-more (Way (now (a .high)) (a .n) (graph-of (now (a .back))) (a .force)) (InOrder (now (a .high)) (now (a .low)) (a .n) (graph-of (now (a .back))) (a .force)) (now (a .layers)) (a .start) (a .d)
     (at .kinds) (at .values) (at .targets) (at .a) (at .i) (x .0 .0) (x .0 .1 .0) (x .0 .1 .1 .0) (c .before .before .before .before .before .loop-test .taken) (p .before .pre .2) (at .inv) (rw (x .1) at (c .before .before .before .first-step .ensures))
 
 returns : tie.Need-returns Inv-loop μ-loop

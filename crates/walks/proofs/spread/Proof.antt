@@ -11,7 +11,7 @@ use borrow.Author.Needs.{needs}
 use Rattle.masks.specs.Mask.{_∈_}
 use Rattle.masks.proofs.Count.{ones-grows, lowest-is}
 use Rattle.masks.proofs.Member.{in-none, intersection-left, intersection-right, intersection-both}
-use denote.Ref.{now}
+use Rattle.search.specs.Graph.{graph-of}
 use Rattle.search.specs.Hops.{Onward}
 use Rattle.walks.specs.Layers.{Ahead}
 use Rattle.walks.proofs.Layers.{Spreading, spread-start, spread-end, spread-grows, spread-more}
@@ -19,11 +19,11 @@ use Rattle.walks.proofs.spread.Statement.{statement}
 use Rattle.walks.proofs.spread.Tie as tie
 
 abbrev Inv-loop : tie.InvT-loop
-Inv-loop back words lefts rights loops mixes starts ends layers₀ k₀ layer₀ seen₀ layers k layer seen =
-    (length layers ≡ 64) × (layer ≡ getD layers k 0) × (seen < 2 ^ 64) × (k < ones seen) × Spreading (Ahead back words lefts rights loops mixes) starts ends layers k seen
+Inv-loop back force initials finals layers₀ k₀ layer₀ seen₀ layers k layer seen =
+    (length layers ≡ 64) × (layer ≡ getD layers k 0) × (seen < 2 ^ 64) × (k < ones seen) × Spreading (Ahead (graph-of back) force) initials finals layers k seen
 
 abbrev μ-loop : tie.MeasureT-loop
-μ-loop back words lefts rights loops mixes starts ends layers₀ k₀ layer₀ seen₀ layers k layer seen = 64 - k
+μ-loop back force initials finals layers₀ k₀ layer₀ seen₀ layers k layer seen = 64 - k
 
 returns : tie.Need-returns Inv-loop μ-loop
 returns c = (0, (λ s h. subst (λ (x : ℕ). s ∈ x) (c .if1 .taken) h), (λ s t e h. absurd (in-none t h)), λ s h. absurd (in-none s h))
@@ -33,33 +33,33 @@ element-write-layers c = search needs
 
 loop-holds : tie.Need-loop-holds Inv-loop μ-loop
 loop-holds c =
-    let ends = c .before .args .ends in
+    let finals = c .before .args .finals in
     let layers = c .before .args .layers .now in
     let size : length layers ≡ 64 = c .before .pre in
-    let here : getD (set layers 0 ends) 0 0 ≡ ends = getD-set-same layers 0 ends 0 (rw size (lit< tt)) in
-    let some : ones 0 < ones ends = ones-grows 0 ends (lit< tt) (c .before .fits .ends .fits) (λ t h. absurd (in-none t h)) (λ e. c .if1 .left (sym e)) in
-    (length-set layers 0 ends ∙ size, sym here, c .before .fits .ends .fits, omega arith, spread-start (set layers 0 ends) here)
+    let here : getD (set layers 0 finals) 0 0 ≡ finals = getD-set-same layers 0 finals 0 (rw size (lit< tt)) in
+    let some : ones 0 < ones finals = ones-grows 0 finals (lit< tt) (c .before .fits .finals .fits) (λ t h. absurd (in-none t h)) (λ e. c .if1 .left (sym e)) in
+    (length-set layers 0 finals ∙ size, sym here, c .before .fits .finals .fits, omega arith, spread-start (set layers 0 finals) here)
 
 intersection-requires : tie.Need-intersection-requires Inv-loop μ-loop
 intersection-requires c κs = search needs
 
--- the last layer and the starts have no state in common
-unmet : (c : tie.Else2 Inv-loop μ-loop) → (s : ℕ) → s ∈ getD (c .before .before .loop .layers) (c .before .before .loop .k) 0 → s ∈ c .before .before .before .before .args .starts → ⊥
+-- the last layer and the initials have no state in common
+unmet : (c : tie.Else2 Inv-loop μ-loop) → (s : ℕ) → s ∈ getD (c .before .before .loop .layers) (c .before .before .loop .k) 0 → s ∈ c .before .before .before .before .args .initials → ⊥
 unmet c s m h = let at = c .before .before .loop in let r : ℕ = c .before .intersection .result in
     in-none s (subst (λ (x : ℕ). s ∈ x) (c .if2 .left)
-    (intersection-both (at .layer) (c .before .before .before .before .args .starts) r (c .before .intersection .ensures) s (subst (λ (x : ℕ). s ∈ x) (sym (at .inv .1)) m) h))
+    (intersection-both (at .layer) (c .before .before .before .before .args .initials) r (c .before .intersection .ensures) s (subst (λ (x : ℕ). s ∈ x) (sym (at .inv .1)) m) h))
 
 returns-2 : tie.Need-returns-2 Inv-loop μ-loop
 returns-2 c =
     let at = c .before .before .loop in
-    let starts = c .before .before .before .before .args .starts in
+    let initials = c .before .before .before .before .args .initials in
     let r : ℕ = c .before .intersection .result in
     let is = c .before .intersection .ensures in
     let n = c .if2 .taken in
     let low = lowest-is r (omega arith) (c .before .intersection .ok) .0 in (
       omega (arith, at .inv .3, ones-le 64 (at .seen) (at .inv .2)),
       at .inv .4 .is,
-      (_, subst (λ (x : ℕ). trailingZeros 64 r ∈ x) (at .inv .1) (intersection-left (at .layer) starts r is _ low), intersection-right (at .layer) starts r is _ low),
+      (_, subst (λ (x : ℕ). trailingZeros 64 r ∈ x) (at .inv .1) (intersection-left (at .layer) initials r is _ low), intersection-right (at .layer) initials r is _ low),
       at .inv .4 .apart,
     )
 
@@ -67,9 +67,8 @@ targets-requires : tie.Need-targets-requires Inv-loop μ-loop
 targets-requires c κs = search needs
 
 -- the states with a step to the last layer
-onward : (c : tie.After-targets Inv-loop μ-loop) → Onward (λ t s. Ahead (now (c .before .before .before .before .before .args .back)) (now (c .before .before .before .before .before .args .words))
-    (now (c .before .before .before .before .before .args .lefts)) (now (c .before .before .before .before .before .args .rights)) (c .before .before .before .before .before .args .loops)
-    (c .before .before .before .before .before .args .mixes) s t) (getD (c .before .before .before .loop .layers) (c .before .before .before .loop .k) 0) (c .targets .result)
+onward : (c : tie.After-targets Inv-loop μ-loop) → let a = c .before .before .before .before .before .args in let at = c .before .before .before .loop in
+    Onward (λ t s. Ahead (graph-of (a .back .now)) (a .force) s t) (getD (at .layers) (at .k) 0) (c .targets .result)
 onward c = rw (sym (c .before .before .before .loop .inv .1)) (c .targets .ensures)
 
 difference-requires : tie.Need-difference-requires Inv-loop μ-loop

@@ -1,5 +1,5 @@
 -- `search::moves::claimed` meets its contract.
-use Rattle.search.proofs.Hops.{onward-or, onward-three}
+use Rattle.search.proofs.Hops.{onward-or}
 use borrow.Author.Needs.{needs}
 use Rattle.search.proofs.moves.claimed.Statement.{statement}
 use Rattle.search.proofs.moves.claimed.Tie as tie
@@ -7,15 +7,14 @@ use Rattle.search.proofs.moves.claimed.Tie as tie
 looping-requires : tie.Need-looping-requires
 looping-requires c κs = search needs
 
-passing-requires : tie.Need-passing-requires
-passing-requires c κs = search needs
+mixing-requires : tie.Need-mixing-requires
+mixing-requires c κs = search needs
 
 union-requires : tie.Need-union-requires
 union-requires c κs = search needs
 
 returns : tie.Need-returns
-returns c = let m = c .before .before .before .args .m in
-    onward-three m (c .union .result) (onward-or m _ _ (c .union .result) (c .before .before .looping .ensures) (c .before .passing .ensures) (c .union .ensures))
+returns c = onward-or (c .before .before .before .args .m) _ _ (c .union .result) (c .before .before .looping .ensures) (c .before .mixing .ensures) (c .union .ensures)
 
 pub claimed-spec : {M : Type 1} → statement M
-claimed-spec = tie.close (tie.spec looping-requires passing-requires union-requires returns)
+claimed-spec = tie.close (tie.spec looping-requires mixing-requires union-requires returns)

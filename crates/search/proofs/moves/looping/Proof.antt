@@ -1,58 +1,44 @@
 -- `search::moves::looping` meets its contract. The place i gives the ends of its omega steps and of its back steps from m.
-use Prim.Native.Nat.{ℕ, _^_, _<_}
+use Prim.Native.Nat.{ℕ}
 use mathlib.Core.Logic.{_⊎_, inl, inr, ⊎-elim}
-use native.Mathlib.Omega.{arith}
 use lib.Count.{ones}
 use lib.ListN.{getD}
 use borrow.Author.Needs.{needs}
 use Rattle.masks.specs.Mask.{_∈_}
-use Rattle.masks.proofs.Member.{member-lt}
-use Rattle.search.proofs.Gathering.{Gathered, gather-start, gather-end, taken-less, taken-more, gives-either}
+use Rattle.search.specs.Graph.{graph-of}
+use Rattle.masks.proofs.Gathering.{Gathered, gather-start, gather-end, gather-more, gives-either}
 use Rattle.search.proofs.moves.looping.Statement.{statement}
 use Rattle.search.proofs.moves.looping.Tie as tie
 
 abbrev Inv-loop : tie.InvT-loop
-Inv-loop words lefts rights places m r₀ rest₀ r rest =
-    (rest < 2 ^ 64)
-    × Gathered
-    (λ i t. (((s : ℕ) × (s ∈ m) × (s ∈ getD words i 0)) × (t ∈ getD lefts i 0)) ⊎ (((s : ℕ) × (s ∈ m) × (s ∈ getD rights i 0)) × (t ∈ getD words i 0)))
-    places rest r
+Inv-loop graph places m r₀ rest₀ r rest =
+    Gathered
+    (λ i t. (((s : ℕ) × (s ∈ m) × (s ∈ getD (graph-of graph .sets) i 0)) × (t ∈ getD (graph-of graph .lefts) i 0))
+    ⊎ (((s : ℕ) × (s ∈ m) × (s ∈ getD (graph-of graph .rights) i 0)) × (t ∈ getD (graph-of graph .sets) i 0))) places rest r
 
 abbrev μ-loop : tie.MeasureT-loop
-μ-loop words lefts rights places m r₀ rest₀ r rest = ones rest
+μ-loop graph places m r₀ rest₀ r rest = ones rest
 
 loop-holds : tie.Need-loop-holds Inv-loop μ-loop
-loop-holds c = (c .fits .places .fits, gather-start)
+loop-holds c = gather-start
 
-lowest-requires : tie.Need-lowest-requires Inv-loop μ-loop
-lowest-requires c κs = search needs
-
-low-lt : (c : tie.After-lowest Inv-loop μ-loop) → c .lowest .result < 64
-low-lt c = member-lt (c .lowest .result) (c .before .before .loop .rest) (c .lowest .ensures .0)
+take-lowest-requires : tie.Need-take-lowest-requires Inv-loop μ-loop
+take-lowest-requires c κs = search needs
 
 cast-at : tie.Need-cast-at Inv-loop μ-loop
-cast-at c = omega (arith, low-lt (c))
+cast-at c = search needs
 
-mul-p : tie.Need-mul-p Inv-loop μ-loop
-mul-p c = omega (arith, low-lt (c))
+set-at-requires : tie.Need-set-at-requires Inv-loop μ-loop
+set-at-requires c κs = c .before .take-lowest .ensures .small
 
-element-copy-out-p : tie.Need-element-copy-out-p Inv-loop μ-loop
-element-copy-out-p c = low-lt (c)
-
-mul-passed : tie.Need-mul-passed Inv-loop μ-loop
-mul-passed c = omega (arith, low-lt (c .before))
-
-element-copy-out-passed : tie.Need-element-copy-out-passed Inv-loop μ-loop
-element-copy-out-passed c = low-lt (c .before)
+lefts-at-requires : tie.Need-lefts-at-requires Inv-loop μ-loop
+lefts-at-requires c κs = c .before .before .take-lowest .ensures .small
 
 passed-requires : tie.Need-passed-requires Inv-loop μ-loop
 passed-requires c κs = search needs
 
-mul-passed-2 : tie.Need-mul-passed-2 Inv-loop μ-loop
-mul-passed-2 c = omega (arith, low-lt (c .before .before .before))
-
-element-copy-out-passed-2 : tie.Need-element-copy-out-passed-2 Inv-loop μ-loop
-element-copy-out-passed-2 c = low-lt (c .before .before .before)
+rights-at-requires : tie.Need-rights-at-requires Inv-loop μ-loop
+rights-at-requires c κs = c .before .before .before .before .take-lowest .ensures .small
 
 passed-requires-2 : tie.Need-passed-requires-2 Inv-loop μ-loop
 passed-requires-2 c κs = search needs
@@ -63,33 +49,25 @@ union-requires c κs = search needs
 union-requires-2 : tie.Need-union-requires-2 Inv-loop μ-loop
 union-requires-2 c κs = search needs
 
-without-lowest-requires : tie.Need-without-lowest-requires Inv-loop μ-loop
-without-lowest-requires c κs = search needs
-
 loop-less : tie.Need-loop-less Inv-loop μ-loop
-loop-less c =
-    let low = c .before .before .before .before .before .before .before .before in
-    let at = low .before .before .loop in
-    taken-less (low .lowest .result) (at .rest) (c .without-lowest .result) (low .lowest .ensures .0)
-    (c .without-lowest .ensures (low .lowest .result) (low .lowest .ensures .0) (low .lowest .ensures .1)) (at .inv .0) (c .without-lowest .ok)
+loop-less c = c .before .before .before .before .before .before .before .before .take-lowest .ensures .fewer
 
 loop-again : tie.Need-loop-again Inv-loop μ-loop
 loop-again c =
     let low = c .before .before .before .before .before .before .before .before in
-    let at = low .before .before .loop in
-    let all = c .before .union2 in
-    let either = c .before .before .union in
-    let back = c .before .before .before .passed2 in
-    let omega = c .before .before .before .before .before .passed in (
-      c .without-lowest .ok,
-      taken-more (low .lowest .result) (at .rest) (c .without-lowest .result) (low .lowest .ensures .0)
-          (c .without-lowest .ensures (low .lowest .result) (low .lowest .ensures .0) (low .lowest .ensures .1)) (at .r) (either .result) (all .result) (at .inv .1)
-          (gives-either (omega .result) (back .result) (either .result) (omega .ensures) (back .ensures) (either .ensures)) (all .ensures),
-    )
+    let at = low .before .before in
+    let either = c .before .union in
+    let back = c .before .before in
+    let omega = back .before .before in
+    let set = omega .before .before .set-at in
+    gather-more (at .loop .r) (either .result) (c .union2 .result) (low .take-lowest .ensures) (at .loop .inv)
+    (gives-either (omega .passed .result) (back .passed2 .result) (either .result)
+    (rw (set .ensures, omega .before .lefts-at .ensures) at (omega .passed .ensures))
+    (rw (set .ensures, back .before .rights-at .ensures) at (back .passed2 .ensures)) (either .ensures)) (c .union2 .ensures)
 
 returns : tie.Need-returns Inv-loop μ-loop
 returns c t =
-    let all = gather-end (c .before .loop .inv .1) (c .loop-test .left) t in (
+    let all = gather-end (c .before .loop .inv) (c .loop-test .left) t in (
       (λ h. let x = all .0 h in ⊎-elim
           (λ y. let s = y .0 in (s .0, s .1, inl (x .0, x .1, s .2, y .1)))
           (λ y. let s = y .0 in (s .0, s .1, inr (x .0, x .1, s .2, y .1))) (x .2)),
@@ -105,19 +83,15 @@ looping-spec =
     Inv-loop
     μ-loop
     loop-holds
-    lowest-requires
+    take-lowest-requires
     cast-at
-    mul-p
-    element-copy-out-p
-    mul-passed
-    element-copy-out-passed
+    set-at-requires
+    lefts-at-requires
     passed-requires
-    mul-passed-2
-    element-copy-out-passed-2
+    rights-at-requires
     passed-requires-2
     union-requires
     union-requires-2
-    without-lowest-requires
     loop-less
     loop-again
     returns)

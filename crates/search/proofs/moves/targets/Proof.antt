@@ -1,5 +1,5 @@
 -- `search::moves::targets` meets its contract: the steps of each kind, one after another.
-use Rattle.search.proofs.Hops.{onward-letter, onward-or, onward-hop}
+use Rattle.search.proofs.Hops.{onward-or, onward-hop}
 use borrow.Author.Needs.{needs}
 use Rattle.search.proofs.moves.targets.Statement.{statement}
 use Rattle.search.proofs.moves.targets.Tie as tie
@@ -7,8 +7,8 @@ use Rattle.search.proofs.moves.targets.Tie as tie
 intersection-requires : tie.Need-intersection-requires
 intersection-requires c κs = search needs
 
-targets-requires : tie.Need-targets-requires
-targets-requires c κs = search needs
+lettered-requires : tie.Need-lettered-requires
+lettered-requires c κs = search needs
 
 claimed-requires : tie.Need-claimed-requires
 claimed-requires c κs = search needs
@@ -23,18 +23,18 @@ returns : tie.Need-returns
 returns c =
     let u = c .before .union in
     let d = c .before .before in
-    let near = d .before .before .before .intersection in
-    let m = d .before .before .before .before .args .m in
+    let near = d .before .before .intersection in
+    let m = d .before .before .before .args .m in
     let x = near .result in
     onward-hop m x (u .result) (c .intersection2 .result) (near .ensures)
-    (onward-or x _ _ (u .result) (onward-letter (d .before .targets .ensures)) (d .claimed .ensures) (u .ensures)) (c .intersection2 .ensures)
+    (onward-or x _ _ (u .result) (d .before .lettered .ensures) (d .claimed .ensures) (u .ensures)) (c .intersection2 .ensures)
 
 pub targets-spec : {M : Type 1} → statement M
 targets-spec =
     tie.close
     (tie.spec
     intersection-requires
-    targets-requires
+    lettered-requires
     claimed-requires
     union-requires
     intersection-requires-2

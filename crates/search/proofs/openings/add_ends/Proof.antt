@@ -1,34 +1,31 @@
 -- `search::openings::add_ends` meets its contract. The loop adds to the places below i; the others are as they were.
-use Prim.Native.Nat.{_-_, _≤_}
-use mathlib.Core.Path.{_≡_}
+use Prim.Native.Nat.{ℕ, _-_, _≤_}
+use mathlib.Core.Path.{_≡_, subst, sym, _∙_}
+use lib.ListN.{getD}
 use native.Mathlib.Omega.{arith}
 use borrow.Author.Needs.{needs}
-use Rattle.search.proofs.Hops.{Added, added-none, added-next}
+use Rattle.search.specs.Graph.{graph-of}
+use Rattle.search.specs.Promises.{MoreEnds}
+use Rattle.search.proofs.Hops.{Added, added-none, added-next, ends-more, inner-back}
 use Rattle.search.proofs.openings.add_ends.Statement.{statement}
 use Rattle.search.proofs.openings.add_ends.Tie as tie
 
 abbrev Inv-loop : tie.InvT-loop
-Inv-loop to₀ from₀ words lefts rights new n i₀ to from i =
-    (i ≤ n) × Added words lefts rights new i to₀ to × Added words rights lefts new i from₀ from
+Inv-loop to₀ from₀ graph back new n i₀ to from i =
+    (i ≤ n) × Added (graph-of graph) new i to₀ to × Added (graph-of back) new i from₀ from
 
 abbrev μ-loop : tie.MeasureT-loop
-μ-loop to₀ from₀ words lefts rights new n i₀ to from i = n - i
+μ-loop to₀ from₀ graph back new n i₀ to from i = n - i
 
 loop-holds : tie.Need-loop-holds Inv-loop μ-loop
 loop-holds c = let a = c .args in
-    (omega arith, added-none (a .words .now) (a .lefts .now) (a .rights .now) (a .new) (a .to .now), added-none (a .words .now) (a .rights .now) (a .lefts .now) (a .new) (a .from .now))
+    (omega arith, added-none (graph-of (a .graph .now)) (a .new) (a .to .now), added-none (graph-of (a .back .now)) (a .new) (a .from .now))
 
-mul-p : tie.Need-mul-p Inv-loop μ-loop
-mul-p c = search needs
+set-at-requires : tie.Need-set-at-requires Inv-loop μ-loop
+set-at-requires c κs = search needs
 
-element-copy-out-p : tie.Need-element-copy-out-p Inv-loop μ-loop
-element-copy-out-p c = search needs
-
-inside-requires : tie.Need-inside-requires Inv-loop μ-loop
-inside-requires c κs = search needs
-
-inside-requires-2 : tie.Need-inside-requires-2 Inv-loop μ-loop
-inside-requires-2 c κs = search needs
+inner-requires : tie.Need-inner-requires Inv-loop μ-loop
+inner-requires c κs = search needs
 
 mul-union : tie.Need-mul-union Inv-loop μ-loop
 mul-union c = search needs
@@ -76,15 +73,22 @@ loop-again : tie.Need-loop-again Inv-loop μ-loop
 loop-again c =
     let back = c .before in
     let forth = back .before .before in
-    let b = forth .before .before .before in
-    let a = b .before in
-    let at = a .before .before .before in
-    let x = at .before .args in (
+    let parts = forth .before .before .before in
+    let set = parts .before in
+    let at = set .before .before in
+    let x = at .before .args in
+    let g = graph-of (x .graph .now) in
+    let b = graph-of (x .back .now) in
+    let i = at .loop .i in
+    let turned = at .before .pre .1 in
+    let p : ℕ = set .set-at .result in (
       omega arith,
-      added-next (x .words .now) (x .lefts .now) (x .rights .now) (x .new) (x .to .now) (at .loop .i) (at .loop .to) (a .inside .result) (b .inside2 .result)
-          (forth .before .claimed .result) (forth .union .result) (omega arith) (at .loop .inv .1) (a .inside .ensures) (b .inside2 .ensures) (forth .before .claimed .ensures) (forth .union .ensures),
-      added-next (x .words .now) (x .rights .now) (x .lefts .now) (x .new) (x .from .now) (at .loop .i) (at .loop .from) (a .inside .result) (b .inside2 .result)
-          (back .claimed2 .result) (c .union2 .result) (omega arith) (at .loop .inv .2) (a .inside .ensures) (b .inside2 .ensures) (back .claimed2 .ensures) (c .union2 .ensures),
+      added-next g (x .new) (x .to .now) i (at .loop .to) (forth .union .result) (omega arith) (at .loop .inv .1)
+          (subst (λ (q : ℕ). MoreEnds g (x .new) q (getD (at .loop .to) i 0) (forth .union .result)) (set .set-at .ensures)
+          (ends-more g (x .new) p (parts .inner .result) (getD (at .loop .to) i 0) (forth .before .claimed .result) (forth .union .result) (parts .inner .ensures) (forth .before .claimed .ensures) (forth .union .ensures))),
+      added-next b (x .new) (x .from .now) i (at .loop .from) (c .union2 .result) (omega arith) (at .loop .inv .2)
+          (subst (λ (q : ℕ). MoreEnds b (x .new) q (getD (at .loop .from) i 0) (c .union2 .result)) (set .set-at .ensures ∙ sym (turned .sets-are i))
+          (ends-more b (x .new) p (parts .inner .result) (getD (at .loop .from) i 0) (back .claimed2 .result) (c .union2 .result) (inner-back turned (parts .inner .ensures)) (back .claimed2 .ensures) (c .union2 .ensures))),
     )
 
 returns : tie.Need-returns Inv-loop μ-loop
@@ -102,10 +106,8 @@ add-ends-spec =
     Inv-loop
     μ-loop
     loop-holds
-    mul-p
-    element-copy-out-p
-    inside-requires
-    inside-requires-2
+    set-at-requires
+    inner-requires
     mul-union
     element-copy-out-union
     claimed-requires

@@ -1,31 +1,26 @@
--- `search::openings::all_ends` meets its contract. The loop fills the places below i.
-use mathlib.Core.Path.{subst, sym}
-use Rattle.search.specs.Hops.{Ends}
-use Prim.Native.Nat.{ℕ, _-_, _≤_, _<_}
+-- `search::openings::all_ends` meets its contract.
+use Prim.Native.Nat.{_-_, _≤_}
 use mathlib.Core.Path.{_≡_, refl}
 use native.Mathlib.Omega.{arith}
 use lib.ListN.{getD, length, length-set}
-use lib.Seq.{getD-set-same, getD-set-other}
-use borrow.Author.Count.{below-more}
-use Rattle.search.specs.Hops.{EndsBelow}
 use borrow.Author.Needs.{needs}
+use Rattle.lists.proofs.Places.{set-below}
+use Rattle.search.specs.Graph.{graph-of}
+use Rattle.search.specs.Hops.{Ends, EndsBelow}
 use Rattle.search.proofs.openings.all_ends.Statement.{statement}
 use Rattle.search.proofs.openings.all_ends.Tie as tie
 
 abbrev Inv-loop : tie.InvT-loop
-Inv-loop letters words lefts rights force n r₀ i₀ r i = (i ≤ n) × (length r ≡ 64) × EndsBelow letters words lefts rights (force .loops) (force .mixes) i r
+Inv-loop graph force n r₀ i₀ r i = (i ≤ n) × (length r ≡ 64) × EndsBelow (graph-of graph) force i r
 
 abbrev μ-loop : tie.MeasureT-loop
-μ-loop letters words lefts rights force n r₀ i₀ r i = n - i
+μ-loop graph force n r₀ i₀ r i = n - i
 
 loop-holds : tie.Need-loop-holds Inv-loop μ-loop
 loop-holds c = (omega arith, refl, λ j l. absurd (omega arith))
 
-mul-ends : tie.Need-mul-ends Inv-loop μ-loop
-mul-ends c = search needs
-
-element-copy-out-ends : tie.Need-element-copy-out-ends Inv-loop μ-loop
-element-copy-out-ends c = search needs
+set-at-requires : tie.Need-set-at-requires Inv-loop μ-loop
+set-at-requires c κs = search needs
 
 ends-requires : tie.Need-ends-requires Inv-loop μ-loop
 ends-requires c κs = search needs
@@ -46,14 +41,11 @@ loop-again : tie.Need-loop-again Inv-loop μ-loop
 loop-again c =
     let at = c .before .before .before in
     let a = at .before .args in
-    let r = at .loop .r in
-    let i = at .loop .i in
-    let w = a .words .now in (
+    let g = graph-of (a .graph .now) in (
       omega arith,
       simp length-set (at .loop .inv .1),
-      below-more _ i
-          (λ j l. subst (Ends (a .letters .now) w (a .lefts .now) (a .rights .now) (a .force .loops) (a .force .mixes) (getD w j 0)) (sym (getD-set-other r i j (c .ends .result) 0 (λ e. omega arith))) (at .loop .inv .2 j l))
-          (subst (Ends (a .letters .now) w (a .lefts .now) (a .rights .now) (a .force .loops) (a .force .mixes) (getD w i 0)) (sym (getD-set-same r i (c .ends .result) 0 (omega (arith, at .loop .inv .1, c .before .before .loop-test .taken)))) (c .ends .ensures)),
+      set-below (λ j x. Ends g (a .force) (getD (g .sets) j 0) x) (at .loop .r) (at .loop .i) (c .ends .result)
+          (omega (arith, at .loop .inv .1, c .before .before .loop-test .taken)) (at .loop .inv .2) (rw (c .before .set-at .ensures) at (c .ends .ensures)),
     )
 
 returns : tie.Need-returns Inv-loop μ-loop
@@ -68,8 +60,7 @@ all-ends-spec =
     Inv-loop
     μ-loop
     loop-holds
-    mul-ends
-    element-copy-out-ends
+    set-at-requires
     ends-requires
     mul-r
     array-write-r

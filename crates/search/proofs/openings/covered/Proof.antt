@@ -28,15 +28,16 @@ is-subset-requires : tie.Need-is-subset-requires
 is-subset-requires c κs = search needs
 
 returns : tie.Need-returns
-returns c turned =
+returns c =
     let u = c .before .union2 in
     let z = c .before .before .intersection2 in
     let y = c .before .before .before .union in
     let x = c .before .before .before .before .intersection in
     let before = c .before .before .before .before .before .reach2 in
     let after = c .before .before .before .before .before .before .reach in
-    let args = c .before .before .before .before .before .before .before .args in
-    let all = covered-iff (hop-back turned) (hop-turn turned) (args .m) (args .n) (after .result) (before .result)
+    let start = c .before .before .before .before .before .before .before in
+    let args = start .args in
+    let all = covered-iff (hop-back (start .pre)) (hop-turn (start .pre)) (args .m) (args .n) (after .result) (before .result)
     (x .result) (y .result) (z .result) (u .result) (after .ensures) (before .ensures) (x .ensures) (y .ensures) (z .ensures) (u .ensures) in
     iff· (λ f s h. all s .0 (f s h)) (λ f s h. all s .1 (f s h)) (c .is-subset .ensures)
 

@@ -11,7 +11,7 @@ use Rattle.search.proofs.openings.joined.Statement.{statement}
 use Rattle.search.proofs.openings.joined.Tie as tie
 
 returns : tie.Need-returns
-returns c turned = record { to = λ e a b ha hb. absurd (in-none a (rw (c .if1 .taken) at ha)); of = λ h. refl }
+returns c = record { to = λ e a b ha hb. absurd (in-none a (rw (c .if1 .taken) at ha)); of = λ h. refl }
 
 lowest-requires : tie.Need-lowest-requires
 lowest-requires c κs = search needs
@@ -23,7 +23,7 @@ reach-requires : tie.Need-reach-requires
 reach-requires c κs = search needs
 
 returns-2 : tie.Need-returns-2
-returns-2 c turned =
+returns-2 c =
     let r = c .before .reach in
     let w = c .before .before .with in
     let low = c .before .before .before .lowest in
@@ -38,7 +38,7 @@ reach-requires-2 : tie.Need-reach-requires-2
 reach-requires-2 c κs = search needs
 
 returns-3 : tie.Need-returns-3
-returns-3 c turned =
+returns-3 c =
     let forth = c .before .before .reach in
     let w = c .before .before .before .with in
     let low = c .before .before .before .before .lowest in
@@ -47,10 +47,10 @@ returns-3 c turned =
     let p = start .args .p in
     let r = c .reach2 in
     record {
-      to = λ e. joined-by (hop-back turned) p s (from-one p s (w .result) p (w .ensures) (rw (c .before .if2 .left) at (forth .ensures)))
+      to = λ e. joined-by (hop-back (start .pre)) p s (from-one p s (w .result) p (w .ensures) (rw (c .before .if2 .left) at (forth .ensures)))
           (from-one p s (w .result) p (w .ensures) (rw (eqb-true (r .result) p e) at (r .ensures)));
       of = λ h. eq-eqb (r .result) p (reaches-all p s (w .result) (r .result) (w .ensures) (r .ensures)
-          (λ a b e. e .end) (start .fits .p .fits) (r .ok) (λ t ht. chain-back (hop-turn turned) (h t s ht (low .ensures .0))));
+          (λ a b e. e .end) (start .fits .p .fits) (r .ok) (λ t ht. chain-back (hop-turn (start .pre)) (h t s ht (low .ensures .0))));
     }
 
 pub joined-spec : {M : Type 1} → statement M

@@ -10,10 +10,10 @@ covered-requires : tie.Need-covered-requires
 covered-requires c κs = search needs
 
 returns : tie.Need-returns
-returns c turned = iff· (λ h. (c .before .if1 .taken, h)) (λ h. h .1) (c .covered .ensures turned)
+returns c = iff· (λ h. (c .before .if1 .taken, h)) (λ h. h .1) (c .covered .ensures)
 
 returns-2 : tie.Need-returns-2
-returns-2 c turned = record { to = λ e. absurd (false≢true e); of = λ h. absurd (not-both (h .0) (c .if1 .left)) }
+returns-2 c = record { to = λ e. absurd (false≢true e); of = λ h. absurd (not-both (h .0) (c .if1 .left)) }
 
 pub mix-opens-spec : {M : Type 1} → statement M
 mix-opens-spec = tie.close (tie.spec covered-requires returns returns-2)

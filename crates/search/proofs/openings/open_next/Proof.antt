@@ -3,6 +3,7 @@ use Prim.Native.Nat.{_-_, _≤_}
 use mathlib.Core.Path.{_≡_}
 use native.Mathlib.Omega.{arith}
 use Rattle.masks.proofs.Member.{in-none}
+use Rattle.search.specs.Graph.{graph-of}
 use Rattle.search.specs.Promises.{OpensBelow}
 use Rattle.search.proofs.Opening.{below-next}
 use borrow.Author.Needs.{needs}
@@ -10,17 +11,19 @@ use Rattle.search.proofs.openings.open_next.Statement.{statement}
 use Rattle.search.proofs.openings.open_next.Tie as tie
 
 abbrev Inv-loop : tie.InvT-loop
-Inv-loop letters back words lefts rights to from n loop-mask mix-mask loops₀ mixes₀ i₀ loops mixes i =
-    (i ≤ n) × OpensBelow letters back words lefts rights loop-mask mix-mask n i loops mixes
+Inv-loop graph back force to from n loops₀ mixes₀ i₀ loops mixes i =
+    (i ≤ n) × OpensBelow (graph-of graph) force n i (record { loops = loops; mixes = mixes })
 
 abbrev μ-loop : tie.MeasureT-loop
-μ-loop letters back words lefts rights to from n loop-mask mix-mask loops₀ mixes₀ i₀ loops mixes i = n - i
+μ-loop graph back force to from n loops₀ mixes₀ i₀ loops mixes i = n - i
 
 loop-holds : tie.Need-loop-holds Inv-loop μ-loop
 loop-holds c = (
   omega arith,
-  λ turned rows claims is count.
-      ((λ t. ((λ h. absurd (in-none t h)), λ h. absurd (omega (arith, h .0)))), λ t. ((λ h. absurd (in-none t h)), λ h. absurd (omega (arith, h .0)))),
+  λ rows claims is count. record {
+    loop-iff = λ t. ((λ h. absurd (in-none t h)), λ h. absurd (omega (arith, h .0)));
+    mix-iff = λ t. ((λ h. absurd (in-none t h)), λ h. absurd (omega (arith, h .0)));
+  },
 )
 
 mul-opened-at : tie.Need-mul-opened-at Inv-loop μ-loop
@@ -39,8 +42,16 @@ cast-opened-at : tie.Need-cast-opened-at Inv-loop μ-loop
 cast-opened-at c = search needs
 
 opened-at-requires : tie.Need-opened-at-requires Inv-loop μ-loop
-opened-at-requires c κs = let in-loop = c .before .before in let at = in-loop .before in
-    (omega arith, at .before .pre .1 (at .loop .i) (in-loop .loop-test .taken), at .before .pre .2 (at .loop .i) (in-loop .loop-test .taken))
+opened-at-requires c κs =
+    let in-loop = c .before .before in
+    let at = in-loop .before in
+    let ends = at .before .pre in
+    record {
+      low = omega (arith, ends .few);
+      turned = ends .turned;
+      forward = ends .forward (at .loop .i) (in-loop .loop-test .taken);
+      backward = ends .backward (at .loop .i) (in-loop .loop-test .taken);
+    }
 
 union-requires : tie.Need-union-requires Inv-loop μ-loop
 union-requires c κs = search needs
@@ -62,12 +73,12 @@ loop-again c =
     let inside = c .before .before .before .before .before in
     let at = inside .before .loop in (
       omega arith,
-      λ turned rows claims is count.
-          let old = at .inv .1 turned rows claims is count in
-          let more = new .ensures turned rows claims _ is count (inside .loop-test .taken) in (
-            below-next (at .i) (at .loops) (new .result .loops) (u .result) (old .0) (more .0) (u .ensures),
-            below-next (at .i) (at .mixes) (new .result .mixes) (u2 .result) (old .1) (more .1) (u2 .ensures),
-          ),
+      λ rows claims is count.
+          let old = at .inv .1 rows claims is count in
+          let more = new .ensures rows claims _ is count (inside .loop-test .taken) in record {
+            loop-iff = below-next (at .i) (at .loops) (new .result .loops) (u .result) (old .loop-iff) (more .0) (u .ensures);
+            mix-iff = below-next (at .i) (at .mixes) (new .result .mixes) (u2 .result) (old .mix-iff) (more .1) (u2 .ensures);
+          },
     )
 
 returns : tie.Need-returns Inv-loop μ-loop

@@ -2,45 +2,37 @@
 use lib.ListN.{getD}
 use borrow.Author.Needs.{needs}
 use Rattle.masks.specs.Mask.{_⊆_}
+use Rattle.search.specs.Graph.{graph-of}
 use Rattle.search.specs.Hops.{Threaded}
 use Rattle.search.proofs.Saying.{entrance-iff, exit-iff, loops-iff, mixes-iff}
 use Rattle.search.proofs.Filtering.{looping-passes, mixing-passes}
-use Rattle.search.proofs.Opening.{set-at, opens-iff, opens-not}
+use Rattle.search.proofs.Opening.{set-here, opens-iff, opens-not}
 use Rattle.search.proofs.openings.opened_at.Statement.{statement}
 use Rattle.search.proofs.openings.opened_at.Tie as tie
 
-mul-p : tie.Need-mul-p
-mul-p c = search needs
+set-at-requires : tie.Need-set-at-requires
+set-at-requires c κs = c .pre .low
 
-element-copy-out-p : tie.Need-element-copy-out-p
-element-copy-out-p c = search needs
-
-mul-intersection : tie.Need-mul-intersection
-mul-intersection c = search needs
-
-element-copy-out-intersection : tie.Need-element-copy-out-intersection
-element-copy-out-intersection c = search needs
+lefts-at-requires : tie.Need-lefts-at-requires
+lefts-at-requires c κs = c .before .pre .low
 
 intersection-requires : tie.Need-intersection-requires
 intersection-requires c κs = search needs
 
-mul-intersection-2 : tie.Need-mul-intersection-2
-mul-intersection-2 c = search needs
-
-element-copy-out-intersection-2 : tie.Need-element-copy-out-intersection-2
-element-copy-out-intersection-2 c = search needs
+rights-at-requires : tie.Need-rights-at-requires
+rights-at-requires c κs = c .before .before .before .pre .low
 
 intersection-requires-2 : tie.Need-intersection-requires-2
 intersection-requires-2 c κs = search needs
 
 has-requires : tie.Need-has-requires
-has-requires c κs = search needs
+has-requires c κs = c .before .before .before .before .before .pre .low
 
 may-loop-requires : tie.Need-may-loop-requires
 may-loop-requires c κs = search needs
 
 has-requires-2 : tie.Need-has-requires-2
-has-requires-2 c κs = search needs
+has-requires-2 c κs = c .before .before .before .before .before .before .before .pre .low
 
 may-mix-requires : tie.Need-may-mix-requires
 may-mix-requires c κs = search needs
@@ -49,82 +41,92 @@ neither-requires : tie.Need-neither-requires
 neither-requires c κs = search needs
 
 returns : tie.Need-returns
-returns c turned rows claims n is count l =
+returns c rows claims n is count l =
     let mix-test = c .before .before in
     let loop-test = mix-test .before .before in
-    let exits = loop-test .before .before .intersection2 in
-    let entrances = loop-test .before .before .before .before .intersection in
-    let start = loop-test .before .before .before .before .before .before .before in
+    let exits = loop-test .before .before in
+    let entrances = exits .before .before in
+    let here = entrances .before .before .set-at .ensures in
+    let start = entrances .before .before .before in
     let args = start .args in
     let i = args .i in
-    let p = getD (args .words .now) i 0 in
-    let is-m = entrance-iff (is .masked) i (entrances .result) l (entrances .ensures) in
-    let is-n = exit-iff (is .masked) i (exits .result) l (exits .ensures) in
-    let loop-shows = looping-passes (is .masked) turned (is .forced) (args .to) (args .from) p (start .pre .1) (start .pre .2) in
-    let mix-shows = mixing-passes (is .masked) turned (is .forced) (args .to) (args .from) p (start .pre .1) (start .pre .2) (entrances .result) (exits .result) is-m is-n in
+    let P = getD (graph-of (args .graph .now) .sets) i 0 in
+    let m = entrances .intersection .result in
+    let k = exits .intersection2 .result in
+    let is-m = entrance-iff (is .masked) i m l (rw (here, entrances .before .lefts-at .ensures) at (entrances .intersection .ensures)) in
+    let is-k = exit-iff (is .masked) i k l (rw (here, exits .before .rights-at .ensures) at (exits .intersection2 .ensures)) in
+    let ends = start .pre in
+    let behind = rw (ends .turned .sets-are i) at (ends .backward) in
+    let loop-shows = looping-passes (is .masked) (ends .turned) (is .forced) (args .to) (args .from) P (ends .forward) behind in
+    let mix-shows = mixing-passes (is .masked) (ends .turned) (is .forced) (args .to) (args .from) P (ends .forward) behind m k is-m is-k in
+    let loop-tried = rw here at (loop-test .may-loop .ensures) in
+    let mix-tried = rw here at (mix-test .may-mix .ensures) in
     let none = c .before .neither .ensures .to (c .if1 .taken) in (
-      opens-not {F = (p ⊆ args .to) × (p ⊆ args .from)} i (args .loop-mask) l (is .forced .loop-iff i)
-          (loop-test .before .has .ensures) (loop-test .may-loop .ensures) (λ h. loop-shows (h .1)) (none .0),
-      opens-not {F = Threaded p (entrances .result) (exits .result) (args .to) (args .from)} i (args .mix-mask) l (is .forced .mix-iff i)
-          (mix-test .before .has2 .ensures) (mix-test .may-mix .ensures) (λ h. mix-shows (h .1)) (none .1),
+      opens-not {F = (P ⊆ args .to) × (P ⊆ args .from)} i (args .force .loops) l (is .forced .loop-iff i)
+          (loop-test .before .has .ensures) loop-tried (λ h. loop-shows (h .1)) (none .0),
+      opens-not {F = Threaded P m k (args .to) (args .from)} i (args .force .mixes) l (is .forced .mix-iff i)
+          (mix-test .before .has2 .ensures) mix-tried (λ h. mix-shows (h .1)) (none .1),
     )
 
-inside-requires : tie.Need-inside-requires
-inside-requires c κs = search needs
-
-inside-requires-2 : tie.Need-inside-requires-2
-inside-requires-2 c κs = search needs
+inner-requires : tie.Need-inner-requires
+inner-requires c κs = search needs
 
 loop-opens-requires : tie.Need-loop-opens-requires
-loop-opens-requires c κs = search needs
+loop-opens-requires c κs = c .before .before .before .before .before .before .before .before .before .before .before .before .pre .turned
 
 mix-opens-requires : tie.Need-mix-opens-requires
-mix-opens-requires c κs = search needs
+mix-opens-requires c κs = c .before .before .before .before .before .before .before .before .before .before .before .before .before .pre .turned
 
 marked-requires : tie.Need-marked-requires
-marked-requires c κs = c .before .before .before .before .before .before .before .before .before .before .before .before .before .before .before .pre .0
+marked-requires c κs = c .before .before .before .before .before .before .before .before .before .before .before .before .before .before .pre .low
 
 marked-requires-2 : tie.Need-marked-requires-2
-marked-requires-2 c κs = c .before .before .before .before .before .before .before .before .before .before .before .before .before .before .before .before .pre .0
+marked-requires-2 c κs = c .before .before .before .before .before .before .before .before .before .before .before .before .before .before .before .pre .low
 
 returns-2 : tie.Need-returns-2
-returns-2 c turned rows claims n is count l =
-    let b = c .before .before .before .before .inside2 in
-    let a = c .before .before .before .before .before .inside in
-    let mix-test = c .before .before .before .before .before .before .before .before in
+returns-2 c rows claims n is count l =
+    let mixed = c .before .before in
+    let looped = mixed .before in
+    let parts = looped .before in
+    let mix-test = parts .before .before .before in
     let loop-test = mix-test .before .before in
-    let exits = loop-test .before .before .intersection2 in
-    let entrances = loop-test .before .before .before .before .intersection in
-    let start = loop-test .before .before .before .before .before .before .before in
+    let exits = loop-test .before .before in
+    let entrances = exits .before .before in
+    let here = entrances .before .before .set-at .ensures in
+    let start = entrances .before .before .before in
     let args = start .args in
     let i = args .i in
-    let p = getD (args .words .now) i 0 in
-    let is-m = entrance-iff (is .masked) i (entrances .result) l (entrances .ensures) in
-    let is-n = exit-iff (is .masked) i (exits .result) l (exits .ensures) in
-    let loop-shows = looping-passes (is .masked) turned (is .forced) (args .to) (args .from) p (start .pre .1) (start .pre .2) in
-    let mix-shows = mixing-passes (is .masked) turned (is .forced) (args .to) (args .from) p (start .pre .1) (start .pre .2) (entrances .result) (exits .result) is-m is-n in
-    let set = set-at (is .masked) count i l in
-    let loop = loops-iff (is .masked) (is .forced) p (a .result) (b .result) (a .ensures) (b .ensures) in
-    let mix = mixes-iff (is .masked) (is .forced) p (a .result) (b .result) (a .ensures) (b .ensures) (entrances .result) (exits .result) is-m is-n in (
-      opens-iff {F = (p ⊆ args .to) × (p ⊆ args .from)} i (args .loop-mask) l (is .forced .loop-iff i)
-          (loop-test .before .has .ensures) (loop-test .may-loop .ensures) (λ h. loop-shows (h .1))
-          (c .before .marked .result) ((λ h. (set, loop .0 h)), λ h. loop .1 (h .1)) (c .before .before .before .loop-opens .ensures turned) (c .before .marked .ensures),
-      opens-iff {F = Threaded p (entrances .result) (exits .result) (args .to) (args .from)} i (args .mix-mask) l (is .forced .mix-iff i)
-          (mix-test .before .has2 .ensures) (mix-test .may-mix .ensures) (λ h. mix-shows (h .1))
-          (c .marked2 .result) ((λ h. (set, mix .0 h)), λ h. mix .1 (h .1)) (c .before .before .mix-opens .ensures turned) (c .marked2 .ensures),
+    let P = getD (graph-of (args .graph .now) .sets) i 0 in
+    let m = entrances .intersection .result in
+    let k = exits .intersection2 .result in
+    let is-m = entrance-iff (is .masked) i m l (rw (here, entrances .before .lefts-at .ensures) at (entrances .intersection .ensures)) in
+    let is-k = exit-iff (is .masked) i k l (rw (here, exits .before .rights-at .ensures) at (exits .intersection2 .ensures)) in
+    let ends = start .pre in
+    let behind = rw (ends .turned .sets-are i) at (ends .backward) in
+    let loop-shows = looping-passes (is .masked) (ends .turned) (is .forced) (args .to) (args .from) P (ends .forward) behind in
+    let mix-shows = mixing-passes (is .masked) (ends .turned) (is .forced) (args .to) (args .from) P (ends .forward) behind m k is-m is-k in
+    let loop-tried = rw here at (loop-test .may-loop .ensures) in
+    let mix-tried = rw here at (mix-test .may-mix .ensures) in
+    let set = set-here (is .masked) count i l in
+    let inner = rw here at (parts .inner .ensures) in
+    let loop = loops-iff (is .masked) (is .forced) P inner in
+    let mix = mixes-iff (is .masked) (is .forced) P inner m k is-m is-k in (
+      opens-iff {F = (P ⊆ args .to) × (P ⊆ args .from)} i (args .force .loops) l (is .forced .loop-iff i)
+          (loop-test .before .has .ensures) loop-tried (λ h. loop-shows (h .1))
+          (c .before .marked .result) ((λ h. (set, loop .0 h)), λ h. loop .1 (h .1)) (rw here at (looped .loop-opens .ensures)) (c .before .marked .ensures),
+      opens-iff {F = Threaded P m k (args .to) (args .from)} i (args .force .mixes) l (is .forced .mix-iff i)
+          (mix-test .before .has2 .ensures) mix-tried (λ h. mix-shows (h .1))
+          (c .marked2 .result) ((λ h. (set, mix .0 h)), λ h. mix .1 (h .1)) (rw here at (mixed .mix-opens .ensures)) (c .marked2 .ensures),
     )
 
 pub opened-at-spec : {M : Type 1} → statement M
 opened-at-spec =
     tie.close
     (tie.spec
-    mul-p
-    element-copy-out-p
-    mul-intersection
-    element-copy-out-intersection
+    set-at-requires
+    lefts-at-requires
     intersection-requires
-    mul-intersection-2
-    element-copy-out-intersection-2
+    rights-at-requires
     intersection-requires-2
     has-requires
     may-loop-requires
@@ -132,8 +134,7 @@ opened-at-spec =
     may-mix-requires
     neither-requires
     returns
-    inside-requires
-    inside-requires-2
+    inner-requires
     loop-opens-requires
     mix-opens-requires
     marked-requires

@@ -11,9 +11,9 @@ meets-requires : tie.Need-meets-requires
 meets-requires c κs = search needs
 
 returns : tie.Need-returns
-returns c letters words lefts rights loop-mask mix-mask reached rows claims n is fit is-starts is-ends =
+returns c g force reached rows claims n is fit is-initials is-finals =
     let a = c .before .before .args in
-    accepted-iff fit (is .masked) (is .forced) (a .starts) (a .ends) is-starts is-ends (a .seen) (c .before .union .result) reached (c .before .union .ensures) (c .meets .ensures)
+    accepted-iff fit (is .masked) (is .forced) (a .initials) (a .finals) is-initials is-finals (a .seen) (c .before .union .result) reached (c .before .union .ensures) (c .meets .ensures)
 
 pub accepted-spec : {M : Type 1} → statement M
 accepted-spec = tie.close (tie.spec union-requires meets-requires returns)

@@ -1,5 +1,6 @@
 -- `search::searches::accepts` meets its contract.
 use borrow.Author.Needs.{needs}
+use Rattle.search.specs.Graph.{graph-of}
 use Rattle.search.proofs.searches.accepts.Statement.{statement}
 use Rattle.search.proofs.searches.accepts.Tie as tie
 
@@ -11,7 +12,7 @@ accepted-requires c κs = search needs
 
 returns : tie.Need-returns
 returns c = let a = c .before .before .args in
-    c .accepted .ensures (a .letters .now) (a .words .now) (a .lefts .now) (a .rights .now) (a .force .loops) (a .force .mixes) (c .before .reached .ensures)
+    c .accepted .ensures (graph-of (a .graph .now)) (a .force) (c .before .reached .ensures)
 
 pub accepts-spec : {M : Type 1} → statement M
 accepts-spec = tie.close (tie.spec reached-requires accepted-requires returns)

@@ -4,6 +4,7 @@ use mathlib.Core.Logic.{_⊎_}
 use native.Mathlib.Omega.{arith}
 use lib.Count.{ones, ones-le}
 use borrow.Author.Needs.{needs}
+use Rattle.search.specs.Graph.{graph-of}
 use Rattle.search.specs.Hops.{Hop, LetterHop, Onward}
 use Rattle.search.proofs.Hops.{ClaimHop, hop-letter, hop-claim, hop-cases, onward-inside}
 use Rattle.search.proofs.Chains.{Search, search-start, followed-part, explored-full, explored-end, explored-more, grows-by}
@@ -11,11 +12,11 @@ use Rattle.search.proofs.searches.explore.Statement.{statement}
 use Rattle.search.proofs.searches.explore.Tie as tie
 
 abbrev Inv-loop : tie.InvT-loop
-Inv-loop letters words lefts rights loops mixes p found last known₀ front₀ known front =
-    (known < 2 ^ 64) × Search (Hop letters words lefts rights loops mixes p) found last known front
+Inv-loop graph force p found last known₀ front₀ known front =
+    (known < 2 ^ 64) × Search (Hop (graph-of graph) force p) found last known front
 
 abbrev μ-loop : tie.MeasureT-loop
-μ-loop letters words lefts rights loops mixes p found last known₀ front₀ known front = 64 - ones known
+μ-loop graph force p found last known₀ front₀ known front = 64 - ones known
 
 loop-holds : tie.Need-loop-holds Inv-loop μ-loop
 loop-holds c = (c .fits .found .fits, search-start _ (c .args .found) (c .args .last) (c .pre))
@@ -23,22 +24,22 @@ loop-holds c = (c .fits .found .fits, search-start _ (c .args .found) (c .args .
 -- the steps inside p, those by letters and those by claims
 module _ (c : tie.At-loop Inv-loop μ-loop) where
   abbrev Links : ℕ → ℕ → Type 0
-  Links = let a = c .before .args in Hop (a .letters .now) (a .words .now) (a .lefts .now) (a .rights .now) (a .loops) (a .mixes) (a .p)
+  Links = let a = c .before .args in Hop (graph-of (a .graph .now)) (a .force) (a .p)
 
   abbrev Claims : ℕ → ℕ → Type 0
-  Claims = let a = c .before .args in ClaimHop (a .words .now) (a .lefts .now) (a .rights .now) (a .loops) (a .mixes) (a .p)
+  Claims = let a = c .before .args in ClaimHop (graph-of (a .graph .now)) (a .force) (a .p)
 
   abbrev Letters : ℕ → ℕ → Type 0
-  Letters = LetterHop (c .before .args .letters .now) (c .before .args .p)
+  Letters = LetterHop (graph-of (c .before .args .graph .now)) (c .before .args .p)
 
   letter : (a b : ℕ) → Letters a b → Links a b
-  letter = let a = c .before .args in hop-letter (a .letters .now) (a .words .now) (a .lefts .now) (a .rights .now) (a .loops) (a .mixes) (a .p)
+  letter = let a = c .before .args in hop-letter (graph-of (a .graph .now)) (a .force) (a .p)
 
   claim : (a b : ℕ) → Claims a b → Links a b
-  claim = let a = c .before .args in hop-claim (a .letters .now) (a .words .now) (a .lefts .now) (a .rights .now) (a .loops) (a .mixes) (a .p)
+  claim = let a = c .before .args in hop-claim (graph-of (a .graph .now)) (a .force) (a .p)
 
   cases : (a b : ℕ) → Links a b → Letters a b ⊎ Claims a b
-  cases = let a = c .before .args in hop-cases (a .letters .now) (a .words .now) (a .lefts .now) (a .rights .now) (a .loops) (a .mixes) (a .p)
+  cases = let a = c .before .args in hop-cases (graph-of (a .graph .now)) (a .force) (a .p)
 
 spread-requires : tie.Need-spread-requires Inv-loop μ-loop
 spread-requires c κs = let a = c .before .args in

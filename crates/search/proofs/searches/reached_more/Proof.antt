@@ -1,6 +1,7 @@
 -- `search::searches::reached_more` meets its contract: the new claims from what was seen, and then all steps from what is new.
 use Prim.Native.Nat.{ℕ}
 use borrow.Author.Needs.{needs}
+use Rattle.search.specs.Graph.{graph-of}
 use Rattle.search.specs.Hops.{Hop, Followed, Explored, all, Reached}
 use Rattle.search.proofs.Chains.{explored-none}
 use Rattle.search.proofs.Reaching.{followed-now, reached-now}
@@ -22,23 +23,23 @@ union-requires-2 c κs = search needs
 -- what was seen and what is new
 module _ (c : tie.After-union2) where
   abbrev Steps : ℕ → ℕ → Type 0
-  Steps = let a = c .before .before .before .before .args in Hop (a .letters .now) (a .words .now) (a .lefts .now) (a .rights .now) (a .force .loops) (a .force .mixes) all
+  Steps = let a = c .before .before .before .before .args in Hop (graph-of (a .graph .now)) (a .force) all
 
   followed : Followed Steps (c .union2 .result) (c .before .difference .result)
   followed =
       let d = c .before in
       let cl = d .before in
       let a = cl .before .before .args in
-      followed-now (a .letters .now) (a .words .now) (a .lefts .now) (a .rights .now) (a .force) (a .new) (a .starts) (a .seen) (cl .before .before .pre)
+      followed-now (graph-of (a .graph .now)) (a .force) (a .new) (a .initials) (a .seen) (cl .before .before .pre)
       (cl .before .union .result) (cl .claimed .result) (d .difference .result) (c .union2 .result) (cl .before .union .ensures) (cl .claimed .ensures) (d .difference .ensures) (c .union2 .ensures)
 
   ended : (r : ℕ) → Explored Steps (c .union2 .result) (c .before .difference .result) r
-      → let a = c .before .before .before .before .args in Reached (a .letters .now) (a .words .now) (a .lefts .now) (a .rights .now) (a .force .loops) (a .force .mixes) (a .starts) r
+      → let a = c .before .before .before .before .args in Reached (graph-of (a .graph .now)) (a .force) (a .initials) r
   ended r x =
       let d = c .before in
       let cl = d .before in
       let a = cl .before .before .args in
-      reached-now (a .letters .now) (a .words .now) (a .lefts .now) (a .rights .now) (a .force) (a .new) (a .starts) (a .seen) (cl .before .before .pre)
+      reached-now (graph-of (a .graph .now)) (a .force) (a .new) (a .initials) (a .seen) (cl .before .before .pre)
       (cl .before .union .result) (cl .claimed .result) (d .difference .result) (c .union2 .result) (cl .before .union .ensures) (cl .claimed .ensures) (d .difference .ensures) (c .union2 .ensures) r x
 
 returns : tie.Need-returns

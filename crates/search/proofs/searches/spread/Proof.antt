@@ -2,39 +2,40 @@
 use Prim.Native.Nat.{_-_, _^_, _<_}
 use native.Mathlib.Omega.{arith}
 use lib.Count.{ones, ones-le}
+use Rattle.search.specs.Graph.{graph-of}
 use Rattle.search.specs.Hops.{LetterHop, Onward}
-use Rattle.search.proofs.Hops.{onward-letter, onward-inside}
+use Rattle.search.proofs.Hops.{onward-inside}
 use Rattle.search.proofs.Chains.{Search, search-start, search-more, search-end, grows-by}
 use borrow.Author.Needs.{needs}
 use Rattle.search.proofs.searches.spread.Statement.{statement}
 use Rattle.search.proofs.searches.spread.Tie as tie
 
 abbrev Inv-loop : tie.InvT-loop
-Inv-loop letters p found last all₀ front₀ all front =
-    (all < 2 ^ 64) × Search (LetterHop letters p) found last all front
+Inv-loop graph p found last all₀ front₀ all front =
+    (all < 2 ^ 64) × Search (LetterHop (graph-of graph) p) found last all front
 
 abbrev μ-loop : tie.MeasureT-loop
-μ-loop letters p found last all₀ front₀ all front = 64 - ones all
+μ-loop graph p found last all₀ front₀ all front = 64 - ones all
 
 loop-holds : tie.Need-loop-holds Inv-loop μ-loop
-loop-holds c = (c .fits .found .fits, search-start (LetterHop (c .args .letters .now) (c .args .p)) (c .args .found) (c .args .last) (c .pre))
+loop-holds c = (c .fits .found .fits, search-start (LetterHop (graph-of (c .args .graph .now)) (c .args .p)) (c .args .found) (c .args .last) (c .pre))
 
 intersection-requires : tie.Need-intersection-requires Inv-loop μ-loop
 intersection-requires c κs = search needs
 
-targets-requires : tie.Need-targets-requires Inv-loop μ-loop
-targets-requires c κs = search needs
+lettered-requires : tie.Need-lettered-requires Inv-loop μ-loop
+lettered-requires c κs = search needs
 
 intersection-requires-2 : tie.Need-intersection-requires-2 Inv-loop μ-loop
 intersection-requires-2 c κs = search needs
 
 -- one pass
-steps : (c : tie.After-intersection2 Inv-loop μ-loop) → Onward (LetterHop (c .before .before .before .before .before .args .letters .now) (c .before .before .before .before .before .args .p))
-    (c .before .before .before .before .loop .front) (c .intersection2 .result)
+steps : (c : tie.After-intersection2 Inv-loop μ-loop) → Onward (LetterHop (graph-of (c .before .before .before .before .args .graph .now)) (c .before .before .before .before .args .p))
+    (c .before .before .before .loop .front) (c .intersection2 .result)
 steps c =
-    let n = c .before .before .before in
-    onward-inside (n .before .before .args .p) (n .before .loop .front) (n .intersection .result) (c .before .targets .result) (c .intersection2 .result)
-    (n .intersection .ensures) (onward-letter (c .before .targets .ensures)) (c .intersection2 .ensures)
+    let n = c .before .before in
+    onward-inside (n .before .before .args .p) (n .before .loop .front) (n .intersection .result) (c .before .lettered .result) (c .intersection2 .result)
+    (n .intersection .ensures) (c .before .lettered .ensures) (c .intersection2 .ensures)
 
 difference-requires : tie.Need-difference-requires Inv-loop μ-loop
 difference-requires c κs = search needs
@@ -43,9 +44,9 @@ returns : tie.Need-returns Inv-loop μ-loop
 returns c =
     let d = c .before in
     let near = d .before in
-    let at = near .before .before .before .before in
+    let at = near .before .before .before in
     let a = at .before .args in
-    search-end (LetterHop (a .letters .now) (a .p)) (a .found) (a .last) (at .before .pre) (near .intersection2 .result) (d .difference .result) (at .loop .inv .1)
+    search-end (LetterHop (graph-of (a .graph .now)) (a .p)) (a .found) (a .last) (at .before .pre) (near .intersection2 .result) (d .difference .result) (at .loop .inv .1)
     (steps near) (d .difference .ensures) (c .if1 .taken)
 
 union-requires : tie.Need-union-requires Inv-loop μ-loop
@@ -54,7 +55,7 @@ union-requires c κs = search needs
 loop-less : tie.Need-loop-less Inv-loop μ-loop
 loop-less c =
     let d = c .before .before in
-    let at = d .before .before .before .before .before in
+    let at = d .before .before .before .before in
     omega (
       arith,
       ones-le 64 (c .union .result) (c .union .ok),
@@ -66,10 +67,10 @@ loop-again : tie.Need-loop-again Inv-loop μ-loop
 loop-again c =
     let d = c .before .before in
     let near = d .before in
-    let at = near .before .before .before .before in
+    let at = near .before .before .before in
     let a = at .before .args in (
       c .union .ok,
-      search-more (LetterHop (a .letters .now) (a .p)) (a .found) (a .last) (at .before .pre) (near .intersection2 .result) (d .difference .result) (at .loop .inv .1)
+      search-more (LetterHop (graph-of (a .graph .now)) (a .p)) (a .found) (a .last) (at .before .pre) (near .intersection2 .result) (d .difference .result) (at .loop .inv .1)
           (steps near) (d .difference .ensures) (c .union .result) (c .union .ensures),
     )
 
@@ -81,7 +82,7 @@ spread-spec =
     μ-loop
     loop-holds
     intersection-requires
-    targets-requires
+    lettered-requires
     intersection-requires-2
     difference-requires
     returns

@@ -1,0 +1,76 @@
+// A graph is one array of 256 masks: its four parts, and the graph turned round.
+ghost use mathlib.Core.Path.{_≡_};
+ghost use Prim.Native.Nat.{_≤_, _<_};
+ghost use lib.ListN.{getD};
+ghost use Rattle.search.specs.Graph.{part, graph-of, TurnedGraph};
+ghost use Rattle.search.specs.Parts.{TurnedMask};
+
+// Where the parts begin; the letters stand first.
+pub const SETS: usize = 64;
+
+pub const LEFTS: usize = 128;
+
+pub const RIGHTS: usize = 192;
+
+// The mask at place `i` of the part that begins at `base`.
+pub fn mask_at(graph: &[u64; 256], base: usize, i: usize) -> u64
+    requires { ⌜ (base ≤ 192) × (i < 64) ⌝ }
+    ensures { λ r. ⌜ r ≡ getD (part (now (graph .entry)) base) i 0 ⌝ }
+{
+    graph[base + i]
+}
+
+// The set at place `i`.
+pub fn set_at(graph: &[u64; 256], i: usize) -> u64
+    requires { ⌜ i < 64 ⌝ }
+    ensures { λ r. ⌜ r ≡ getD (graph-of (now (graph .entry)) .sets) i 0 ⌝ }
+{
+    mask_at(graph, SETS, i)
+}
+
+// The states that the left-limit rows of the set at place `i` lead to.
+pub fn lefts_at(graph: &[u64; 256], i: usize) -> u64
+    requires { ⌜ i < 64 ⌝ }
+    ensures { λ r. ⌜ r ≡ getD (graph-of (now (graph .entry)) .lefts) i 0 ⌝ }
+{
+    mask_at(graph, LEFTS, i)
+}
+
+// The states that the right-limit rows of the set at place `i` start from.
+pub fn rights_at(graph: &[u64; 256], i: usize) -> u64
+    requires { ⌜ i < 64 ⌝ }
+    ensures { λ r. ⌜ r ≡ getD (graph-of (now (graph .entry)) .rights) i 0 ⌝ }
+{
+    mask_at(graph, RIGHTS, i)
+}
+
+// The mask at place `i` of the graph turned round, whose letters are `back`.
+fn turned_mask(graph: &[u64; 256], back: &[u64; 64], i: usize) -> u64
+    requires { ⌜ i < 256 ⌝ }
+    ensures { λ r. ⌜ TurnedMask (now (graph .entry)) (now (back .entry)) i r ⌝ }
+{
+    if i < SETS {
+        return back[i];
+    }
+    if i < LEFTS {
+        return graph[i];
+    }
+    if i < RIGHTS {
+        return graph[i + 64];
+    }
+    graph[i - 64]
+}
+
+// The graph with every step turned round.
+pub fn turned(graph: &[u64; 256]) -> [u64; 256]
+    ensures { λ r. ⌜ TurnedGraph (graph-of (now (graph .entry))) (graph-of r) ⌝ }
+{
+    let back = masks::transpose(graph);
+    let mut r = [0u64; 256];
+    let mut i = 0;
+    while i < 256 {
+        r[i] = turned_mask(graph, &back, i);
+        i += 1;
+    }
+    r
+}
