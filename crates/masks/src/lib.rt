@@ -10,8 +10,17 @@ ghost use Rattle.lists.specs.Tests.{Decides};
 ghost use Rattle.masks.specs.Graph.{Targets, SourceAdded, Turned};
 ghost use Rattle.masks.specs.Mask.{member, _∈_, _⊆_, TakesLowest};
 
+// How many states there may be.
+pub const STATES: usize = 64;
+
+// A set of states: bit s says whether state s is in it.
+pub type Set = u64;
+
+// A set of places, fewer than 64, of a list of sets.
+pub type Places = u64;
+
 // Is state `s` in the set `m`?
-pub fn has(m: u64, s: u8) -> bool
+pub fn has(m: Set, s: u8) -> bool
     requires { ⌜ s < 64 ⌝ }
     ensures { λ r. ⌜ r ≡ member s m ⌝ }
 {
@@ -19,7 +28,7 @@ pub fn has(m: u64, s: u8) -> bool
 }
 
 // The states of `m`, and `s`.
-pub fn with(m: u64, s: u8) -> u64
+pub fn with(m: Set, s: u8) -> Set
     requires { ⌜ s < 64 ⌝ }
     ensures { λ r. ⌜ ((t : ℕ) → member t r ≡ (member t m || eqb t s)) ⌝ }
 {
@@ -27,35 +36,35 @@ pub fn with(m: u64, s: u8) -> u64
 }
 
 // The states of `a` or of `b`.
-pub fn union(a: u64, b: u64) -> u64
+pub fn union(a: Set, b: Set) -> Set
     ensures { λ r. ⌜ ((t : ℕ) → member t r ≡ (member t a || member t b)) ⌝ }
 {
     a | b
 }
 
 // The states of both `a` and `b`.
-pub fn intersection(a: u64, b: u64) -> u64
+pub fn intersection(a: Set, b: Set) -> Set
     ensures { λ r. ⌜ ((t : ℕ) → member t r ≡ (member t a && member t b)) ⌝ }
 {
     a & b
 }
 
 // The states of `a` that are not in `b`.
-pub fn difference(a: u64, b: u64) -> u64
+pub fn difference(a: Set, b: Set) -> Set
     ensures { λ r. ⌜ ((t : ℕ) → member t r ≡ (member t a && not (member t b))) ⌝ }
 {
     a & !b
 }
 
 // Is every state of `a` in `b`?
-pub fn is_subset(a: u64, b: u64) -> bool
+pub fn is_subset(a: Set, b: Set) -> bool
     ensures { λ r. ⌜ Decides r (a ⊆ b) ⌝ }
 {
     difference(a, b) == 0
 }
 
 // The lowest state of `m`, which is not empty.
-pub fn lowest(m: u64) -> u8
+pub fn lowest(m: Set) -> u8
     requires { ⌜ 0 < m ⌝ }
     ensures is { λ r. ⌜ r ∈ m ⌝ }
     ensures least { λ r. ⌜ ((t : ℕ) → t ∈ m → r ≤ t) ⌝ }
@@ -64,7 +73,7 @@ pub fn lowest(m: u64) -> u8
 }
 
 // The states of `m` but the lowest.
-pub fn without_lowest(m: u64) -> u64
+pub fn without_lowest(m: Set) -> Set
     requires { ⌜ 0 < m ⌝ }
     ensures { λ r. ⌜ ((i : ℕ) → i ∈ m → ((t : ℕ) → t ∈ m → i ≤ t) → (t : ℕ) → (t ∈ r) ↔ ((t ∈ m) × (t ≢ i))) ⌝ }
 {
@@ -74,11 +83,11 @@ pub fn without_lowest(m: u64) -> u64
 // The lowest state of a set, and the others.
 pub struct Taken {
     pub low: u8,
-    pub rest: u64,
+    pub rest: Set,
 }
 
 // Takes the lowest state out of `m`, which is not empty.
-pub fn take_lowest(m: u64) -> Taken
+pub fn take_lowest(m: Set) -> Taken
     requires { ⌜ 0 < m ⌝ }
     ensures { λ r. ⌜ TakesLowest m (r .low) (r .rest) ⌝ }
 {
@@ -89,11 +98,11 @@ pub fn take_lowest(m: u64) -> Taken
 }
 
 // The targets of all the states of `m`. What stands in `succ` past the 64 states is not read.
-pub fn targets(succ: &[u64], m: u64) -> u64
+pub fn targets(succ: &[Set], m: Set) -> Set
     requires { ⌜ 64 ≤ length (now succ) ⌝ }
     ensures { λ r. ⌜ Targets (now (succ .entry)) m r ⌝ }
 {
-    let mut r: u64 = 0;
+    let mut r: Set = 0;
     let mut rest = m;
     while rest != 0 {
         let next = take_lowest(rest);
@@ -104,7 +113,7 @@ pub fn targets(succ: &[u64], m: u64) -> u64
 }
 
 // Adds `i` to the masks at the places of `m`.
-fn add_source(back: &mut [u64; 64], m: u64, i: u8)
+fn add_source(back: &mut [Set; STATES], m: Set, i: u8)
     requires { ⌜ i < 64 ⌝ }
     ensures { λ _. ⌜ SourceAdded (now (back .entry)) m i (now (back .exit)) ⌝ }
 {
@@ -118,11 +127,11 @@ fn add_source(back: &mut [u64; 64], m: u64, i: u8)
 }
 
 // The graph with every edge turned round. What stands in `succ` past the 64 states is not read.
-pub fn transpose(succ: &[u64]) -> [u64; 64]
+pub fn transpose(succ: &[Set]) -> [Set; STATES]
     requires { ⌜ 64 ≤ length (now succ) ⌝ }
     ensures { λ r. ⌜ Turned (now (succ .entry)) r ⌝ }
 {
-    let mut back = [0u64; 64];
+    let mut back = [0u64; STATES];
     let mut i: u8 = 0;
     while i < 64 {
         add_source(&mut back, succ[i as usize], i);

@@ -11,6 +11,40 @@ ghost use Rattle.rows.specs.Reading.{set-at, state-row, step-row, limit-
 ghost use Rattle.rows.specs.Keys.{high, low, row-from, set-or-none};
 ghost use Rattle.rows.specs.Storing.{stored};
 
+// Document 01's limits: rows that may stand, and different sets of them.
+pub const MOST_ROWS: usize = 256;
+
+pub const MOST_SETS: usize = 64;
+
+// States are 0 to this.
+const LAST_STATE: u8 = 63;
+
+// The weights of a word's bytes: 256 to the power 1 to 7.
+const BYTE_1: u64 = 256;
+
+const BYTE_2: u64 = 256 * BYTE_1;
+
+const BYTE_3: u64 = 256 * BYTE_2;
+
+const BYTE_4: u64 = 256 * BYTE_3;
+
+const BYTE_5: u64 = 256 * BYTE_4;
+
+const BYTE_6: u64 = 256 * BYTE_5;
+
+const BYTE_7: u64 = 256 * BYTE_6;
+
+// The kinds as first bytes of a key.
+const INITIAL: u64 = BYTE_7;
+
+const FINAL: u64 = 2 * BYTE_7;
+
+const SUCCESSOR: u64 = 3 * BYTE_7;
+
+const LEFT_LIMIT: u64 = 4 * BYTE_7;
+
+const RIGHT_LIMIT: u64 = 5 * BYTE_7;
+
 // Document 01, "Rows and the batch": the five kinds.
 pub enum Row {
     Initial(u8),
@@ -44,7 +78,7 @@ fn join16(a: u16, b: u16) -> u32
 fn join32(a: u32, b: u32) -> u64
     ensures { λ r. ⌜ r ≡ a * 4294967296 + b ⌝ }
 {
-    (a as u64) * 4294967296 + (b as u64)
+    (a as u64) * BYTE_4 + (b as u64)
 }
 
 // The set at place `at`: eight bytes, most significant first.
@@ -67,7 +101,7 @@ fn read_state(rest: &[u8], initial: bool) -> ReadRow
         return ReadRow::Refused(3);
     }
     let state = rest[1];
-    if 63 < state {
+    if LAST_STATE < state {
         return ReadRow::Refused(4);
     }
     if initial {
@@ -87,10 +121,10 @@ fn read_step(rest: &[u8]) -> ReadRow
     let from = rest[1];
     let letter = rest[2];
     let to = rest[3];
-    if 63 < from {
+    if LAST_STATE < from {
         return ReadRow::Refused(4);
     }
-    if 63 < to {
+    if LAST_STATE < to {
         return ReadRow::Refused(4);
     }
     ReadRow::Read(Row::Successor(from, letter, to), 4)
@@ -105,7 +139,7 @@ fn read_limit(rest: &[u8], left: bool, state_place: usize, set_place: usize) -> 
         return ReadRow::Refused(3);
     }
     let state = rest[state_place];
-    if 63 < state {
+    if LAST_STATE < state {
         return ReadRow::Refused(4);
     }
     let set = set_at(rest, set_place);
@@ -155,14 +189,14 @@ fn put_set(buf: &mut [u8], at: usize, set: u64)
     requires { ⌜ at + 8 ≤ length (now buf) ⌝ }
     ensures { λ _. ⌜ now (buf .exit) ≡ stored (now (buf .entry)) at set ⌝ }
 {
-    buf[at] = (set / 72057594037927936 % 256) as u8;
-    buf[at + 1] = (set / 281474976710656 % 256) as u8;
-    buf[at + 2] = (set / 1099511627776 % 256) as u8;
-    buf[at + 3] = (set / 4294967296 % 256) as u8;
-    buf[at + 4] = (set / 16777216 % 256) as u8;
-    buf[at + 5] = (set / 65536 % 256) as u8;
-    buf[at + 6] = (set / 256 % 256) as u8;
-    buf[at + 7] = (set % 256) as u8;
+    buf[at] = (set / BYTE_7 % BYTE_1) as u8;
+    buf[at + 1] = (set / BYTE_6 % BYTE_1) as u8;
+    buf[at + 2] = (set / BYTE_5 % BYTE_1) as u8;
+    buf[at + 3] = (set / BYTE_4 % BYTE_1) as u8;
+    buf[at + 4] = (set / BYTE_3 % BYTE_1) as u8;
+    buf[at + 5] = (set / BYTE_2 % BYTE_1) as u8;
+    buf[at + 6] = (set / BYTE_1 % BYTE_1) as u8;
+    buf[at + 7] = (set % BYTE_1) as u8;
 }
 
 // Writes the row's bytes at the front of the buffer.
@@ -208,14 +242,14 @@ pub fn high_of(row: Row) -> u64
     ensures { λ r. ⌜ r ≡ high row ⌝ }
 {
     match row {
-        Row::Initial(s) => 72057594037927936 + (s as u64) * 281474976710656,
-        Row::Final(s) => 144115188075855872 + (s as u64) * 281474976710656,
-        Row::Successor(p, a, q) => 216172782113783808
-            + (p as u64) * 281474976710656
-            + (a as u64) * 1099511627776
-            + (q as u64) * 4294967296,
-        Row::LeftLimit(set, _) => 288230376151711744 + set / 256,
-        Row::RightLimit(q, set) => 360287970189639680 + (q as u64) * 281474976710656 + set / 65536,
+        Row::Initial(s) => INITIAL + (s as u64) * BYTE_6,
+        Row::Final(s) => FINAL + (s as u64) * BYTE_6,
+        Row::Successor(p, a, q) => SUCCESSOR
+            + (p as u64) * BYTE_6
+            + (a as u64) * BYTE_5
+            + (q as u64) * BYTE_4,
+        Row::LeftLimit(set, _) => LEFT_LIMIT + set / BYTE_1,
+        Row::RightLimit(q, set) => RIGHT_LIMIT + (q as u64) * BYTE_6 + set / BYTE_2,
     }
 }
 
@@ -227,8 +261,8 @@ pub fn low_of(row: Row) -> u64
         Row::Initial(_) => 0,
         Row::Final(_) => 0,
         Row::Successor(_, _, _) => 0,
-        Row::LeftLimit(set, q) => set % 256 * 256 + (q as u64),
-        Row::RightLimit(_, set) => set % 65536,
+        Row::LeftLimit(set, q) => set % BYTE_1 * BYTE_1 + (q as u64),
+        Row::RightLimit(_, set) => set % BYTE_2,
     }
 }
 
@@ -236,20 +270,20 @@ pub fn low_of(row: Row) -> u64
 pub fn row_of(high: u64, low: u64) -> Row
     ensures { λ r. ⌜ r ≡ row-from high low ⌝ }
 {
-    let first = (high / 281474976710656 % 256) as u8;
-    match high / 72057594037927936 {
+    let first = (high / BYTE_6 % BYTE_1) as u8;
+    match high / BYTE_7 {
         1 => Row::Initial(first),
         2 => Row::Final(first),
         3 => Row::Successor(
             first,
-            (high / 1099511627776 % 256) as u8,
-            (high / 4294967296 % 256) as u8,
+            (high / BYTE_5 % BYTE_1) as u8,
+            (high / BYTE_4 % BYTE_1) as u8,
         ),
         4 => Row::LeftLimit(
-            high % 72057594037927936 * 256 + low / 256 % 256,
-            (low % 256) as u8,
+            high % BYTE_7 * BYTE_1 + low / BYTE_1 % BYTE_1,
+            (low % BYTE_1) as u8,
         ),
-        _ => Row::RightLimit(first, high % 281474976710656 * 65536 + low % 65536),
+        _ => Row::RightLimit(first, high % BYTE_6 * BYTE_2 + low % BYTE_2),
     }
 }
 
