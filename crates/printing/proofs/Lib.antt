@@ -1,2 +1,3 @@
 -- The laws that the proofs of `printing` share.
 pub mod Printing
+pub mod Saving

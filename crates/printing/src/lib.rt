@@ -1,4 +1,6 @@
-// The sheet of a settled automaton, written from its keys, its sets, its masks and its rounds into a lent buffer.
+// The sheet of a settled automaton, written from its keys, its sets, its masks and its rounds into a lent buffer; in `saved`, its rows.
+pub mod saved;
+
 use automaton::Automaton;
 use machine::Answer;
 use machine::Verdict;

@@ -1,15 +1,16 @@
 -- Print and save on the record: what is written from its arrays is what the machine writes.
 use Prim.Native.Nat.{ℕ}
-use mathlib.Core.Path.{_≡_, ap, sym, _∙_}
+use mathlib.Core.Path.{_≡_, ap, sym, _∙_, subst}
 use mathlib.Core.List.{List}
 use lib.ListN.{length, take}
 use lib.Seq.{take-append-seam}
 use Rattle.rows.specs.declared.Row.{Row}
-use Rattle.rows.specs.Rows.{batch-of, sets}
+use Rattle.lists.specs.Order.{sort-by}
+use Rattle.rows.specs.Rows.{row-bytes, batch-of, sets}
 use Rattle.machine.specs.declared.Answer.{Answer}
 use Rattle.machine.specs.declared.Verdict.{Verdict}
 use Rattle.machine.specs.Machine.{Machine}
-use Rattle.machine.specs.Calls.{print, save, Next, write, TellsText}
+use Rattle.machine.specs.Calls.{print, save, Next, write, saved, TellsText}
 use Rattle.machine.specs.Causes.{sheets, saves}
 use Rattle.machine.proofs.Tables.{sort-table}
 use Rattle.machine.proofs.Outcomes.{writing}
@@ -17,12 +18,14 @@ use Rattle.table.specs.Arrays.{Keyed}
 use Rattle.automaton.specs.declared.Automaton.{Automaton}
 use Rattle.automaton.specs.Promise.{Gives, GivesKeyed}
 use Rattle.printing.specs.Promise.{PrintsSheet}
+use Rattle.printing.specs.Saving.{row-list}
+use Rattle.printing.proofs.Saving.{rows-held}
 use Rattle.session.specs.declared.Session.{Session}
 use Rattle.session.specs.declared.State.the-variants.{Settled as IsSettled}
 use Rattle.session.specs.Record.{record-of, Represents}
 use Rattle.session.specs.Promise.{Keeps, KeepsIn, At}
 use Rattle.session.specs.Standing.{standing, reply, rounds-in, Reads}
-use Rattle.session.proofs.Whole.{set-count-of, sets-array, standing-of, keyed-of, worded-of}
+use Rattle.session.proofs.Whole.{set-count-of, sets-array, keyed-of, worded-of}
 use Rattle.session.proofs.Gate.{does-as}
 use Rattle.session.proofs.Rounded.{kept-of}
 
@@ -43,7 +46,9 @@ prints-settled s v high low keyed a reads old new r h m p e = record {
 }
 
 -- the rows of a session
-pub saves-rows : (s : Session) (old new : List ℕ) (r : Answer) → TellsText (batch-of (standing s)) old new r → Keeps s (save (length old)) old new (reply s r)
-saves-rows s old new r t m p = does-as m (save (length old)) (write m (length old) (batch-of (standing s)))
-    (writing m (saves (length old)) ∙ ap (λ (rows : List Row). write m (length old) (batch-of rows)) (sort-table (m .rows) (p .formed .table) ∙ sym (standing-of m s p)))
-    (p .whole) t
+pub saves-rows : (s : Session) (high low : List ℕ) → Keyed (standing s) high low (s .«row_count») → (old new : List ℕ) (r : Answer)
+    → TellsText (batch-of (row-list high low (s .«row_count»))) old new r → Keeps s (save (length old)) old new (reply s r)
+saves-rows s high low keyed old new r t m p =
+    let held : row-list high low (s .«row_count») ≡ sort-by row-bytes (m .rows) = rows-held high low (m .rows) (p .formed .table .fit) (s .«row_count») (keyed-of m s p high low keyed) ∙ sym (sort-table (m .rows) (p .formed .table)) in
+    does-as m (save (length old)) (write m (length old) (saved m)) (writing m (saves (length old))) (p .whole)
+    (subst (λ (rows : List Row). TellsText (batch-of rows) old new r) held t)

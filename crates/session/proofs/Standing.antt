@@ -1,53 +1,25 @@
--- The rows of an array, one after another: their bytes, their keys, and the array of the rows of some keys.
-use Prim.Native.Nat.{ℕ, zero, suc, _+_, _-_, _<_, _≤_}
+-- The rows of an array, one after another: their keys, and the array of the rows of some keys.
+use Prim.Native.Nat.{ℕ, suc, _+_, _-_, _<_, _≤_}
 use mathlib.Core.Path.{_≡_, refl, ap, sym, _∙_}
-use mathlib.Core.List.{List, [], _∷_, _++_, map, map-append, append-assoc, append-nil, List·Memᴰ·head, List·Memᴰ·tail}
+use mathlib.Core.List.{List, [], _∷_, _++_, map, map-append}
 use native.Mathlib.Omega.{arith}
-use lib.ListN.{length, getD, take, drop, set, replicate, length-append, length-map}
-use lib.Seq.{take-suc, take-add, take-suc-set, getD-take, length-take-le, set-at, append-snoc}
-use Rattle.lists.specs.Tests.{_among_, gather}
-use Rattle.lists.proofs.Places.{getD-among, getD-map, gather-append}
+use lib.ListN.{length, getD, take, set, replicate, length-append, length-map}
+use lib.Seq.{take-suc, take-suc-set, length-take-le, set-at, append-snoc}
 use Rattle.rows.specs.declared.Row.{Row}
-use Rattle.rows.specs.declared.Row.the-variants.{Initial, Final, Successor, LeftLimit, RightLimit}
-use Rattle.rows.specs.Rows.{row-bytes, batch-of, AllFit}
+use Rattle.rows.specs.declared.Row.the-variants.{Initial}
+use Rattle.rows.specs.Rows.{AllFit}
 use Rattle.rows.specs.Keys.{high, low, row-from}
-use Rattle.rows.proofs.Keys.{key-back}
-use Rattle.automaton.proofs.Passing.{row-there}
 use Rattle.table.specs.Arrays.{padded, Keyed}
+use Rattle.table.proofs.Keys.{row-there}
 use Rattle.session.specs.declared.Slot.{Slot}
 use Rattle.session.specs.Record.{slot, blank}
 use Rattle.session.specs.Standing.{first-rows}
 
-pub row-short : (r : Row) → length (row-bytes r) ≤ 10
-unfolding row-bytes
-row-short (Initial s) = omega arith
-row-short (Final s) = omega arith
-row-short (Successor p a q) = omega arith
-row-short (LeftLimit P q) = omega arith
-row-short (RightLimit q P) = omega arith
-
 module _ (l : List Slot) where
   -- one row more
-  pub row-more : (i : ℕ) → i < length l → first-rows (i + 1) l ≡ first-rows i l ++ (getD l i blank .row ∷ [])
+  row-more : (i : ℕ) → i < length l → first-rows (i + 1) l ≡ first-rows i l ++ (getD l i blank .row ∷ [])
   unfolding first-rows
   row-more i h = let e : i + 1 ≡ suc i = omega arith in rw (e, take-suc l i blank h) (map-append (λ (s : Slot). s .row) (take i l) (getD l i blank ∷ []))
-
-  pub bytes-more : (i : ℕ) → i < length l → batch-of (first-rows (i + 1) l) ≡ batch-of (first-rows i l) ++ row-bytes (getD l i blank .row)
-  bytes-more i h = ap batch-of (row-more i h) ∙ gather-append row-bytes (first-rows i l) (getD l i blank .row ∷ [])
-      ∙ ap (λ (t : List ℕ). batch-of (first-rows i l) ++ t) (append-nil (row-bytes (getD l i blank .row)))
-
-  -- the next row is within the bytes of all
-  pub bytes-within : (i n : ℕ) → i < n → n ≤ length l
-      → length (batch-of (first-rows i l)) + length (row-bytes (getD l i blank .row)) ≤ length (batch-of (first-rows n l))
-  unfolding first-rows
-  bytes-within i n h k =
-      let row : Slot → Row = λ s. s .row in
-      let e : (i + 1) + (n - (i + 1)) ≡ n = omega arith in
-      let s : first-rows n l ≡ first-rows (i + 1) l ++ map row (take (n - (i + 1)) (drop (i + 1) l)) =
-      ap (λ (j : ℕ). map row (take j l)) (sym e) ∙ ap (map row) (take-add (i + 1) (n - (i + 1)) l) ∙ map-append row (take (i + 1) l) (take (n - (i + 1)) (drop (i + 1) l)) in
-      let a = ap length (ap batch-of s ∙ gather-append row-bytes (first-rows (i + 1) l) (map row (take (n - (i + 1)) (drop (i + 1) l)))) in
-      let b = ap length (bytes-more i (omega arith)) in
-      omega (arith, simp length-append at a, simp length-append at b)
 
   -- one key more
   pub key-more : (i : ℕ) (highs lows : List ℕ) → i < length l → i < length highs → i < length lows → Keyed (first-rows i l) highs lows i

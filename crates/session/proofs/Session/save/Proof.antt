@@ -1,6 +1,5 @@
 -- `save` meets its contract, by the state of the session.
 use Rattle.session.proofs.Gate.{meets, in-any-phase, free}
-use Rattle.session.proofs.Printed.{saves-rows}
 use borrow.Author.Needs.{needs}
 use Rattle.session.proofs.Session.save.Statement.{statement}
 use Rattle.session.proofs.Session.save.Tie as tie
@@ -28,10 +27,7 @@ same-length : tie.Need-same-length
 same-length c = search needs
 
 returns-2 : tie.Need-returns-2
-returns-2 c =
-    let w = c .before .before in
-    let a = w .before .before .before .before .before .args in
-    saves-rows (a .self) (a .buffer .now) (w .save-rows .last .1 .0) (w .save-rows .result) (w .save-rows .ensures)
+returns-2 c = search needs
 
 pub save-spec : {M : Type 1} → statement M
 save-spec =

@@ -1,35 +1,24 @@
--- `save_rows` meets its contract, with a buffer that is too short, and with one that is long enough.
-use native.Mathlib.Omega.{arith}
-use Rattle.rows.specs.Rows.{batch-of}
-use Rattle.machine.proofs.Answers.{tells-text, tells-short}
-use Rattle.session.specs.Standing.{standing}
+-- `save_rows` meets its contract: the keys are those of the standing rows.
+use Rattle.session.proofs.Printed.{saves-rows}
 use borrow.Author.Needs.{needs}
 use Rattle.session.proofs.Session.save_rows.Statement.{statement}
 use Rattle.session.proofs.Session.save_rows.Tie as tie
 
-saved-len-requires : tie.Need-saved-len-requires
-saved-len-requires c κs = search needs
+keys-requires : tie.Need-keys-requires
+keys-requires c κs = search needs
 
-returns : tie.Need-returns
-returns c =
-    let t = c .before in
-    let a = t .before .before .args in
-    tells-short (batch-of (standing (a .self))) (a .buffer .now) (omega (arith, t .saved-len .ensures, c .if1 .taken))
-
-write-rows-requires : tie.Need-write-rows-requires
-write-rows-requires c κs = search needs
+save-requires : tie.Need-save-requires
+save-requires c κs = search needs
 
 same-length : tie.Need-same-length
 same-length c = search needs
 
-returns-2 : tie.Need-returns-2
-returns-2 c =
-    let w = c .before .before in
-    let e = w .before .before in
-    let t = e .before in
-    let a = t .before .before .args in
-    tells-text (batch-of (standing (a .self))) (a .buffer .now) (omega (arith, t .saved-len .ensures, e .if1 .left)) (w .write-rows .ensures)
+returns : tie.Need-returns
+returns c =
+    let p = c .before .before in
+    let y = p .before .before .before .before .before .before in
+    let s = y .before .before .args in
+    saves-rows (s .self) (y .keys .result .high) (y .keys .result .low) (y .keys .ensures) (s .buffer .now) (p .save .last .0) (p .save .result) (p .save .ensures)
 
 pub save-rows-spec : {M : Type 1} → statement M
-save-rows-spec =
-    tie.close (tie.spec saved-len-requires returns write-rows-requires same-length returns-2)
+save-rows-spec = tie.close (tie.spec keys-requires save-requires same-length returns)

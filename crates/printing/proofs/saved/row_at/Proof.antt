@@ -2,8 +2,8 @@
 use Rattle.rows.specs.Rows.{row-bytes}
 use Rattle.lists.proofs.Writing.{wrote-at-part}
 use borrow.Author.Needs.{needs}
-use Rattle.session.proofs.saving.row_at.Statement.{statement}
-use Rattle.session.proofs.saving.row_at.Tie as tie
+use Rattle.printing.proofs.saved.row_at.Statement.{statement}
+use Rattle.printing.proofs.saved.row_at.Tie as tie
 
 sub-write-row : tie.Need-sub-write-row
 sub-write-row c = search needs
