@@ -75,7 +75,7 @@ module _ (m : Machine) (w : WellFormed m) where
       (eq-or-lt-of-le (no-more (m .rows) s (k .0) (k .2)))
 
   pub no-13 : (c : Call) (place : ℕ) → Brings c → ¬ (call m c .answer ≡ refused 13 place)
-  no-13 c place b e = let h = only-rounds m c 13 place (w .table) refl (refusals m c 13 place b .0 e) in omega (arith, never-130th (h .0), h .1)
+  no-13 c place b e = let h = only-rounds m c 13 place refl (refusals m c 13 place (w .table) b .0 e) in omega (arith, never-130th (h .0), h .1)
 
   pub worked-listed : Worked m → Listed m
   worked-listed k = subst Listed (sym (k .1)) (after-listed (m .rows) (k .0))

@@ -9,6 +9,7 @@ pub mod Text
 pub mod Sheet
 pub mod Tables
 pub mod Answers
+pub mod Failing
 pub mod Outcomes
 pub mod Loading
 pub mod Causes

@@ -17,6 +17,8 @@ use Rattle.machine.specs.Machine.{Machine, load-row, withdraw-row, close
 use Rattle.machine.specs.Calls.{Call, load, withdraw, close, round, reopen, print, save, Outcome, done, wrote, refused, Next, accept, refuse-at, with-rows, write, saved, call-in, call, Brings}
 use Rattle.machine.specs.Causes.{NotOpen, running, settled, loading, withdrawing, closing, reopening, rounding, printing, Writes, sheets, saves, Cause, not-open, load-fails, withdraw-fails, still-open, round-settled, print-running, short-buffer, last-round}
 use Rattle.machine.specs.Sheet.{sheet}
+use Rattle.machine.specs.WellFormed.{Table}
+use Rattle.machine.proofs.Failing.{load-fails-iff, withdraw-fails-iff}
 
 -- the machine with other rows
 abbrev pub rows-to : Machine → List Row → Machine
@@ -34,13 +36,13 @@ pub data Done (m : Machine) : Call → Machine → Type 0 where
 abbrev pub Comes : Machine → Call → Machine → Outcome → Type 0
 Comes m c m′ done = Done m c m′
 Comes m c m′ (wrote l) = (m′ ≡ m) × (size : ℕ) × Writes m c l size × (length l ≤ size)
-Comes m c m′ (refused n place) = (m′ ≡ m) × (Brings c → Cause m c n place)
+Comes m c m′ (refused n place) = (m′ ≡ m) × (Table (m .rows) → Brings c → Cause m c n place)
 
 abbrev To : Machine → Call → Next → Type 0
 To m c x = Comes m c (x .machine) (x .answer)
 
 module _ (m : Machine) where
-  fed-comes : (c : Call) (x : Fed (List Row)) → ((rows : List Row) → x ≡ fed rows → Done m c (rows-to m rows)) → ((n place : ℕ) → x ≡ failed n place → Brings c → Cause m c n place)
+  fed-comes : (c : Call) (x : Fed (List Row)) → ((rows : List Row) → x ≡ fed rows → Done m c (rows-to m rows)) → ((n place : ℕ) → x ≡ failed n place → Table (m .rows) → Brings c → Cause m c n place)
       → To m c (with-rows m x)
   fed-comes c (fed rows) f g = f rows refl
   fed-comes c (failed n place) f g = (refl, g n place refl)
@@ -49,7 +51,7 @@ module _ (m : Machine) where
   write-comes c l size w = by (ltb size (length l)) (ltb· size (length l))
     where
       by : (b : Bool) → Decides b (size < length l) → To m c (record { machine = m; answer = cond b (refused 12 0) (wrote l) })
-      by true d = (refl, λ b. short-buffer c l size w (yes· d))
+      by true d = (refl, λ t b. short-buffer c l size w (yes· d))
       by false d = (refl, size, w, let n = no· d in omega arith)
 
   round-comes : m .phase ≡ Running → To m round (cond (ltb (m .rounds) 129) (accept (next-round m)) (refuse-at m 13 0))
@@ -57,28 +59,28 @@ module _ (m : Machine) where
     where
       by : (b : Bool) → Decides b (m .rounds < 129) → To m round (cond b (accept (next-round m)) (refuse-at m 13 0))
       by true d = round-done e (yes· d)
-      by false d = (refl, λ b. last-round e (let n = no· d in omega arith))
+      by false d = (refl, λ t b. last-round e (let n = no· d in omega arith))
 
   comes-in : (p : Phase) (c : Call) → m .phase ≡ p → To m c (call-in p m c)
   unfolding call-in
-  comes-in Open (load l) e = fed-comes (load l) (feed load-row (m .rows) l) (λ rows i. load-done l rows e i) (λ n place i b. load-fails l n place e (feed-fails load-row (m .rows) l n place b .0 i))
-  comes-in Open (withdraw l) e = fed-comes (withdraw l) (feed withdraw-row (m .rows) l) (λ rows i. withdraw-done l rows e i) (λ n place i b. withdraw-fails l n place e (feed-fails withdraw-row (m .rows) l n place b .0 i))
+  comes-in Open (load l) e = fed-comes (load l) (feed load-row (m .rows) l) (λ rows i. load-done l rows e i) (λ n place i t b. load-fails l n place e (load-fails-iff (m .rows) t l n place .0 (feed-fails load-row (m .rows) l n place b .0 i)))
+  comes-in Open (withdraw l) e = fed-comes (withdraw l) (feed withdraw-row (m .rows) l) (λ rows i. withdraw-done l rows e i) (λ n place i t b. withdraw-fails l n place e (withdraw-fails-iff (m .rows) t l n place .0 (feed-fails withdraw-row (m .rows) l n place b .0 i)))
   comes-in Open close e = close-done e
-  comes-in Open round e = (refl, λ b. still-open round rounding e)
-  comes-in Open reopen e = (refl, λ b. still-open reopen reopening e)
-  comes-in Open (print size) e = (refl, λ b. still-open (print size) (printing size) e)
+  comes-in Open round e = (refl, λ t b. still-open round rounding e)
+  comes-in Open reopen e = (refl, λ t b. still-open reopen reopening e)
+  comes-in Open (print size) e = (refl, λ t b. still-open (print size) (printing size) e)
   comes-in Open (save size) e = write-comes (save size) (saved m) size (saves size)
-  comes-in Running (load l) e = (refl, λ b. not-open (load l) (loading l) (rw e running))
-  comes-in Running (withdraw l) e = (refl, λ b. not-open (withdraw l) (withdrawing l) (rw e running))
-  comes-in Running close e = (refl, λ b. not-open close closing (rw e running))
+  comes-in Running (load l) e = (refl, λ t b. not-open (load l) (loading l) (rw e running))
+  comes-in Running (withdraw l) e = (refl, λ t b. not-open (withdraw l) (withdrawing l) (rw e running))
+  comes-in Running close e = (refl, λ t b. not-open close closing (rw e running))
   comes-in Running round e = round-comes e
   comes-in Running reopen e = reopen-done (rw e running)
-  comes-in Running (print size) e = (refl, λ b. print-running size e)
+  comes-in Running (print size) e = (refl, λ t b. print-running size e)
   comes-in Running (save size) e = write-comes (save size) (saved m) size (saves size)
-  comes-in (Settled v) (load l) e = (refl, λ b. not-open (load l) (loading l) (rw e (settled v)))
-  comes-in (Settled v) (withdraw l) e = (refl, λ b. not-open (withdraw l) (withdrawing l) (rw e (settled v)))
-  comes-in (Settled v) close e = (refl, λ b. not-open close closing (rw e (settled v)))
-  comes-in (Settled v) round e = (refl, λ b. round-settled v e)
+  comes-in (Settled v) (load l) e = (refl, λ t b. not-open (load l) (loading l) (rw e (settled v)))
+  comes-in (Settled v) (withdraw l) e = (refl, λ t b. not-open (withdraw l) (withdrawing l) (rw e (settled v)))
+  comes-in (Settled v) close e = (refl, λ t b. not-open close closing (rw e (settled v)))
+  comes-in (Settled v) round e = (refl, λ t b. round-settled v e)
   comes-in (Settled v) reopen e = reopen-done (rw e (settled v))
   comes-in (Settled v) (print size) e = write-comes (print size) (sheet v m) size (sheets v size e)
   comes-in (Settled v) (save size) e = write-comes (save size) (saved m) size (saves size)

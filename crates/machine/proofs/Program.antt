@@ -81,7 +81,7 @@ module _ (l : List ℕ) (b : Bytes l) where
   on-answer m done h e d w =
       subst (λ x. ProgramWrites l (shown x)) (sym (settled-sheet m (w .table) (loaded-is d) 6400 (omega arith))) (sheet-of m (s (m .rows) (w .table) .verdict) h e (settled-second (m .rows) (w .table)))
   on-answer m (wrote k) h e d w = absurd (load-writes (d .2))
-  on-answer m (refused n place) h e d w = refusal n place h (d .1 b)
+  on-answer m (refused n place) h e d w = refusal n place h (d .1 no-rows b)
 
   same-ending : (m : Machine) (a : Outcome) (size : ℕ) → 6400 ≤ size → Comes fresh (load l) m a → WellFormed m → ending m size a ≡ ending m 6400 a
   same-ending m done size h d w = settled-sheet m (w .table) (loaded-is d) size h ∙ sym (settled-sheet m (w .table) (loaded-is d) 6400 (omega arith))

@@ -137,8 +137,9 @@ feed-keeps rule k rows rows′ l b t e = let o = feed-runs rule rows rows′ l b
     run-over rule (λ s batch u. AllFit batch → Table s → Table u) (λ s f t. t)
     (λ r batch s u v i below f t. below (λ x m. f x (List·Memᴰ·tail m)) (k r s u (f r (List·Memᴰ·head refl)) t i)) (o .rows) rows rows′ (o .ran) (o .fit) t
 
-pub load-keeps : (rows rows′ : List Row) (l : List ℕ) → Bytes l → Table rows → feed load-row rows l ≡ fed rows′ → Table rows′
-load-keeps = feed-keeps load-row (λ r rows rows′ f t e. ⊎-elim
+-- one row keeps a table
+pub load-one : (r : Row) (rows rows′ : List Row) → Fits r → Table rows → load-row r rows ≡ go rows′ → Table rows′
+load-one r rows rows′ f t e = ⊎-elim
     (λ p. rw (p .1) t)
     (λ p. subst Table (sym (p .3)) (record {
       sorted = insert-sorted row-bytes r rows (t .sorted);
@@ -147,40 +148,47 @@ load-keeps = feed-keeps load-row (λ r rows rows′ f t e. ⊎-elim
       few = omega (arith, insert-length row-bytes r rows, p .1);
       few-sets = rw (p .3) at (p .2);
     }))
-    (load-go r rows rows′ e))
+    (load-go r rows rows′ e)
 
-pub withdraw-keeps : (rows rows′ : List Row) (l : List ℕ) → Bytes l → Table rows → feed withdraw-row rows l ≡ fed rows′ → Table rows′
-withdraw-keeps = feed-keeps withdraw-row (λ r rows rows′ f t e. let part : without r rows part-of rows = λ x m. kept _ rows x m in
+pub withdraw-one : (r : Row) (rows rows′ : List Row) → Fits r → Table rows → withdraw-row r rows ≡ go rows′ → Table rows′
+withdraw-one r rows rows′ f t e = let part : without r rows part-of rows = λ x m. kept _ rows x m in
     subst Table (sym (withdraw-go r rows rows′ e .1)) (record {
       sorted = keep-sorted row-bytes _ rows (t .sorted);
       once = keep-once _ rows (t .once);
       fit = λ x m. t .fit x (part x m);
       few = omega (arith, t .few, keep-length (λ s. not (same-row r s)) rows);
       few-sets = omega (arith, t .few-sets, sets-fewer (without r rows) rows part);
-    }))
+    })
+
+pub load-keeps : (rows rows′ : List Row) (l : List ℕ) → Bytes l → Table rows → feed load-row rows l ≡ fed rows′ → Table rows′
+load-keeps = feed-keeps load-row load-one
+
+pub withdraw-keeps : (rows rows′ : List Row) (l : List ℕ) → Bytes l → Table rows → feed withdraw-row rows l ≡ fed rows′ → Table rows′
+withdraw-keeps = feed-keeps withdraw-row withdraw-one
+
+-- one row as a set
+pub load-adds : (r : Row) (s u : List Row) → load-row r s ≡ go u → (x : Row) → x among u ↔ ((x ≡ r) ⊎ x among s)
+load-adds r s u i x = ⊎-elim (λ p. rw (p .1) (inr, ⊎-elim (λ q. rw q (p .0)) (λ m. m))) (λ p. rw (p .3) (insert-iff row-bytes r s x)) (load-go r s u i)
+
+pub withdraw-drops : (r : Row) (s u : List Row) → withdraw-row r s ≡ go u → (x : Row) → x among u ↔ (x among s × ¬ (r ≡ x))
+withdraw-drops r s u i x = rw (withdraw-go r s u i .1) (keep· (λ y. not· (same-row· r y)) s x)
 
 -- a batch as a set of rows
 pub load-sets : (rows rows′ batch : List Row) → run-rows load-row rows batch ≡ go rows′ → (r : Row) → r among rows′ ↔ (r among rows ⊎ r among batch)
 load-sets rows rows′ batch e x =
     run-over load-row (λ s batch t. x among t ↔ (x among s ⊎ x among batch)) (λ s. (inl, ⊎-elim (λ m. m) (λ m. absurd (List·Memᴰ·not-nil m))))
-    (λ r batch s u t i below. let g = one r s u i in (
+    (λ r batch s u t i below. let g = load-adds r s u i x in (
       (λ m. ⊎-elim (λ j. ⊎-elim (λ q. inr (List·Memᴰ·head q)) inl (g .0 j)) (λ j. inr (List·Memᴰ·tail j)) (below .0 m)),
       λ m. below .1 (⊎-elim (λ j. inl (g .1 (inr j))) (λ j. ⊎-elim (λ q. inl (g .1 (inl q))) inr (List·Memᴰ·cases-cons j)) m),
     )) batch rows rows′ e
-  where
-    one : (r : Row) (s u : List Row) → load-row r s ≡ go u → x among u ↔ ((x ≡ r) ⊎ x among s)
-    one r s u i = ⊎-elim (λ p. rw (p .1) (inr, ⊎-elim (λ q. rw q (p .0)) (λ m. m))) (λ p. rw (p .3) (insert-iff row-bytes r s x)) (load-go r s u i)
 
 pub withdraw-sets : (rows rows′ batch : List Row) → run-rows withdraw-row rows batch ≡ go rows′ → (r : Row) → r among rows′ ↔ (r among rows × ¬ (r among batch))
 withdraw-sets rows rows′ batch e x =
     run-over withdraw-row (λ s batch t. x among t ↔ (x among s × ¬ (x among batch))) (λ s. ((λ m. (m, λ j. List·Memᴰ·not-nil j)), λ p. p .0))
-    (λ r batch s u t i below. let g = one r s u i in (
+    (λ r batch s u t i below. let g = withdraw-drops r s u i x in (
       (λ m. let b = below .0 m in let p = g .0 (b .0) in (p .0, λ j. ⊎-elim (λ q. p .1 (sym q)) (b .1) (List·Memᴰ·cases-cons j))),
       λ p. below .1 (g .1 (p .0, λ q. p .1 (List·Memᴰ·head (sym q))), λ j. p .1 (List·Memᴰ·tail j)),
     )) batch rows rows′ e
-  where
-    one : (r : Row) (s u : List Row) → withdraw-row r s ≡ go u → x among u ↔ (x among s × ¬ (r ≡ x))
-    one r s u i = rw (withdraw-go r s u i .1) (keep· (λ y. not· (same-row· r y)) s x)
 
 -- rows that fit are told apart by their bytes
 apart : (a b : List Row) → AllFit a → AllFit b → (x y : Row) → x among a → y among b → row-bytes x ≡ row-bytes y → x ≡ y

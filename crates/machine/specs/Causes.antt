@@ -1,16 +1,17 @@
 -- Document 01, "Causes and numbers": the table of causes, as a relation between a machine, a call, a number and a place.
 use Prim.Native.Nat.{ℕ, _<_, _≤_}
 use mathlib.Core.Path.{_≡_}
-use mathlib.Core.List.{List}
+use mathlib.Core.Logic.{_⊎_, _↔_}
+use mathlib.Core.List.{List, _∷_, _++_}
 use lib.ListN.{length}
-use Rattle.lists.specs.Tests.{_among_}
+use Rattle.lists.specs.Tests.{_among_, Once}
 use Rattle.rows.specs.declared.Row.{Row}
-use Rattle.rows.specs.Rows.{sets-of, sets}
-use Rattle.rows.specs.Batch.{Fails}
+use Rattle.rows.specs.Rows.{row-bytes, batch-of, Fits, AllFit, sets-of, sets}
+use Rattle.rows.specs.Reading.{Malformed}
 use Rattle.machine.specs.declared.Verdict.{Verdict}
 use Rattle.machine.specs.declared.Phase.{Phase}
 use Rattle.machine.specs.declared.Phase.the-variants.{Open, Running, Settled}
-use Rattle.machine.specs.Machine.{most-rows, most-sets, most-rounds, Machine, load-row, withdraw-row}
+use Rattle.machine.specs.Machine.{most-rows, most-sets, most-rounds, Machine}
 use Rattle.machine.specs.Sheet.{sheet}
 use Rattle.machine.specs.Calls.{Call, load, withdraw, close, round, reopen, print, save, saved}
 
@@ -36,23 +37,6 @@ pub data Writes (m : Machine) : Call → List ℕ → ℕ → Type 0 where
   sheets : (v : Verdict) (size : ℕ) → m .phase ≡ Settled v → Writes m (print size) (sheet v m) size
   saves : (size : ℕ) → Writes m (save size) (saved m) size
 
-pub data Cause (m : Machine) : Call → ℕ → ℕ → Type 0 where
-  -- load, withdraw or close when not open
-  not-open : (c : Call) → NeedsOpen c → NotOpen (m .phase) → Cause m c 1 0
-  -- a row of the batch: 2 to 5, and 6 and 7 of load, 8 of withdraw
-  load-fails : (l : List ℕ) (n place : ℕ) → m .phase ≡ Open → Fails load-row (m .rows) l n place → Cause m (load l) n place
-  withdraw-fails : (l : List ℕ) (n place : ℕ) → m .phase ≡ Open → Fails withdraw-row (m .rows) l n place → Cause m (withdraw l) n place
-  -- reopen, round or print when open
-  still-open : (c : Call) → NeedsClosed c → m .phase ≡ Open → Cause m c 9 0
-  -- round when settled
-  round-settled : (v : Verdict) → m .phase ≡ Settled v → Cause m round 10 0
-  -- print when running
-  print-running : (size : ℕ) → m .phase ≡ Running → Cause m (print size) 11 0
-  -- print or save: buffer too short
-  short-buffer : (c : Call) (l : List ℕ) (size : ℕ) → Writes m c l size → size < length l → Cause m c 12 0
-  -- a 130th round
-  last-round : m .phase ≡ Running → most-rounds ≤ m .rounds → Cause m round 13 0
-
 -- 6: row not standing, as many stand as may; 7: a set more than there may be
 pub data AdmitStops (max-rows max-sets : ℕ) (rows : List Row) (r : Row) : ℕ → Type 0 where
   full : ¬ (r among rows) → max-rows ≤ length rows → AdmitStops max-rows max-sets rows r 6
@@ -65,3 +49,43 @@ LoadStops rows r n = AdmitStops most-rows most-sets rows r n
 -- 8: row not standing
 pub data WithdrawStops (rows : List Row) (r : Row) : ℕ → Type 0 where
   absent : ¬ (r among rows) → WithdrawStops rows r 8
+
+-- the rows that stand, none twice, after some rows of a batch are loaded, and after some are withdrawn
+abbrev pub AfterLoading : List Row → List Row → List Row → Type 0
+AfterLoading rows batch now = Once now × ((r : Row) → r among now ↔ (r among rows ⊎ r among batch))
+
+abbrev pub AfterWithdrawing : List Row → List Row → List Row → Type 0
+AfterWithdrawing rows batch now = Once now × ((r : Row) → r among now ↔ (r among rows × ¬ (r among batch)))
+
+-- the first row of a batch that fails; Stands says which rows stand after the earlier ones, Stops by which number a row then fails
+pub record FirstFailure (Stands : List Row → List Row → Type 0) (Stops : List Row → Row → ℕ → Type 0) (l : List ℕ) (n place : ℕ) : Type 0 where
+  -- the batch is some rows and more; the place is that of the byte after them
+  pub earlier : List Row
+  pub rest : List ℕ
+  pub fit : AllFit earlier
+  pub split : l ≡ batch-of earlier ++ rest
+  pub more : 0 < length rest
+  pub first-byte : place ≡ length (batch-of earlier)
+  -- none of these rows fails, where those before it count as loaded or withdrawn
+  pub none-fails : (before later now : List Row) (r : Row) (k : ℕ) → earlier ≡ before ++ (r ∷ later) → Stands before now → ¬ Stops now r k
+  -- what follows is no row, by 2 to 5, or a row that fails where all of these do
+  pub now : List Row
+  pub stands : Stands earlier now
+  pub cause : Malformed rest n ⊎ ((r : Row) × (tail : List ℕ) × Fits r × (rest ≡ row-bytes r ++ tail) × Stops now r n)
+
+pub data Cause (m : Machine) : Call → ℕ → ℕ → Type 0 where
+  -- load, withdraw or close when not open
+  not-open : (c : Call) → NeedsOpen c → NotOpen (m .phase) → Cause m c 1 0
+  -- the first row of the batch that fails decides: by 2 to 5, by 6 or 7 of load, by 8 of withdraw
+  load-fails : (l : List ℕ) (n place : ℕ) → m .phase ≡ Open → FirstFailure (AfterLoading (m .rows)) LoadStops l n place → Cause m (load l) n place
+  withdraw-fails : (l : List ℕ) (n place : ℕ) → m .phase ≡ Open → FirstFailure (AfterWithdrawing (m .rows)) WithdrawStops l n place → Cause m (withdraw l) n place
+  -- reopen, round or print when open
+  still-open : (c : Call) → NeedsClosed c → m .phase ≡ Open → Cause m c 9 0
+  -- round when settled
+  round-settled : (v : Verdict) → m .phase ≡ Settled v → Cause m round 10 0
+  -- print when running
+  print-running : (size : ℕ) → m .phase ≡ Running → Cause m (print size) 11 0
+  -- print or save: buffer too short
+  short-buffer : (c : Call) (l : List ℕ) (size : ℕ) → Writes m c l size → size < length l → Cause m c 12 0
+  -- a 130th round
+  last-round : m .phase ≡ Running → most-rounds ≤ m .rounds → Cause m round 13 0
