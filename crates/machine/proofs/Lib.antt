@@ -15,4 +15,5 @@ pub mod Loading
 pub mod Causes
 pub mod History
 pub mod Demands
+pub mod Second
 pub mod Program

@@ -1,4 +1,4 @@
--- A round of the machine does what document 01's paragraph on rounds says, and close what its line says.
+-- A round of the machine does what document 01's paragraph on rounds says, and fresh, close and reopen what their lines say.
 use Prim.Native.Nat.{ℕ, zero, suc, _+_}
 use mathlib.Core.Path.{_≡_, refl, ap, subst}
 use mathlib.Core.Bool.{Bool, true, false}
@@ -17,8 +17,8 @@ use Rattle.orderings.proofs.Deciding.{claim-in·, holds·, accepts·}
 use Rattle.orderings.proofs.Claims.{claims-iff}
 use Rattle.machine.specs.declared.Verdict.the-variants.{NonEmpty, Empty}
 use Rattle.machine.specs.declared.Phase.the-variants.{Running, Settled}
-use Rattle.machine.specs.Machine.{Opening, Machine, judged, closed, open-claims, opened-next, nothing?, openings-of, next-round}
-use Rattle.machine.specs.Demands.{SomeWalk, Closed, Rounded}
+use Rattle.machine.specs.Machine.{Opening, Machine, fresh, judged, closed, open-claims, opened-next, nothing?, openings-of, next-round, reopened}
+use Rattle.machine.specs.Demands.{SomeWalk, FreshMachine, Reopened, Closed, Rounded}
 
 -- which phase a judgement gives
 non-empty-when : (b v : Bool) → (judged b v ≡ Settled NonEmpty) ↔ (b ≡ true)
@@ -45,6 +45,12 @@ walk-iff rows l = (accepts· rows l .to, accepts· rows l .of)
 
 no-walk-iff : (rows : List Row) (l : List Claim) → (accepts? rows l ≡ false) ↔ (¬ SomeWalk rows l)
 no-walk-iff rows l = fails-iff (accepts? rows l) (accepts· rows l)
+
+pub fresh-fresh : FreshMachine fresh
+fresh-fresh = record { rows = refl; phase = refl; none = refl; count = refl }
+
+pub reopen-reopened : (m : Machine) → Reopened m (reopened m)
+reopen-reopened m = record { rows = refl; phase = refl; none = refl; count = refl }
 
 pub close-closed : (m : Machine) → Closed m (closed m)
 unfolding closed

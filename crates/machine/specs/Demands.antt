@@ -13,14 +13,28 @@ use Rattle.orderings.specs.Systems.{Allowed, Holds, LeastDepth, GreatestLeast, 
 use Rattle.orderings.specs.Timelines.{Accepting, timelines}
 use Rattle.machine.specs.declared.Verdict.{Verdict}
 use Rattle.machine.specs.declared.Verdict.the-variants.{NonEmpty as NonEmptyV, Empty as EmptyV}
-use Rattle.machine.specs.declared.Phase.the-variants.{Running, Settled}
-use Rattle.machine.specs.Machine.{most-rounds, Opening, Machine, fresh, open-claims}
+use Rattle.machine.specs.declared.Phase.the-variants.{Open, Running, Settled}
+use Rattle.machine.specs.Machine.{most-rounds, Opening, Machine, open-with, fresh, open-claims}
 use Rattle.machine.specs.Sheet.{sheet}
-use Rattle.machine.specs.Calls.{Call, load, print, done, wrote, call, run, second, Brings}
+use Rattle.machine.specs.Calls.{Call, load, print, done, wrote, accept, call, run, second, Brings}
 
 -- a walk of zero or more steps, with letter steps and steps of the claims l, leads from an initial to a final state
 abbrev pub SomeWalk : List Row → List Claim → Type 0
 SomeWalk rows l = (w : Walk) × Accepting rows w × Allowed (timelines rows) (λ c. c among l) w
+
+-- Document 01: "Fresh is open with no rows"
+pub record FreshMachine (m : Machine) : Type 0 where
+  pub rows : m .rows ≡ []
+  pub phase : m .phase ≡ Open
+  pub none : m .openings ≡ []
+  pub count : m .rounds ≡ 0
+
+-- Document 01, "reopen": m′ is m without its openings and rounds, open again
+pub record Reopened (m m′ : Machine) : Type 0 where
+  pub rows : m′ .rows ≡ m .rows
+  pub phase : m′ .phase ≡ Open
+  pub none : m′ .openings ≡ []
+  pub count : m′ .rounds ≡ 0
 
 -- Document 01, "close": m′ is m closed
 pub record Closed (m m′ : Machine) : Type 0 where
@@ -60,6 +74,29 @@ pub record Listed (m : Machine) : Type 0 where
 abbrev pub Number : List Row → Verdict → ℕ → Type 0
 Number rows NonEmptyV K = NonEmpty (timelines rows) × LeastAccepted (timelines rows) K
 Number rows EmptyV K = ¬ NonEmpty (timelines rows) × ((g : ℕ) × (K ≡ suc g) × GreatestLeast (timelines rows) g)
+
+-- m′ comes from m by rounds, each of which a running machine does
+pub data ByRounds : Machine → Machine → Type 0 where
+  no-round : {m : Machine} → ByRounds m m
+  one-round : {m m′ m″ : Machine} → m .phase ≡ Running → Rounded m m′ → ByRounds m′ m″ → ByRounds m m″
+
+-- m is what the open machine with these rows comes to: closed, then rounds until settled
+pub record Works (rows : List Row) (m : Machine) : Type 0 where
+  pub start : Machine
+  pub closed : Closed (open-with rows) start
+  pub rounds : ByRounds start m
+  pub verdict : Verdict
+  pub settled : m .phase ≡ Settled verdict
+  -- its openings are those of a sheet, and its count of rounds is the number that the demands name
+  pub listed : Listed m
+  pub number : Number rows verdict (m .rounds)
+  pub most : m .rounds ≤ most-rounds
+
+-- the second machine of demand 3, by propositions: fresh, it loads the rows sorted; what it comes to, and no other machine does
+pub record SecondWorks (rows : List Row) : Type 0 where
+  pub loads : call fresh (load (batch-of (sort-by row-bytes rows))) ≡ accept (open-with rows)
+  pub works : Works rows (second rows)
+  pub only : (m : Machine) → Works rows m → m ≡ second rows
 
 -- load and withdraw as sets of rows: a batch is rows one after another
 abbrev pub Loaded : Machine → List ℕ → Machine → Type 0

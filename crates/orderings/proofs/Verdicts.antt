@@ -23,6 +23,22 @@ module _ (S : System) where
   abbrev pub Opened : ℕ → Type 0
   Opened k = (k ≡ 0) ⊎ ((c : S .Claim) × Opens S k c)
 
+  -- a claim has one least depth
+  pub least-depth-unique : (c : S .Claim) (j k : ℕ) → LeastDepth S c j → LeastDepth S c k → j ≡ k
+  least-depth-unique c j k a b = omega (arith, a .1 (b .0 .0) (b .0 .1) (b .0 .2), b .0 .3, b .1 (a .0 .0) (a .0 .1) (a .0 .2), a .0 .3)
+
+  -- the walks from an initial to a final state have one
+  pub least-accepted-unique : (j k : ℕ) → LeastAccepted S j → LeastAccepted S k → j ≡ k
+  least-accepted-unique j k a b =
+      omega (arith, a .1 (b .0 .0) (b .0 .1) (b .0 .2 .0) (b .0 .2 .1), b .0 .2 .2, b .1 (a .0 .0) (a .0 .1) (a .0 .2 .0) (a .0 .2 .1), a .0 .2 .2)
+
+  -- and there is one greatest
+  pub greatest-least-unique : (g h : ℕ) → GreatestLeast S g → GreatestLeast S h → g ≡ h
+  greatest-least-unique g h a b = omega (arith, no-more g h a b, no-more h g b a)
+    where
+      no-more : (g h : ℕ) → GreatestLeast S g → GreatestLeast S h → g ≤ h
+      no-more g h a b = ⊎-elim (λ p. b .0 (p .0) g (p .1)) (λ z. omega (arith, z .0)) (a .1)
+
   module _ (law : Lawful S) where
     pub opens-open : (j k : ℕ) (c : S .Claim) → j ≤ k → Opens S j c → OpenBy S k c
     unfolding OpenBy
