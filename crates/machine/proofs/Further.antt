@@ -48,6 +48,76 @@ pub ties : (on-rows (Initial 1 ∷ Initial 0 ∷ Final 2 ∷ Successor 0 7 0 ∷
 unfolding ℕ-discrete member row-bytes sets same-row set-at state-row step-row limit-row kind-row read-row on-turn on-read feed-from feed members reach holds? accepts? load-row closed opened-next next-round walk-of least shortest hex decimal sheet call-in outcome program
 ties = (refl, refl, refl)
 
+-- the kind before set or letter and before target, though these are higher
+pub kinds-first : (on-rows (Initial 0 ∷ Final 3 ∷ Successor 0 200 2 ∷ Successor 0 7 0 ∷ LeftLimit 1 1 ∷ Successor 1 7 1 ∷ LeftLimit 2 3 ∷ Successor 2 7 2 ∷ LeftLimit 4 3 ∷ [])
+    ≡ text "verdict nonempty rounds 1\nopen 1 loop 0000000000000001\nopen 1 loop 0000000000000002\nopen 1 loop 0000000000000004\nstart 0\nstep letter 200 to 2\nstep omega 0000000000000004 to 3\n")
+    × (on-rows (Initial 0 ∷ Final 1 ∷ Final 2 ∷ Successor 0 7 3 ∷ Successor 3 7 0 ∷ LeftLimit 9 2 ∷ Successor 1 7 1 ∷ RightLimit 0 2 ∷ [])
+    ≡ text "verdict nonempty rounds 1\nopen 1 loop 0000000000000002\nopen 1 loop 0000000000000009\nstart 0\nstep omega 0000000000000009 to 2\n")
+    × (on-rows (Initial 0 ∷ Final 1 ∷ Final 3 ∷ Successor 2 7 2 ∷ LeftLimit 4 2 ∷ RightLimit 2 4 ∷ RightLimit 0 4 ∷ LeftLimit 4 1 ∷ Successor 3 7 3 ∷ RightLimit 0 8 ∷ [])
+    ≡ text "verdict nonempty rounds 1\nopen 1 loop 0000000000000004\nopen 1 mix 0000000000000004\nopen 1 loop 0000000000000008\nstart 0\nstep back 0000000000000008 to 3\n")
+unfolding ℕ-discrete member row-bytes sets same-row set-at state-row step-row limit-row kind-row read-row on-turn on-read feed-from feed members reach holds? accepts? load-row closed opened-next next-round walk-of least shortest hex decimal sheet call-in outcome program
+kinds-first = (refl, refl, refl)
+
+-- the letter or set before the target, though that is higher
+pub values-first : (on-rows (Initial 0 ∷ Final 3 ∷ Successor 0 4 2 ∷ Successor 0 9 1 ∷ Successor 1 7 3 ∷ Successor 2 7 3 ∷ [])
+    ≡ text "verdict nonempty rounds 0\nstart 0\nstep letter 4 to 2\nstep letter 7 to 3\n")
+    × (on-rows (Initial 0 ∷ Final 1 ∷ Final 2 ∷ Successor 0 7 0 ∷ Successor 0 7 3 ∷ Successor 3 7 0 ∷ LeftLimit 1 2 ∷ LeftLimit 9 1 ∷ [])
+    ≡ text "verdict nonempty rounds 1\nopen 1 loop 0000000000000001\nopen 1 loop 0000000000000009\nstart 0\nstep omega 0000000000000001 to 2\n")
+    × (on-rows (Initial 3 ∷ Final 0 ∷ Final 1 ∷ Successor 1 7 1 ∷ Successor 0 7 2 ∷ Successor 2 7 0 ∷ RightLimit 3 2 ∷ RightLimit 3 5 ∷ [])
+    ≡ text "verdict nonempty rounds 1\nopen 1 loop 0000000000000002\nopen 1 loop 0000000000000005\nstart 3\nstep back 0000000000000002 to 1\n")
+    × (on-rows (Initial 0 ∷ Final 4 ∷ Final 5 ∷ Successor 2 7 2 ∷ LeftLimit 4 2 ∷ RightLimit 2 4 ∷ RightLimit 0 4 ∷ LeftLimit 4 5 ∷ Successor 3 7 3 ∷ LeftLimit 8 3 ∷ RightLimit 3 8 ∷ RightLimit 0 8 ∷ LeftLimit 8 4 ∷ [])
+    ≡ text "verdict nonempty rounds 1\nopen 1 loop 0000000000000004\nopen 1 mix 0000000000000004\nopen 1 loop 0000000000000008\nopen 1 mix 0000000000000008\nstart 0\nstep mix 0000000000000004 to 5\n")
+unfolding ℕ-discrete member row-bytes sets same-row set-at state-row step-row limit-row kind-row read-row on-turn on-read feed-from feed members reach holds? accepts? load-row closed opened-next next-round walk-of least shortest hex decimal sheet call-in outcome program
+values-first = (refl, refl, refl, refl)
+
+-- then the lower target
+pub targets : (on-rows (Initial 0 ∷ Final 1 ∷ Final 2 ∷ Successor 0 7 0 ∷ LeftLimit 1 2 ∷ LeftLimit 1 1 ∷ [])
+    ≡ text "verdict nonempty rounds 1\nopen 1 loop 0000000000000001\nstart 0\nstep omega 0000000000000001 to 1\n")
+    × (on-rows (Initial 3 ∷ Final 0 ∷ Final 1 ∷ Successor 0 7 1 ∷ Successor 1 7 0 ∷ RightLimit 3 3 ∷ [])
+    ≡ text "verdict nonempty rounds 1\nopen 1 loop 0000000000000003\nstart 3\nstep back 0000000000000003 to 0\n")
+    × (on-rows (Initial 0 ∷ Final 4 ∷ Final 5 ∷ Successor 2 7 2 ∷ LeftLimit 4 2 ∷ RightLimit 2 4 ∷ RightLimit 0 4 ∷ LeftLimit 4 5 ∷ LeftLimit 4 4 ∷ [])
+    ≡ text "verdict nonempty rounds 1\nopen 1 loop 0000000000000004\nopen 1 mix 0000000000000004\nstart 0\nstep mix 0000000000000004 to 4\n")
+unfolding ℕ-discrete member row-bytes sets same-row set-at state-row step-row limit-row kind-row read-row on-turn on-read feed-from feed members reach holds? accepts? load-row closed opened-next next-round walk-of least shortest hex decimal sheet call-in outcome program
+targets = (refl, refl, refl)
+
+-- letters above 127 and sets above 2^63 are higher
+pub unsigned : (on-rows (Initial 0 ∷ Final 1 ∷ Successor 0 200 1 ∷ Successor 0 97 1 ∷ [])
+    ≡ text "verdict nonempty rounds 0\nstart 0\nstep letter 97 to 1\n")
+    × (on-rows (Initial 0 ∷ Final 1 ∷ Successor 0 7 0 ∷ Successor 0 7 63 ∷ Successor 63 7 0 ∷ LeftLimit 9223372036854775809 1 ∷ LeftLimit 1 1 ∷ [])
+    ≡ text "verdict nonempty rounds 1\nopen 1 loop 0000000000000001\nopen 1 loop 8000000000000001\nstart 0\nstep omega 0000000000000001 to 1\n")
+    × (on-rows (Initial 3 ∷ Final 0 ∷ Successor 0 7 0 ∷ Successor 0 7 63 ∷ Successor 63 7 0 ∷ RightLimit 3 9223372036854775809 ∷ RightLimit 3 1 ∷ [])
+    ≡ text "verdict nonempty rounds 1\nopen 1 loop 0000000000000001\nopen 1 loop 8000000000000001\nstart 3\nstep back 0000000000000001 to 0\n")
+    × (on-rows (Initial 0 ∷ Final 1 ∷ Successor 2 7 2 ∷ LeftLimit 4 2 ∷ RightLimit 2 4 ∷ RightLimit 0 4 ∷ LeftLimit 4 1 ∷ Successor 63 7 63 ∷ LeftLimit 9223372036854775808 63 ∷ RightLimit 63 9223372036854775808 ∷ RightLimit 0 9223372036854775808 ∷ LeftLimit 9223372036854775808 1 ∷ [])
+    ≡ text "verdict nonempty rounds 1\nopen 1 loop 0000000000000004\nopen 1 mix 0000000000000004\nopen 1 loop 8000000000000000\nopen 1 mix 8000000000000000\nstart 0\nstep mix 0000000000000004 to 1\n")
+unfolding ℕ-discrete member row-bytes sets same-row set-at state-row step-row limit-row kind-row read-row on-turn on-read feed-from feed members reach holds? accepts? load-row closed opened-next next-round walk-of least shortest hex decimal sheet call-in outcome program
+unsigned = (refl, refl, refl, refl)
+
+-- the lower start before any step, whatever its kind
+pub starts-first : (on-rows (Initial 0 ∷ Initial 1 ∷ Final 2 ∷ Successor 0 9 2 ∷ Successor 1 4 2 ∷ [])
+    ≡ text "verdict nonempty rounds 0\nstart 0\nstep letter 9 to 2\n")
+    × (on-rows (Initial 0 ∷ Initial 1 ∷ Final 4 ∷ Successor 0 7 3 ∷ Successor 3 7 0 ∷ LeftLimit 9 4 ∷ Successor 1 7 1 ∷ LeftLimit 2 4 ∷ [])
+    ≡ text "verdict nonempty rounds 1\nopen 1 loop 0000000000000002\nopen 1 loop 0000000000000009\nstart 0\nstep omega 0000000000000009 to 4\n")
+    × (on-rows (Initial 0 ∷ Initial 3 ∷ Final 1 ∷ Successor 1 7 1 ∷ RightLimit 0 2 ∷ Successor 3 7 3 ∷ LeftLimit 8 1 ∷ [])
+    ≡ text "verdict nonempty rounds 1\nopen 1 loop 0000000000000002\nopen 1 loop 0000000000000008\nstart 0\nstep back 0000000000000002 to 1\n")
+    × (on-rows (Initial 0 ∷ Initial 3 ∷ Final 1 ∷ Successor 2 7 2 ∷ LeftLimit 4 2 ∷ RightLimit 2 4 ∷ RightLimit 0 4 ∷ LeftLimit 4 1 ∷ Successor 3 7 3 ∷ LeftLimit 8 1 ∷ [])
+    ≡ text "verdict nonempty rounds 1\nopen 1 loop 0000000000000004\nopen 1 mix 0000000000000004\nopen 1 loop 0000000000000008\nstart 0\nstep mix 0000000000000004 to 1\n")
+unfolding ℕ-discrete member row-bytes sets same-row set-at state-row step-row limit-row kind-row read-row on-turn on-read feed-from feed members reach holds? accepts? load-row closed opened-next next-round walk-of least shortest hex decimal sheet call-in outcome program
+starts-first = (refl, refl, refl, refl)
+
+-- at the first different step, whatever the later ones are; a shorter walk before all
+pub steps-in-order : (on-rows (Initial 0 ∷ Final 3 ∷ Successor 0 4 2 ∷ Successor 2 9 3 ∷ Successor 0 5 1 ∷ Successor 1 7 3 ∷ [])
+    ≡ text "verdict nonempty rounds 0\nstart 0\nstep letter 4 to 2\nstep letter 9 to 3\n")
+    × (on-rows (Initial 0 ∷ Initial 1 ∷ Final 3 ∷ Successor 0 4 2 ∷ Successor 2 4 3 ∷ Successor 1 9 3 ∷ [])
+    ≡ text "verdict nonempty rounds 0\nstart 1\nstep letter 9 to 3\n")
+unfolding ℕ-discrete member row-bytes sets same-row set-at state-row step-row limit-row kind-row read-row on-turn on-read feed-from feed members reach holds? accepts? load-row closed opened-next next-round walk-of least shortest hex decimal sheet call-in outcome program
+steps-in-order = (refl, refl)
+
+-- a back step from a state of its own set saves two letter steps
+pub back-from-inside : on-rows (Initial 0 ∷ Final 6 ∷ Successor 0 7 1 ∷ Successor 1 7 2 ∷ Successor 2 7 0 ∷ RightLimit 0 7 ∷ Successor 2 7 5 ∷ Successor 5 7 5 ∷ LeftLimit 32 6 ∷ [])
+    ≡ text "verdict nonempty rounds 1\nopen 1 loop 0000000000000007\nopen 1 loop 0000000000000020\nstart 0\nstep back 0000000000000007 to 2\nstep letter 7 to 5\nstep omega 0000000000000020 to 6\n"
+unfolding ℕ-discrete member row-bytes sets same-row set-at state-row step-row limit-row kind-row read-row on-turn on-read feed-from feed members reach holds? accepts? load-row closed opened-next next-round walk-of least shortest hex decimal sheet call-in outcome program
+back-from-inside = refl
+
 -- causes 2 to 5 at the place of the row, the lowest number of the first row that fails
 pub refused-lines : (program (1 ∷ 0 ∷ 6 ∷ 0 ∷ []) ≡ text "refused 2 at 2\n")
     × (program (1 ∷ 0 ∷ 3 ∷ 64 ∷ 7 ∷ []) ≡ text "refused 3 at 2\n")

@@ -1,7 +1,7 @@
 -- Document 01, "Where implementations drift": small tables on which each drift would show, computed from the definitions.
 use Prim.Native.Nat.{ℕ}
 use mathlib.Core.Path.{_≡_, refl}
-use mathlib.Core.Bool.{true}
+use mathlib.Core.Bool.{true, false}
 use mathlib.Core.List.{List, [], _∷_}
 use native.Mathlib.Decide.{ℕ-discrete}
 use Rattle.lists.specs.Growing.{grown}
@@ -52,3 +52,60 @@ on-a-piece = (refl, refl, refl)
 pub mix-outside : accepts? (Initial 0 ∷ Final 2 ∷ RightLimit 0 2 ∷ LeftLimit 2 2 ∷ []) (mixes 2 ∷ []) ≡ true
 unfolding ℕ-discrete member sets same-row members reach accepts?
 mix-outside = refl
+
+-- a step's content has its ends: a state outside the set between two steps of claims, between one and a letter step, and between a letter step and one
+pub ends-inside : (opened (Successor 2 7 2 ∷ Successor 3 7 3 ∷ Successor 1 7 0 ∷ RightLimit 2 4 ∷ LeftLimit 4 2 ∷ RightLimit 0 4 ∷ LeftLimit 4 5 ∷ RightLimit 5 8 ∷ LeftLimit 8 3 ∷ RightLimit 3 8 ∷ LeftLimit 8 1 ∷ LeftLimit 15 6 ∷ []) 3
+    ≡ loops 4 ∷ mixes 4 ∷ loops 8 ∷ mixes 8 ∷ [])
+    × (opened (Successor 2 7 2 ∷ Successor 1 7 2 ∷ Successor 5 7 1 ∷ LeftLimit 4 5 ∷ LeftLimit 6 3 ∷ []) 3 ≡ loops 4 ∷ [])
+    × (opened (Successor 2 7 2 ∷ Successor 2 7 1 ∷ Successor 1 7 5 ∷ RightLimit 5 4 ∷ RightLimit 3 6 ∷ []) 3 ≡ loops 4 ∷ [])
+unfolding ℕ-discrete member sets same-row members reach holds?
+ends-inside = (refl, refl, refl)
+
+-- state 5 between an omega step of {0} and a back step of {1}, and where both sets mix too
+pub limit-state-inside : (opened (Successor 0 7 0 ∷ Successor 1 7 1 ∷ Successor 1 7 0 ∷ LeftLimit 1 5 ∷ RightLimit 5 2 ∷ LeftLimit 3 7 ∷ []) 3 ≡ loops 1 ∷ loops 2 ∷ [])
+    × (opened (Successor 0 7 0 ∷ Successor 1 7 1 ∷ Successor 1 7 0 ∷ LeftLimit 1 0 ∷ RightLimit 0 1 ∷ LeftLimit 2 1 ∷ RightLimit 1 2 ∷ LeftLimit 1 5 ∷ RightLimit 5 2 ∷ LeftLimit 3 7 ∷ []) 3
+    ≡ loops 1 ∷ mixes 1 ∷ loops 2 ∷ mixes 2 ∷ [])
+unfolding ℕ-discrete member sets same-row members reach holds?
+limit-state-inside = (refl, refl)
+
+-- and a content has no more: with 5 in the set the same steps do
+pub content-enough : opened (Successor 0 7 0 ∷ Successor 1 7 1 ∷ Successor 1 7 0 ∷ LeftLimit 1 5 ∷ RightLimit 5 2 ∷ LeftLimit 35 7 ∷ []) 2 ≡ loops 1 ∷ loops 2 ∷ loops 35 ∷ []
+unfolding ℕ-discrete member sets same-row members reach holds?
+content-enough = refl
+
+-- a set loops from any of its states to any
+pub any-to-any : opened (Successor 0 7 0 ∷ Successor 1 7 1 ∷ LeftLimit 3 2 ∷ []) 1 ≡ []
+unfolding ℕ-discrete member sets same-row members reach holds?
+any-to-any = refl
+
+-- each state of a set that mixes may lie on a piece of its own
+pub some-piece-each : opened (Successor 0 7 0 ∷ Successor 1 7 1 ∷ LeftLimit 3 0 ∷ LeftLimit 3 1 ∷ RightLimit 0 3 ∷ RightLimit 1 3 ∷ []) 1 ≡ mixes 3 ∷ []
+unfolding ℕ-discrete member sets same-row members reach holds?
+some-piece-each = refl
+
+-- entrances and exits are states of the set
+pub ends-of-the-set : opened (Successor 5 7 0 ∷ Successor 0 7 0 ∷ LeftLimit 1 5 ∷ RightLimit 0 1 ∷ []) 1 ≡ loops 1 ∷ []
+unfolding ℕ-discrete member sets same-row members reach holds?
+ends-of-the-set = refl
+
+-- the two rows of a mix step are of one set
+pub one-set : accepts? (Initial 0 ∷ Final 2 ∷ RightLimit 0 1 ∷ LeftLimit 2 2 ∷ []) (mixes 2 ∷ []) ≡ false
+unfolding ℕ-discrete member sets same-row members reach accepts?
+one-set = refl
+
+-- omega steps start in any state of the set and back steps end in any, and in no other; what they lead to or from may be in it too
+pub any-of-the-set : (accepts? (Initial 1 ∷ Final 0 ∷ LeftLimit 3 0 ∷ []) (loops 3 ∷ []) ≡ true)
+    × (accepts? (Initial 0 ∷ Final 2 ∷ RightLimit 0 7 ∷ []) (loops 7 ∷ []) ≡ true)
+    × (accepts? (Initial 1 ∷ Final 2 ∷ RightLimit 1 6 ∷ LeftLimit 6 2 ∷ []) (mixes 6 ∷ []) ≡ true)
+    × (accepts? (Initial 2 ∷ Final 3 ∷ LeftLimit 3 3 ∷ []) (loops 3 ∷ []) ≡ false)
+    × (accepts? (Initial 3 ∷ Final 2 ∷ RightLimit 3 3 ∷ []) (loops 3 ∷ []) ≡ false)
+unfolding ℕ-discrete member sets same-row members reach accepts?
+any-of-the-set = (refl, refl, refl, refl, refl)
+
+-- omega and back steps need that the set loops, mix steps that it mixes
+pub claims-needed : (accepts? (Initial 0 ∷ Final 2 ∷ LeftLimit 3 2 ∷ []) (mixes 3 ∷ []) ≡ false)
+    × (accepts? (Initial 2 ∷ Final 0 ∷ RightLimit 2 3 ∷ []) (mixes 3 ∷ []) ≡ false)
+    × (accepts? (Initial 2 ∷ Final 3 ∷ RightLimit 2 3 ∷ LeftLimit 3 3 ∷ []) [] ≡ false)
+    × (accepts? (Initial 2 ∷ Final 3 ∷ RightLimit 2 3 ∷ LeftLimit 3 3 ∷ []) (mixes 3 ∷ []) ≡ true)
+unfolding ℕ-discrete member sets same-row members reach accepts?
+claims-needed = (refl, refl, refl, refl)
