@@ -4,25 +4,28 @@ use commands::Report;
 use machine::Answer;
 use output::same;
 use output::say;
-use session::Reply;
 use session::Session;
 
 // The number of a refusal, 0 for none.
-fn refusal(answer: Answer) -> u8 {
+pub fn refusal(answer: Answer) -> u8 {
     match answer {
-        Answer::Done => 0,
-        Answer::Wrote(_) => 0,
         Answer::Refused(number, _) => number,
+        _ => 0,
     }
+}
+
+// Writes what a call shows of a session, and gives the number of its refusal.
+fn shown(session: Session, call: Report, buffer: &mut [u8]) -> u8 {
+    let reply = report(session, call, buffer);
+    let answer = reply.answer;
+    refusal(answer)
 }
 
 // Does the call refuse both sessions alike, and write the same of both?
 fn same_report(call: Report, a: Session, b: Session) -> bool {
     let mut p = [0u8; 6400];
     let mut q = [0u8; 6400];
-    let first = report(a, call, &mut p).answer;
-    let second = report(b, call, &mut q).answer;
-    if refusal(first) != refusal(second) {
+    if shown(a, call, &mut p) != shown(b, call, &mut q) {
         return false;
     }
     same(&p, &q)
@@ -38,11 +41,10 @@ fn same_session(a: Session, b: Session) -> bool {
 // Is the buffer as it was lent?
 fn is_untouched(buffer: &[u8]) -> bool {
     let lent = [170u8; 6400];
-    same(buffer, output::first(&lent, buffer.len()))
+    same(buffer, &lent)
 }
 
-fn say_same(what: &[u8], kept: bool) {
-    say(what);
+fn say_same(kept: bool) {
     if kept {
         say(b" unchanged");
     } else {
@@ -50,11 +52,10 @@ fn say_same(what: &[u8], kept: bool) {
     }
 }
 
-// Says of a refusal whether the session and the buffer are as they were.
-pub fn say_kept(before: Session, reply: Reply, buffer: &[u8]) {
-    let answer = reply.answer;
-    if refusal(answer) > 0 {
-        say_same(b", session", same_session(before, reply.session));
-        say_same(b", buffer", is_untouched(buffer));
-    }
+// Says whether the session and the buffer are as they were.
+pub fn say_kept(before: Session, after: Session, buffer: &[u8]) {
+    say(b", session");
+    say_same(same_session(before, after));
+    say(b", buffer");
+    say_same(is_untouched(buffer));
 }

@@ -1,16 +1,11 @@
 // The lines of standard input.
 use crate::calls::run_line;
+use output::first;
 use output::say;
 use session::Session;
 ghost use Prim.Native.Nat.{_≤_};
 ghost use lib.ListN.{length};
-ghost use Rattle.script.specs.Input.{Held, Within};
-
-// What standard input gave: a count of bytes at the start of the buffer, none at its end; or a read that failed.
-enum Input {
-    Bytes(usize),
-    Failed,
-}
+ghost use Rattle.script.specs.Input.{Within};
 
 // Where a line ends or breaks off, and how many bytes of it are held; more than the buffer has where it is too long.
 struct Piece {
@@ -18,26 +13,11 @@ struct Piece {
     held: usize,
 }
 
-// The session after whole lines, and how many bytes of the next are held.
+// The session after whole lines, how many bytes of the next are held, and whether there is more to read.
 struct State {
     session: Session,
     held: usize,
-}
-
-// Reads once.
-fn read_some(buffer: &mut [u8]) -> Input
-    ensures { λ r. ⌜ Held r (now (buffer .exit)) ⌝ }
-{
-    let got = libc::read(libc::STDIN_FILENO, buffer);
-    if got < 0 {
-        return Input::Failed;
-    }
-    Input::Bytes(io::count(got, buffer))
-}
-
-// Says why a read failed.
-fn say_failed() {
-    os::fail(b"standard input");
+    more: bool,
 }
 
 // Puts a byte behind those that are held, where there is room.
@@ -69,7 +49,7 @@ fn run_held(session: Session, line: &[u8], held: usize, checks: bool) -> Session
         say(b"too long\n");
         return session;
     }
-    run_line(session, &line[..held], checks)
+    run_line(session, first(line, held), checks)
 }
 
 // Runs the lines that end in what was read.
@@ -90,38 +70,67 @@ fn run_lines(session: Session, read: &[u8], line: &mut [u8], held: usize, checks
     State {
         session: last,
         held,
+        more: true,
     }
 }
 
-// Runs a last line that has no line end.
-fn finish(session: Session, line: &[u8], held: usize, checks: bool) {
+// Ends with a last line that has no line end.
+fn finish(session: Session, line: &[u8], held: usize, checks: bool) -> State {
+    let more = false;
     if held > 0 {
-        run_held(session, line, held, checks);
+        return State {
+            session: run_held(session, line, held, checks),
+            held: 0,
+            more,
+        };
     }
+    State {
+        session,
+        held,
+        more,
+    }
+}
+
+// Says why a read failed, and ends.
+fn stop(session: Session) -> State {
+    os::fail(b"standard input");
+    State {
+        session,
+        held: 0,
+        more: false,
+    }
+}
+
+fn run_read(session: Session, read: &[u8], line: &mut [u8], held: usize, checks: bool) -> State {
+    if read.len() == 0 {
+        return finish(session, line, held, checks);
+    }
+    run_lines(session, read, line, held, checks)
+}
+
+// Reads once, and runs the lines that end.
+fn turn(session: Session, buffer: &mut [u8], line: &mut [u8], held: usize, checks: bool) -> State {
+    let got = libc::read(libc::STDIN_FILENO, buffer);
+    if got < 0 {
+        return stop(session);
+    }
+    let n = io::count(got, buffer);
+    run_read(session, &buffer[..n], line, held, checks)
 }
 
 // Reads and runs lines to the end of the input. A proved loop has to end, and nothing says that the input does: so the turns are
 // counted down, from a number that no run uses up.
-pub fn run(session: Session, read: &mut [u8], line: &mut [u8], checks: bool) {
+pub fn run(session: Session, buffer: &mut [u8], line: &mut [u8], checks: bool) {
     let mut last = session;
     let mut held = 0;
     let mut turns = u64::MAX;
     while turns > 0 {
-        match read_some(read) {
-            Input::Bytes(n) => {
-                if n == 0 {
-                    finish(last, line, held, checks);
-                    return;
-                }
-                let state = run_lines(last, &read[..n], line, held, checks);
-                last = state.session;
-                held = state.held;
-            }
-            Input::Failed => {
-                say_failed();
-                return;
-            }
+        let state = turn(last, buffer, line, held, checks);
+        if !state.more {
+            return;
         }
+        last = state.session;
+        held = state.held;
         turns -= 1;
     }
 }

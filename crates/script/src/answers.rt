@@ -1,0 +1,96 @@
+// What lines and their calls are answered.
+use commands::Command;
+use commands::Report;
+use machine::Phase;
+use machine::Verdict;
+use output::first;
+use output::say;
+use output::say_number;
+use machine::Answer;
+
+fn say_verdict(verdict: Verdict) {
+    match verdict {
+        Verdict::NonEmpty => say(b"ok nonempty\n"),
+        Verdict::Empty => say(b"ok empty\n"),
+    }
+}
+
+// Writes where an accepted call leads.
+fn say_phase(phase: Phase) {
+    match phase {
+        Phase::Open => say(b"ok\n"),
+        Phase::Running => say(b"ok running\n"),
+        Phase::Settled(verdict) => say_verdict(verdict),
+    }
+}
+
+// Writes a refusal; its line goes on.
+fn say_refused(number: u8, place: usize) {
+    say(b"refused ");
+    say_number(number as u64);
+    say(b" at ");
+    say_number(place as u64);
+}
+
+fn say_done(answer: Answer, phase: Phase) {
+    match answer {
+        Answer::Refused(number, place) => say_refused(number, place),
+        _ => say_phase(phase),
+    }
+}
+
+fn say_rows(rows: &[u8]) {
+    say(b"rows ");
+    output::say_hex(rows);
+    say(b"\n");
+}
+
+// Writes what a call put into its buffer: a sheet as it is, rows in hex.
+fn say_text(call: Report, text: &[u8]) {
+    match call {
+        Report::Print => say(text),
+        Report::Save => say_rows(text),
+    }
+}
+
+fn say_report(call: Report, answer: Answer, phase: Phase, buffer: &[u8]) {
+    match answer {
+        Answer::Wrote(n) => say_text(call, first(buffer, n)),
+        _ => say_done(answer, phase),
+    }
+}
+
+// Writes a line where that is asked for.
+fn say_line(line: &[u8], asked: bool) {
+    if asked {
+        say(line);
+        say(b"\n");
+    }
+}
+
+// Says why a line asks for no call; where checks are asked for, what is passed over is written out.
+fn say_none(command: Command, line: &[u8], checks: bool) {
+    match command {
+        Command::Nothing => say_line(line, checks),
+        Command::BadHex => say(b"bad hex\n"),
+        Command::TooLong => say(b"too long\n"),
+        _ => say(b"unknown command\n"),
+    }
+}
+
+// Writes the answer to a line: that of its call, or why there is none.
+pub fn say_answer(
+    command: Command,
+    answer: Answer,
+    phase: Phase,
+    buffer: &[u8],
+    line: &[u8],
+    checks: bool,
+) {
+    match command {
+        Command::Changes(_, _) => say_done(answer, phase),
+        Command::Reports(call, _) => say_report(call, answer, phase, buffer),
+        Command::Moves(_) => say_done(answer, phase),
+        _ => say_none(command, line, checks),
+    }
+}
