@@ -1,19 +1,17 @@
 -- A table that is closed and settled: what its machine prints.
 use Prim.Native.Nat.{ℕ}
-use mathlib.Core.Path.{_≡_, refl, ap, sym, _∙_, subst}
+use mathlib.Core.Path.{_≡_, ap, sym, _∙_, subst}
 use mathlib.Core.List.{List}
-use lib.ListN.{length, take}
-use lib.Seq.{take-append-seam}
+use lib.ListN.{length}
 use Rattle.rows.specs.declared.Row.{Row}
-use Rattle.rows.specs.Rows.{sets}
 use Rattle.machine.specs.declared.Answer.{Answer}
 use Rattle.machine.specs.declared.Answer.the-variants.{Refused}
 use Rattle.machine.specs.declared.Phase.{Phase}
-use Rattle.machine.specs.declared.Phase.the-variants.{Open, Running, Settled}
+use Rattle.machine.specs.declared.Phase.the-variants.{Settled}
 use Rattle.machine.specs.declared.Verdict.{Verdict}
 use Rattle.machine.specs.Machine.{Machine, open-with}
-use Rattle.machine.specs.Calls.{print, refused, call-in, call, run, settle, Tells}
-use Rattle.machine.specs.WellFormed.{Table, WellFormed}
+use Rattle.machine.specs.Calls.{print, Next, refuse, call-in, call, run, settle, Tells}
+use Rattle.machine.specs.WellFormed.{Table}
 use Rattle.machine.proofs.Settling.{Settles, settles, after-after}
 use Rattle.machine.proofs.Answers.{tells-as, tells-refused}
 use Rattle.machine.proofs.History.{settle-runs}
@@ -21,9 +19,10 @@ use Rattle.machine.proofs.Program.{settled-formed}
 use Rattle.automaton.specs.declared.Automaton.{Automaton}
 use Rattle.automaton.specs.Promise.{Gives, GivesKeyed}
 use Rattle.rounds.specs.declared.Rounds.{Rounds}
-use Rattle.rounds.specs.Promises.{Given, Kept, Settles as SettlesRows}
-use Rattle.table.specs.Arrays.{Keyed, Worded, Filed}
+use Rattle.rounds.specs.Promises.{Kept, Settles as SettlesRows}
+use Rattle.table.specs.Arrays.{Filed}
 use Rattle.printing.specs.Promise.{PrintsSheet}
+use Rattle.printing.proofs.Automata.{gives-filed, given-rows}
 
 module _ (rows : List Row) (t : Table rows) (highs lows words : List ℕ) (n k : ℕ) (f : Filed highs lows words n k rows)
     (a : Automaton) (g : GivesKeyed highs lows n words k a) (d : Rounds) (s : SettlesRows (a .letters) words (a .lefts) (a .rights) (a .initials) (a .finals) k d) where
@@ -34,15 +33,16 @@ module _ (rows : List Row) (t : Table rows) (highs lows words : List ℕ) (n k :
   same-rows = let x = settles rows (t .few-sets) in ap (λ (y : Machine). y .rows) (settle-runs rows x) ∙ after-after rows (x .rounds) .same-rows
 
   gives : Gives rows words k a
-  gives = g rows (t .fit) (f .0) (f .1 .count) (rw (f .1 .count, f .1 .words-are) (take-append-seam (sets rows) _))
+  gives = gives-filed t f g
 
   kept : Kept m (d .«loop_rounds») (d .«mix_rounds») (d .phase) (d .count)
-  kept = s rows (record { table = t; worded = f .1; masked = gives .masked; initial-iff = gives .initial-iff; final-iff = gives .final-iff })
+  kept = s rows (given-rows t (f .1) gives)
 
   -- a machine that is not settled refuses
-  pub not-settled : (p : Phase) (number : ℕ) (old : List ℕ) → d .phase ≡ p → ((y : Machine) → call-in p y (print (length old)) .answer ≡ refused number 0)
+  pub not-settled : (p : Phase) (number : ℕ) (old : List ℕ) → d .phase ≡ p → ((y : Machine) → call-in p y (print (length old)) ≡ refuse y number)
       → Tells (call m (print (length old)) .answer) old old (Refused number 0)
-  not-settled p number old e h = tells-as (sym (ap (λ (x : Phase). call-in x m (print (length old)) .answer) (sym (kept .phase-is) ∙ e) ∙ h m)) (tells-refused number 0 old)
+  not-settled p number old e h =
+      tells-as (ap (λ (x : Next). x .answer) (sym (ap (λ (x : Phase). call-in x m (print (length old))) (sym (kept .phase-is) ∙ e) ∙ h m))) (tells-refused number 0 old)
 
   -- one that is settled prints
   pub is-settled : (v : Verdict) → d .phase ≡ Settled v → (old new : List ℕ) (r : Answer) → PrintsSheet v highs lows n words k a d old new r
@@ -50,12 +50,3 @@ module _ (rows : List Row) (t : Table rows) (highs lows words : List ℕ) (n k :
   is-settled v e old new r h =
       h m (settled-formed rows t) (sym (kept .phase-is) ∙ e) (subst (λ (l : List Row). Filed highs lows words n k l) (sym same-rows) f)
       (subst (λ (l : List Row). Gives l words k a) (sym same-rows) gives) kept
-
--- the three phases
-pub open-prints : (size : ℕ) (y : Machine) → call-in Open y (print size) .answer ≡ refused 9 0
-unfolding call-in
-open-prints size y = refl
-
-pub running-prints : (size : ℕ) (y : Machine) → call-in Running y (print size) .answer ≡ refused 11 0
-unfolding call-in
-running-prints size y = refl

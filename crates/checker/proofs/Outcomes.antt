@@ -14,12 +14,13 @@ use Rattle.rows.specs.Batch.{Fed, fed, failed, feed}
 use Rattle.machine.specs.declared.Answer.{Answer}
 use Rattle.machine.specs.declared.Answer.the-variants.{Done, Wrote as WroteCount, Refused}
 use Rattle.machine.specs.Machine.{open-with, fresh, load-row}
-use Rattle.machine.specs.Calls.{load, print, Outcome, done, wrote, refused, Next, with-rows, call-in, call, run, settle, buffer-after, Tells}
+use Rattle.machine.specs.Calls.{load, print, Outcome, done, wrote, refused, Next, with-rows, call, run, settle, buffer-after, Tells}
 use Rattle.machine.specs.WellFormed.{Table}
 use Rattle.machine.specs.Text.{text}
 use Rattle.machine.specs.Sheet.{line}
 use Rattle.machine.specs.Program.{refusal-line, shown, ending, outcome, program}
 use Rattle.machine.proofs.Answers.{done-by, wrote-by, refused-by, tells-as, tells-refused}
+use Rattle.machine.proofs.Phases.{load-feeds}
 use Rattle.machine.proofs.Program.{outcome-size}
 use Rattle.texts.proofs.Digits.{number-short}
 use Rattle.table.specs.Arrays.{Filed, Comes}
@@ -32,22 +33,11 @@ pub empty-filed : Filed (replicate 256 0) (replicate 256 0) (replicate 64 0) 0 0
 unfolding sets
 empty-filed = (record { count = refl; highs-are = refl; lows-are = refl }, record { count = refl; words-are = refl })
 
-loads : (l : List ℕ) → call fresh (load l) ≡ with-rows fresh (feed load-row [] l)
-unfolding call-in
-loads l = refl
-
--- an answer that is not done
-pub wrote-not : {a : Answer} {n : ℕ} → a ≡ WroteCount n → a ≡ Done → ⊥
-wrote-not e d = let z : _≡_ {A = ℕ} 0 1 = cc in omega arith
-
-pub refused-not : {a : Answer} {n place : ℕ} → a ≡ Refused n place → a ≡ Done → ⊥
-refused-not e d = let z : _≡_ {A = ℕ} 0 1 = cc in omega arith
-
 -- what a load comes to, and what then is left to do
 module _ (l : List ℕ) (a : Answer) (Has : List Row → Type 0) (comes : Comes Has (feed load-row [] l) a) (old : List ℕ) where
   fed-outcome : (x : Fed (List Row)) → feed load-row [] l ≡ x → outcome l (length old) ≡ ending (with-rows fresh x .machine) (length old) (with-rows fresh x .answer)
   unfolding outcome
-  fed-outcome x f = ap (λ (y : Next). ending (y .machine) (length old) (y .answer)) (loads l ∙ ap (with-rows fresh) f)
+  fed-outcome x f = ap (λ (y : Next). ending (y .machine) (length old) (y .answer)) (load-feeds l .in-open fresh ∙ ap (with-rows fresh) f)
 
   pub load-refused : (a ≡ Done → ⊥) → Checks l old old a
   load-refused d = go (feed load-row [] l) refl comes

@@ -25,6 +25,13 @@ refused-by done n place e = let z : _≡_ {A = ℕ} 0 1 = cc in absurd (omega ar
 refused-by (wrote l) n place e = let z : _≡_ {A = ℕ} 0 1 = cc in absurd (omega arith)
 refused-by (refused k at) n place e = let i : k ≡ n = cc in let j : at ≡ place = cc in cc
 
+-- answers that are not done
+pub wrote-not-done : {r : Answer} {n : ℕ} → r ≡ Wrote n → r ≡ Done → ⊥
+wrote-not-done e d = let z : _≡_ {A = ℕ} 0 1 = cc in omega arith
+
+pub refused-not-done : {r : Answer} {n place : ℕ} → r ≡ Refused n place → r ≡ Done → ⊥
+refused-not-done e d = let z : _≡_ {A = ℕ} 0 1 = cc in omega arith
+
 -- an outcome, told in other words
 pub tells-as : {o q : Outcome} {old new : List ℕ} {r : Answer} → o ≡ q → Tells o old new r → Tells q old new r
 tells-as e t = rw e at t

@@ -10,6 +10,7 @@ pub mod Sheet
 pub mod Tables
 pub mod Answers
 pub mod Failing
+pub mod Phases
 pub mod Outcomes
 pub mod Loading
 pub mod Causes

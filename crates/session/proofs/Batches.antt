@@ -7,10 +7,10 @@ use Rattle.rows.specs.Batch.{Turn, Fed, fed, failed, feed}
 use Rattle.machine.specs.declared.Answer.{Answer}
 use Rattle.machine.specs.declared.Answer.the-variants.{Done}
 use Rattle.machine.specs.declared.Phase.{Phase}
-use Rattle.machine.specs.declared.Phase.the-variants.{Open}
-use Rattle.machine.specs.Machine.{Machine, load-row, withdraw-row}
-use Rattle.machine.specs.Calls.{Call, load, withdraw, with-rows, call-in, call}
+use Rattle.machine.specs.Machine.{Machine}
+use Rattle.machine.specs.Calls.{Call, with-rows, call-in, call}
 use Rattle.machine.specs.WellFormed.{Table}
+use Rattle.machine.proofs.Phases.{Feeds}
 use Rattle.table.specs.Arrays.{Filed, Comes}
 use Rattle.session.specs.declared.Slot.{Slot}
 use Rattle.session.specs.declared.Session.{Session}
@@ -35,18 +35,6 @@ pub takes-done : (s : Session) (high low words : List ℕ) (n k : ℕ) (slots : 
       rounds = s .rounds;
     }) a)
 takes-done s high low words n k slots h e = rw e (λ rows t f. rw (h rows (t .fit) (f .0), f .0 .count, f .1 .words-are, f .1 .count))
-
--- the rule of a call that feeds a batch to an open machine
-pub record Feeds (c : Call) (rule : Row → List Row → Turn (List Row)) (batch : List ℕ) : Type 0 where
-  pub in-open : (m : Machine) → call-in Open m c ≡ with-rows m (feed rule (m .rows) batch)
-
-pub load-feeds : (batch : List ℕ) → Feeds (load batch) load-row batch
-unfolding call-in
-load-feeds batch = record { in-open = λ m. refl }
-
-pub withdraw-feeds : (batch : List ℕ) → Feeds (withdraw batch) withdraw-row batch
-unfolding call-in
-withdraw-feeds batch = record { in-open = λ m. refl }
 
 -- what the batch comes to in the arrays, it comes to in the machine
 pub batch-keeps : {c : Call} {rule : Row → List Row → Turn (List Row)} {batch : List ℕ} → Feeds c rule batch → (s : Session) (a : Answer) (Has Then : List Row → Type 0)

@@ -1,19 +1,15 @@
 -- The gate at the head of the calls: what a call does by the state of its session, and what it does where it is done or refused.
-use Prim.Native.Nat.{ℕ, _<_, _≤_}
+use Prim.Native.Nat.{ℕ, _<_}
 use mathlib.Core.Path.{_≡_, refl, ap, sym, _∙_, subst}
 use mathlib.Core.Logic.{⊎-elim}
 use mathlib.Core.List.{List, [], _∷_}
 use types.Run.{OneOf}
 use denote.Enum.Declared.{tagOf}
 use native.Mathlib.Omega.{arith}
-use Rattle.machine.specs.declared.Answer.{Answer}
 use Rattle.machine.specs.declared.Answer.the-variants.{Done, Refused}
 use Rattle.machine.specs.declared.Phase.{Phase}
-use Rattle.machine.specs.declared.Phase.the-variants.{Open, Running, Settled}
-use Rattle.machine.specs.declared.Verdict.{Verdict}
 use Rattle.machine.specs.Machine.{Machine}
-use Rattle.machine.specs.Calls.{Call, round, print, Next, accept, refuse, refuse-at, call-in, call, Tells}
-use Rattle.machine.specs.Causes.{NotOpen, running, settled, NeedsOpen, loading, withdrawing, closing, NeedsClosed, reopening, rounding, printing}
+use Rattle.machine.specs.Calls.{Call, Next, accept, refuse, refuse-at, call-in, call, Tells}
 use Rattle.machine.proofs.Answers.{tells-as, tells-refused}
 use Rattle.session.specs.declared.Session.{Session}
 use Rattle.session.specs.declared.Reply.{Reply}
@@ -73,30 +69,3 @@ free f m p = absurd (f m p)
 pub refuses : (s : Session) (p : Phase) → ((m : Machine) → Represents m s → m .phase ≡ p) → (c : Call) (n : ℕ) → ((m : Machine) → call-in p m c ≡ refuse m n)
     → (old : List ℕ) {r : Reply} → r ≡ reply s (Refused n 0) → Keeps s c old old r
 refuses s p at c n f old g m h = does-refused m c old h (ap (λ (x : Phase). call-in x m c) (at m h) ∙ f m) g
-
--- ---- which refusal
-
--- load, withdraw and close of a machine that is not open
-pub not-open : {c : Call} → NeedsOpen c → {p : Phase} → NotOpen p → (m : Machine) → call-in p m c ≡ refuse m 1
-unfolding call-in
-not-open (loading l) running m = refl
-not-open (withdrawing l) running m = refl
-not-open closing running m = refl
-not-open (loading l) (settled v) m = refl
-not-open (withdrawing l) (settled v) m = refl
-not-open closing (settled v) m = refl
-
--- reopen, round and print of an open one
-pub still-open : {c : Call} → NeedsClosed c → (m : Machine) → call-in Open m c ≡ refuse m 9
-unfolding call-in
-still-open reopening m = refl
-still-open rounding m = refl
-still-open (printing size) m = refl
-
-pub round-settled : (v : Verdict) (m : Machine) → call-in (Settled v) m round ≡ refuse m 10
-unfolding call-in
-round-settled v m = refl
-
-pub print-running : (size : ℕ) (m : Machine) → call-in Running m (print size) ≡ refuse m 11
-unfolding call-in
-print-running size m = refl

@@ -5,4 +5,4 @@ pub mod Gate
 pub mod Batches
 pub mod Rounded
 pub mod Phases
-pub mod Printed
+pub mod Written

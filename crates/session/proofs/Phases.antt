@@ -1,18 +1,16 @@
 -- Close, round and reopen: what the machine does, and what the session does.
-use Prim.Native.Nat.{ℕ, _<_, _≤_}
-use mathlib.Core.Path.{_≡_, refl, ap, _∙_}
-use mathlib.Core.Bool.{Bool}
+use Prim.Native.Nat.{_≤_}
+use mathlib.Core.Path.{_≡_, ap, _∙_}
 use mathlib.Core.List.{[]}
 use lib.ListN.{replicate}
 use native.Mathlib.Omega.{arith}
-use Rattle.lists.proofs.Deciding.{so, ltb·}
-use mathlib.Core.Bool.{true, cond}
 use Rattle.machine.specs.declared.Answer.the-variants.{Done}
 use Rattle.machine.specs.declared.Phase.{Phase}
 use Rattle.machine.specs.declared.Phase.the-variants.{Open, Running}
-use Rattle.machine.specs.Machine.{Machine, closed, next-round, reopened}
-use Rattle.machine.specs.Calls.{close, round, reopen, Next, accept, refuse, call-in}
-use Rattle.machine.specs.Causes.{NotOpen, running, settled}
+use Rattle.machine.specs.Machine.{Machine}
+use Rattle.machine.specs.Calls.{close, round, reopen, call-in}
+use Rattle.machine.specs.Causes.{NotOpen}
+use Rattle.machine.proofs.Phases.{open-closes, running-rounds, not-open-reopens}
 use Rattle.machine.proofs.Demands.{never-130th}
 use Rattle.automaton.specs.declared.Automaton.{Automaton}
 use Rattle.rounds.specs.declared.Rounds.{Rounds}
@@ -27,32 +25,19 @@ use Rattle.session.proofs.Whole.{rounds-count}
 use Rattle.session.proofs.Gate.{does-done}
 use Rattle.session.proofs.Rounded.{closed-record, reopened-record, round-record}
 
-close-is : (m : Machine) → call-in Open m close ≡ accept (closed m)
-unfolding call-in
-close-is m = refl
-
-round-is : (m : Machine) → m .rounds < 129 → call-in Running m round ≡ accept (next-round m)
-unfolding call-in
-round-is m h = ap (λ (x : Bool). cond {A = Next} x (accept (next-round m)) (refuse m 13)) (so (ltb· (m .rounds) 129) h)
-
-reopen-is : (m : Machine) {p : Phase} → NotOpen p → call-in p m reopen ≡ accept (reopened m)
-unfolding call-in
-reopen-is m running = refl
-reopen-is m (settled v) = refl
-
 -- a machine that runs has done fewer than 129 rounds
 pub never-past : (s : Session) → 129 ≤ s .rounds → (m : Machine) → Represents m s → m .phase ≡ Running → ⊥
 never-past s h m p e = omega (arith, rounds-count m s p, never-130th m (p .formed) e)
 
 module _ (s : Session) (a : Automaton) (reads : Reads s a) (now : Rounds) {r : Reply} (made : r ≡ reply (with-rounds s now) Done) where
   pub close-done : Closes (a .letters) (s .sets) (a .lefts) (a .rights) (a .initials) (a .finals) now → KeepsIn (At IsOpen) s close [] [] r
-  close-done c m p e = does-done m close [] (ap (λ (x : Phase). call-in x m close) e ∙ close-is m) (closed-record m s p a now reads c) made
+  close-done c m p e = does-done m close [] (ap (λ (x : Phase). call-in x m close) e ∙ open-closes m) (closed-record m s p a now reads c) made
 
   pub round-done : DoesRound (a .letters) (s .sets) (a .lefts) (a .rights) (a .initials) (a .finals) (s .«set_count») (rounds-in s) now
       → KeepsIn (At IsRunning) s round [] [] r
   round-done d m p e =
-      does-done m round [] (ap (λ (x : Phase). call-in x m round) e ∙ round-is m (never-130th m (p .formed) e)) (round-record m s p a now reads d) made
+      does-done m round [] (ap (λ (x : Phase). call-in x m round) e ∙ running-rounds m (never-130th m (p .formed) e)) (round-record m s p a now reads d) made
 
 pub reopen-done : (s : Session) {r : Reply} → r ≡ reply (with-rounds s (record { «loop_rounds» = replicate 64 0; «mix_rounds» = replicate 64 0; phase = Open; count = 0 })) Done
     → KeepsIn NotOpen s reopen [] [] r
-reopen-done s made m p n = does-done m reopen [] (reopen-is m n) (reopened-record m s p) made
+reopen-done s made m p n = does-done m reopen [] (not-open-reopens n m) (reopened-record m s p) made

@@ -8,6 +8,7 @@ use Rattle.automaton.specs.declared.Automaton.{Automaton}
 use Rattle.rounds.specs.declared.Rounds.{Rounds}
 use Rattle.rounds.specs.Promises.{Given, Kept, Closes, DoesRound}
 use Rattle.rounds.proofs.OpenClaims.{no-rounds}
+use Rattle.printing.proofs.Automata.{given-rows}
 use Rattle.session.specs.declared.Session.{Session}
 use Rattle.session.specs.Record.{record-of, Represents}
 use Rattle.session.specs.Standing.{rounds-in, with-rounds, Reads}
@@ -16,13 +17,7 @@ use Rattle.session.proofs.Whole.{worded-of}
 module _ (m : Machine) (s : Session) (p : Represents m s) where
   -- the masks of the machine's rows
   given-of : (a : Automaton) → Reads s a → Given (m .rows) (a .letters) (s .sets) (a .lefts) (a .rights) (a .initials) (a .finals) (s .«set_count»)
-  given-of a h = let g = h m p in record {
-    table = p .formed .table;
-    worded = worded-of m s p;
-    masked = g .masked;
-    initial-iff = g .initial-iff;
-    final-iff = g .final-iff;
-  }
+  given-of a h = given-rows (p .formed .table) (worded-of m s p) (h m p)
 
   pub kept-of : Kept m (s .«loop_rounds») (s .«mix_rounds») (s .phase) (s .rounds)
   unfolding record-of

@@ -1,6 +1,8 @@
 -- `finish` meets its contract, phase by phase.
 use Rattle.machine.specs.declared.Phase.the-variants.{Open, Running}
-use Rattle.checker.proofs.Finishing.{not-settled, is-settled, open-prints, running-prints}
+use Rattle.machine.specs.Causes.{printing}
+use Rattle.machine.proofs.Phases.{open-refuses, running-refuses}
+use Rattle.checker.proofs.Finishing.{not-settled, is-settled}
 use borrow.Author.Needs.{needs}
 use Rattle.checker.proofs.finish.Statement.{statement}
 use Rattle.checker.proofs.finish.Tie as tie
@@ -28,14 +30,14 @@ returns c rows t f =
     let d = c .before .before in
     let a = d .before .before .before .args in
     not-settled rows t (a .high .now) (a .low .now) (a .words .now) (a .n) (a .k) f (d .before .of-keys .result) (d .before .of-keys .ensures) (d .settled .result) (d .settled .ensures)
-    Open 9 (a .sheet .now) (c .enum-told .given .1) (open-prints _)
+    Open 9 (a .sheet .now) (c .enum-told .given .1) (open-refuses (printing _))
 
 returns-2 : tie.Need-returns-2
 returns-2 c rows t f =
     let d = c .before .before in
     let a = d .before .before .before .args in
     not-settled rows t (a .high .now) (a .low .now) (a .words .now) (a .n) (a .k) f (d .before .of-keys .result) (d .before .of-keys .ensures) (d .settled .result) (d .settled .ensures)
-    Running 11 (a .sheet .now) (c .enum-told2 .given .1) (running-prints _)
+    Running 11 (a .sheet .now) (c .enum-told2 .given .1) (running-refuses _)
 
 same-length : tie.Need-same-length
 same-length c = search needs

@@ -1,5 +1,5 @@
 -- `automaton` meets its contract: the keys and the sets are those of the machine's rows.
-use Rattle.session.proofs.Printed.{reads-of}
+use Rattle.session.proofs.Written.{reads-of}
 use borrow.Author.Needs.{needs}
 use Rattle.session.proofs.Session.automaton.Statement.{statement}
 use Rattle.session.proofs.Session.automaton.Tie as tie

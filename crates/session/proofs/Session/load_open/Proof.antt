@@ -2,8 +2,9 @@
 use Rattle.table.specs.Arrays.{Filed}
 use mathlib.Core.List.{List}
 use Rattle.rows.specs.declared.Row.{Row}
+use Rattle.machine.proofs.Phases.{load-feeds}
 use Rattle.session.proofs.Whole.{keyed-of, worded-of}
-use Rattle.session.proofs.Batches.{load-feeds, batch-keeps}
+use Rattle.session.proofs.Batches.{batch-keeps}
 use borrow.Author.Needs.{needs}
 use Rattle.session.proofs.Session.load_open.Statement.{statement}
 use Rattle.session.proofs.Session.load_open.Tie as tie

@@ -3,7 +3,8 @@ use lib.ListN.{length}
 use Rattle.machine.specs.declared.Phase.the-variants.{Open, Running}
 use Rattle.machine.specs.Calls.{print}
 use Rattle.machine.specs.Causes.{printing}
-use Rattle.session.proofs.Gate.{meets, in-range, serves, free, refuses, still-open, print-running}
+use Rattle.machine.proofs.Phases.{open-refuses, running-refuses}
+use Rattle.session.proofs.Gate.{meets, in-range, serves, free, refuses}
 use borrow.Author.Needs.{needs}
 use Rattle.session.proofs.Session.print.Statement.{statement}
 use Rattle.session.proofs.Session.print.Tie as tie
@@ -48,14 +49,14 @@ returns-2 c =
     let t = c .before .before .before in
     let a = t .before .before .args in
     let size = length (a .buffer .now) in
-    refuses (a .self) Open (meets (a .self) (t .state .ensures) (c .before .enum-told2 .given .1)) (print size) 9 (still-open (printing size)) (a .buffer .now) (c .refuse2 .ensures)
+    refuses (a .self) Open (meets (a .self) (t .state .ensures) (c .before .enum-told2 .given .1)) (print size) 9 (open-refuses (printing size)) (a .buffer .now) (c .refuse2 .ensures)
 
 returns-3 : tie.Need-returns-3
 returns-3 c =
     let t = c .before .before .before in
     let a = t .before .before .args in
     let size = length (a .buffer .now) in
-    refuses (a .self) Running (meets (a .self) (t .state .ensures) (c .before .enum-told3 .given .1)) (print size) 11 (print-running size) (a .buffer .now) (c .refuse3 .ensures)
+    refuses (a .self) Running (meets (a .self) (t .state .ensures) (c .before .enum-told3 .given .1)) (print size) 11 (running-refuses size) (a .buffer .now) (c .refuse3 .ensures)
 
 same-length : tie.Need-same-length
 same-length c = search needs

@@ -2,7 +2,7 @@
 use mathlib.Core.Path.{subst}
 use Rattle.rounds.specs.declared.Rounds.{Rounds}
 use Rattle.printing.specs.Promise.{PrintsSheet}
-use Rattle.session.proofs.Printed.{prints-settled}
+use Rattle.session.proofs.Written.{prints-settled}
 use borrow.Author.Needs.{needs}
 use Rattle.session.proofs.Session.print_settled.Statement.{statement}
 use Rattle.session.proofs.Session.print_settled.Tie as tie

@@ -4,7 +4,8 @@ use mathlib.Core.List.{[]}
 use Rattle.machine.specs.declared.Phase.the-variants.{Open}
 use Rattle.machine.specs.Calls.{reopen}
 use Rattle.machine.specs.Causes.{NotOpen, running, settled, reopening}
-use Rattle.session.proofs.Gate.{meets, free, refuses, still-open}
+use Rattle.machine.proofs.Phases.{open-refuses}
+use Rattle.session.proofs.Gate.{meets, free, refuses}
 use borrow.Author.Needs.{needs}
 use Rattle.session.proofs.Session.reopen.Statement.{statement}
 use Rattle.session.proofs.Session.reopen.Tie as tie
@@ -45,7 +46,7 @@ returns-2 : tie.Need-returns-2
 returns-2 c =
     let t = c .before .before .before in
     let s = t .before .args .self in
-    refuses s Open (meets s (t .state .ensures) (c .before .enum-told2 .given .1)) reopen 9 (still-open reopening) [] (c .refuse2 .ensures)
+    refuses s Open (meets s (t .state .ensures) (c .before .enum-told2 .given .1)) reopen 9 (open-refuses reopening) [] (c .refuse2 .ensures)
 
 returns-3 : tie.Need-returns-3
 returns-3 c m p =

@@ -3,7 +3,8 @@ use mathlib.Core.List.{[]}
 use Rattle.machine.specs.declared.Phase.the-variants.{Open, Settled}
 use Rattle.machine.specs.Calls.{round}
 use Rattle.machine.specs.Causes.{rounding}
-use Rattle.session.proofs.Gate.{meets, in-range, serves, free, refuses, still-open, round-settled}
+use Rattle.machine.proofs.Phases.{open-refuses, settled-refuses}
+use Rattle.session.proofs.Gate.{meets, in-range, serves, free, refuses}
 use Rattle.session.proofs.Phases.{never-past}
 use borrow.Author.Needs.{needs}
 use Rattle.session.proofs.Session.round.Statement.{statement}
@@ -50,7 +51,7 @@ returns-2 : tie.Need-returns-2
 returns-2 c =
     let t = c .before .before .before in
     let s = t .before .args .self in
-    refuses s Open (meets s (t .state .ensures) (c .before .enum-told2 .given .1)) round 9 (still-open rounding) [] (c .refuse2 .ensures)
+    refuses s Open (meets s (t .state .ensures) (c .before .enum-told2 .given .1)) round 9 (open-refuses rounding) [] (c .refuse2 .ensures)
 
 returns-3 : tie.Need-returns-3
 returns-3 c =
@@ -68,7 +69,7 @@ returns-5 c =
     let t = c .before .before .before in
     let s = t .before .args .self in
     let v = c .before .enum-told4 .given .0 .0 in
-    refuses s (Settled v) (meets s (t .state .ensures) (c .before .enum-told4 .given .1)) round 10 (round-settled v) [] (c .refuse4 .ensures)
+    refuses s (Settled v) (meets s (t .state .ensures) (c .before .enum-told4 .given .1)) round 10 (settled-refuses v) [] (c .refuse4 .ensures)
 
 pub round-spec : {M : Type 1} → statement M
 round-spec =

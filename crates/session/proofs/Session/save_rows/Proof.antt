@@ -1,5 +1,5 @@
 -- `save_rows` meets its contract: the keys are those of the standing rows.
-use Rattle.session.proofs.Printed.{saves-rows}
+use Rattle.session.proofs.Written.{saves-rows}
 use borrow.Author.Needs.{needs}
 use Rattle.session.proofs.Session.save_rows.Statement.{statement}
 use Rattle.session.proofs.Session.save_rows.Tie as tie

@@ -1,7 +1,8 @@
 -- `withdraw_open` meets its contract: what the arrays come to is what the machine comes to.
 use Rattle.table.specs.Arrays.{Keyed, Filed}
+use Rattle.machine.proofs.Phases.{withdraw-feeds}
 use Rattle.session.proofs.Whole.{keyed-of}
-use Rattle.session.proofs.Batches.{withdraw-feeds, batch-keeps}
+use Rattle.session.proofs.Batches.{batch-keeps}
 use borrow.Author.Needs.{needs}
 use Rattle.session.proofs.Session.withdraw_open.Statement.{statement}
 use Rattle.session.proofs.Session.withdraw_open.Tie as tie

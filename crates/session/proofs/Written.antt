@@ -2,11 +2,10 @@
 use Prim.Native.Nat.{ℕ}
 use mathlib.Core.Path.{_≡_, ap, sym, _∙_, subst}
 use mathlib.Core.List.{List}
-use lib.ListN.{length, take}
-use lib.Seq.{take-append-seam}
+use lib.ListN.{length}
 use Rattle.rows.specs.declared.Row.{Row}
 use Rattle.lists.specs.Order.{sort-by}
-use Rattle.rows.specs.Rows.{row-bytes, batch-of, sets}
+use Rattle.rows.specs.Rows.{row-bytes, batch-of}
 use Rattle.machine.specs.declared.Answer.{Answer}
 use Rattle.machine.specs.declared.Verdict.{Verdict}
 use Rattle.machine.specs.Machine.{Machine}
@@ -16,25 +15,24 @@ use Rattle.machine.proofs.Tables.{sort-table}
 use Rattle.machine.proofs.Outcomes.{writing}
 use Rattle.table.specs.Arrays.{Keyed}
 use Rattle.automaton.specs.declared.Automaton.{Automaton}
-use Rattle.automaton.specs.Promise.{Gives, GivesKeyed}
+use Rattle.automaton.specs.Promise.{GivesKeyed}
 use Rattle.printing.specs.Promise.{PrintsSheet}
 use Rattle.printing.specs.Saving.{row-list}
+use Rattle.printing.proofs.Automata.{gives-filed}
 use Rattle.printing.proofs.Saving.{rows-held}
 use Rattle.session.specs.declared.Session.{Session}
 use Rattle.session.specs.declared.State.the-variants.{Settled as IsSettled}
 use Rattle.session.specs.Record.{record-of, Represents}
 use Rattle.session.specs.Promise.{Keeps, KeepsIn, At}
 use Rattle.session.specs.Standing.{standing, reply, rounds-in, Reads}
-use Rattle.session.proofs.Whole.{set-count-of, sets-array, keyed-of, worded-of}
+use Rattle.session.proofs.Whole.{keyed-of, worded-of}
 use Rattle.session.proofs.Gate.{does-as}
 use Rattle.session.proofs.Rounded.{kept-of}
 
 -- the masks of the machine's rows, from the keys of the standing rows
 pub reads-of : (s : Session) (high low : List ℕ) → Keyed (standing s) high low (s .«row_count»)
     → (a : Automaton) → GivesKeyed high low (s .«row_count») (s .sets) (s .«set_count») a → Reads s a
-reads-of s high low keyed a g m p =
-    let are : take (s .«set_count») (s .sets) ≡ sets (m .rows) = rw (set-count-of m s p, sets-array m s p) (take-append-seam (sets (m .rows)) _) in
-    g (m .rows) (p .formed .table .fit) (keyed-of m s p high low keyed) (set-count-of m s p) are
+reads-of s high low keyed a g m p = gives-filed (p .formed .table) (keyed-of m s p high low keyed, worded-of m s p) g
 
 -- the sheet of a settled session
 pub prints-settled : (s : Session) (v : Verdict) (high low : List ℕ) → Keyed (standing s) high low (s .«row_count»)

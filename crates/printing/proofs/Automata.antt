@@ -1,0 +1,20 @@
+-- The masks of a table that arrays hold.
+use Prim.Native.Nat.{ℕ}
+use mathlib.Core.List.{List}
+use lib.Seq.{take-append-seam}
+use Rattle.rows.specs.declared.Row.{Row}
+use Rattle.rows.specs.Rows.{sets}
+use Rattle.machine.specs.WellFormed.{Table}
+use Rattle.table.specs.Arrays.{Worded, Filed}
+use Rattle.automaton.specs.declared.Automaton.{Automaton}
+use Rattle.automaton.specs.Promise.{Gives, GivesKeyed}
+use Rattle.rounds.specs.Promises.{Given}
+
+module _ {rows : List Row} (t : Table rows) {words : List ℕ} {k : ℕ} {a : Automaton} where
+  -- from its keys
+  pub gives-filed : {highs lows : List ℕ} {n : ℕ} → Filed highs lows words n k rows → GivesKeyed highs lows n words k a → Gives rows words k a
+  gives-filed f g = g rows (t .fit) (f .0) (f .1 .count) (rw (f .1 .count, f .1 .words-are) (take-append-seam (sets rows) _))
+
+  -- as the rounds are given them
+  pub given-rows : Worded rows words k → Gives rows words k a → Given rows (a .letters) words (a .lefts) (a .rights) (a .initials) (a .finals) k
+  given-rows w g = record { table = t; worded = w; masked = g .masked; initial-iff = g .initial-iff; final-iff = g .final-iff }
