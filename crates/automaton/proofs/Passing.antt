@@ -3,7 +3,7 @@ use Prim.Native.Nat.{ℕ, _+_, _<_, _≤_}
 use mathlib.Core.Path.{_≡_, refl, ap, ap₂, sym, _∙_, subst}
 use mathlib.Core.Logic.{_⊎_, inl, inr, ⊎-elim, _↔_, _≢_}
 use mathlib.Core.List.{List, [], _∷_, _++_, List·Memᴰ·head, List·Memᴰ·not-nil, List·Memᴰ·append-cases, List·Memᴰ·eq-of-singleton, Memᴰ·cast, Memᴰ·append-left, Memᴰ·append-right}
-use lib.ListN.{length, take, getD, length-take, length-drop}
+use lib.ListN.{length, take, getD, length-take, length-drop, length-append, length-replicate}
 use lib.Seq.{getD-take, ext-getD}
 use native.Mathlib.Omega.{arith}
 use Rattle.lists.specs.Tests.{_among_}
@@ -21,7 +21,7 @@ use Rattle.rows.proofs.Keys.{key-back}
 use Rattle.rows.proofs.Sets.{words-rise}
 use Rattle.search.specs.Graph.{part, graph-of}
 use Rattle.search.proofs.Parts.{past-part, letters-at, sets-at, lefts-at, rights-at}
-use Rattle.table.specs.Arrays.{Keyed}
+use Rattle.table.specs.Arrays.{Keyed, Worded}
 use Rattle.automaton.specs.declared.Automaton.{Automaton}
 use Rattle.automaton.specs.Promise.{Adds, Puts, HasSets, Places, Gives}
 use Rattle.automaton.proofs.Adding.{put-iff}
@@ -233,3 +233,10 @@ module _ (rows : List Row) (fit : AllFit rows) (sets : List ℕ) (k : ℕ) (coun
       initial-iff = λ t. one-row (Initial t) t (fit (Initial t)) (h .starts t);
       final-iff = λ t. one-row (Final t) t (fit (Final t)) (h .ends t);
     }
+
+-- the graph holds the sets as the array did that they came from
+pub graph-worded : (rows : List Row) (sets : List ℕ) (k : ℕ) (a : Automaton) → Gives rows sets k a → Worded rows sets k → Worded rows (graph-of (a .graph) .sets) k
+graph-worded rows sets k a gives w = record { count = w .count; words-are = gives .sets-are sized ∙ w .words-are }
+  where
+    sized : length sets ≡ 64
+    sized = ap length (w .words-are) ∙ simp (length-append, length-replicate) (omega (arith, gives .masked .few, w .count))
