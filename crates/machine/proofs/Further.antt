@@ -11,21 +11,33 @@ use Rattle.rows.specs.Reading.{set-at, state-row, step-row, limit-row, kind-row
 use Rattle.rows.specs.Batch.{on-turn, on-read, feed-from, feed}
 use Rattle.orderings.specs.Steps.{members}
 use Rattle.orderings.specs.Decide.{reach, holds?, accepts?}
+use Rattle.machine.specs.declared.Phase.the-variants.{Running}
 use Rattle.machine.specs.Machine.{fresh, load-row, withdraw-row, closed, opened-next, next-round}
 use Rattle.machine.specs.Search.{walk-of, least, shortest}
 use Rattle.machine.specs.Text.{text, hex, decimal}
 use Rattle.machine.specs.Sheet.{sheet}
-use Rattle.machine.specs.Calls.{Call, load, withdraw, close, round, reopen, print, save, Outcome, wrote, refused, call-in, call, run}
+use Rattle.machine.specs.Calls.{Call, load, withdraw, close, round, reopen, print, save, Outcome, done, wrote, refused, call-in, call, run}
 use Rattle.machine.specs.Program.{outcome, program}
 
 abbrev on-rows : List Row → List ℕ
 on-rows rows = program (batch-of rows)
+
+-- a sheet, byte by byte
+pub sheet-in-bytes : on-rows (Initial 10 ∷ Final 63 ∷ Successor 10 255 63 ∷ []) ≡ 118 ∷ 101 ∷ 114 ∷ 100 ∷ 105 ∷ 99 ∷ 116 ∷ 32 ∷ 110 ∷ 111 ∷ 110 ∷ 101 ∷ 109 ∷ 112 ∷ 116 ∷ 121 ∷ 32 ∷ 114 ∷ 111 ∷ 117 ∷ 110 ∷ 100 ∷ 115 ∷ 32 ∷ 48 ∷ 10 ∷ 115 ∷ 116 ∷ 97 ∷ 114 ∷ 116 ∷ 32 ∷ 49 ∷ 48 ∷ 10 ∷ 115 ∷ 116 ∷ 101 ∷ 112 ∷ 32 ∷ 108 ∷ 101 ∷ 116 ∷ 116 ∷ 101 ∷ 114 ∷ 32 ∷ 50 ∷ 53 ∷ 53 ∷ 32 ∷ 116 ∷ 111 ∷ 32 ∷ 54 ∷ 51 ∷ 10 ∷ []
+unfolding ℕ-discrete member row-bytes sets same-row set-at state-row step-row limit-row kind-row read-row on-turn on-read feed-from feed members reach holds? accepts? load-row closed opened-next next-round walk-of least shortest hex decimal sheet call-in outcome program
+sheet-in-bytes = refl
 
 -- by round, then set, then loop before mix; sets compare as numbers, with bit 63 too
 pub openings : on-rows (Initial 0 ∷ Final 5 ∷ Successor 0 7 0 ∷ Successor 1 7 1 ∷ Successor 63 7 63 ∷ LeftLimit 9223372036854775808 63 ∷ RightLimit 0 1 ∷ LeftLimit 1 0 ∷ LeftLimit 2 1 ∷ [])
     ≡ text "verdict empty rounds 2\nopen 1 loop 0000000000000001\nopen 1 mix 0000000000000001\nopen 1 loop 0000000000000002\nopen 1 loop 8000000000000000\n"
 unfolding ℕ-discrete member row-bytes sets same-row set-at state-row step-row limit-row kind-row read-row on-turn on-read feed-from feed members reach holds? accepts? load-row closed opened-next next-round walk-of least shortest hex decimal sheet call-in outcome program
 openings = refl
+
+-- the round before the set
+pub openings-by-round : on-rows (Initial 0 ∷ Final 2 ∷ Successor 0 7 0 ∷ Successor 1 7 0 ∷ LeftLimit 1 1 ∷ LeftLimit 3 2 ∷ Successor 5 7 5 ∷ LeftLimit 32 6 ∷ [])
+    ≡ text "verdict nonempty rounds 2\nopen 1 loop 0000000000000001\nopen 1 loop 0000000000000020\nopen 2 loop 0000000000000003\nstart 0\nstep omega 0000000000000003 to 2\n"
+unfolding ℕ-discrete member row-bytes sets same-row set-at state-row step-row limit-row kind-row read-row on-turn on-read feed-from feed members reach holds? accepts? load-row closed opened-next next-round walk-of least shortest hex decimal sheet call-in outcome program
+openings-by-round = refl
 
 -- what each table below shares: the sets {0}, {1} and {2} loop and mix
 abbrev three : List Row
@@ -142,3 +154,34 @@ pub calls : (answer-after (close ∷ []) (load (6 ∷ [])) ≡ refused 1 0)
     × (answer-after (load (2 ∷ 5 ∷ 1 ∷ 3 ∷ []) ∷ withdraw (2 ∷ 5 ∷ []) ∷ close ∷ reopen ∷ []) (save 9) ≡ wrote (1 ∷ 3 ∷ []))
 unfolding ℕ-discrete member row-bytes sets same-row set-at state-row step-row limit-row kind-row read-row on-turn on-read feed-from feed members reach holds? accepts? load-row withdraw-row closed opened-next next-round walk-of least shortest hex decimal sheet call-in
 calls = (refl, refl, refl, refl, refl, refl, refl, refl, refl)
+
+-- each call in each phase: open, running, settled
+pub phases : (answer-after [] (load []) ≡ done)
+    × (answer-after (close ∷ []) (load []) ≡ refused 1 0)
+    × (answer-after (close ∷ round ∷ []) (load []) ≡ refused 1 0)
+    × (answer-after [] (withdraw []) ≡ done)
+    × (answer-after (close ∷ []) (withdraw []) ≡ refused 1 0)
+    × (answer-after (close ∷ round ∷ []) (withdraw []) ≡ refused 1 0)
+    × (answer-after [] close ≡ done)
+    × (answer-after (close ∷ []) close ≡ refused 1 0)
+    × (answer-after (close ∷ round ∷ []) close ≡ refused 1 0)
+    × (answer-after [] round ≡ refused 9 0)
+    × (answer-after (close ∷ []) round ≡ done)
+    × (answer-after (close ∷ round ∷ []) round ≡ refused 10 0)
+    × (answer-after [] reopen ≡ refused 9 0)
+    × (answer-after (close ∷ []) reopen ≡ done)
+    × (answer-after (close ∷ round ∷ []) reopen ≡ done)
+    × (answer-after [] (print 23) ≡ refused 9 0)
+    × (answer-after (close ∷ []) (print 23) ≡ refused 11 0)
+    × (answer-after (close ∷ round ∷ []) (print 23) ≡ wrote (text "verdict empty rounds 1\n"))
+    × (answer-after (load (1 ∷ 3 ∷ []) ∷ []) (save 1) ≡ refused 12 0)
+    × (answer-after (load (1 ∷ 3 ∷ []) ∷ []) (save 2) ≡ wrote (1 ∷ 3 ∷ []))
+    × (answer-after (load (1 ∷ 3 ∷ []) ∷ close ∷ []) (save 2) ≡ wrote (1 ∷ 3 ∷ []))
+    × (answer-after (load (1 ∷ 3 ∷ []) ∷ close ∷ round ∷ []) (save 2) ≡ wrote (1 ∷ 3 ∷ []))
+unfolding ℕ-discrete member row-bytes sets same-row set-at state-row step-row limit-row kind-row read-row on-turn on-read feed-from feed members reach holds? accepts? load-row withdraw-row closed opened-next next-round walk-of least shortest hex decimal sheet call-in
+phases = (refl, refl, refl, refl, refl, refl, refl, refl, refl, refl, refl, refl, refl, refl, refl, refl, refl, refl, refl, refl, refl, refl)
+
+-- a 130th round, of a machine that no calls make
+pub round-130 : (rows : List Row) → call (record { rows = rows; phase = Running; openings = []; rounds = 129 }) round .answer ≡ refused 13 0
+unfolding call-in
+round-130 rows = refl

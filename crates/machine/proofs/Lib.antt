@@ -11,6 +11,7 @@ pub mod Tables
 pub mod Answers
 pub mod Failing
 pub mod Phases
+pub mod Limits
 pub mod Outcomes
 pub mod Loading
 pub mod Causes

@@ -53,22 +53,30 @@ pub mix-outside : accepts? (Initial 0 ∷ Final 2 ∷ RightLimit 0 2 ∷ LeftLim
 unfolding ℕ-discrete member sets same-row members reach accepts?
 mix-outside = refl
 
--- a step's content has its ends: a state outside the set between two steps of claims, between one and a letter step, and between a letter step and one
+-- a letter step's content is its two states
+pub letters-inside : (opened (Successor 0 7 1 ∷ Successor 1 7 0 ∷ LeftLimit 1 2 ∷ []) 1 ≡ []) × (opened (Successor 0 7 1 ∷ Successor 1 7 0 ∷ LeftLimit 3 2 ∷ []) 1 ≡ loops 3 ∷ [])
+unfolding ℕ-discrete member sets same-row members reach holds?
+letters-inside = (refl, refl)
+
+-- a step's content has its ends: no walk inside a set goes through a state outside it, between two mix steps, an omega or mix step and a letter
+-- step, and a letter step and a back or mix step
 pub ends-inside : (opened (Successor 2 7 2 ∷ Successor 3 7 3 ∷ Successor 1 7 0 ∷ RightLimit 2 4 ∷ LeftLimit 4 2 ∷ RightLimit 0 4 ∷ LeftLimit 4 5 ∷ RightLimit 5 8 ∷ LeftLimit 8 3 ∷ RightLimit 3 8 ∷ LeftLimit 8 1 ∷ LeftLimit 15 6 ∷ []) 3
     ≡ loops 4 ∷ mixes 4 ∷ loops 8 ∷ mixes 8 ∷ [])
     × (opened (Successor 2 7 2 ∷ Successor 1 7 2 ∷ Successor 5 7 1 ∷ LeftLimit 4 5 ∷ LeftLimit 6 3 ∷ []) 3 ≡ loops 4 ∷ [])
+    × (opened (Successor 2 7 2 ∷ Successor 1 7 2 ∷ Successor 5 7 1 ∷ LeftLimit 4 5 ∷ LeftLimit 4 2 ∷ RightLimit 2 4 ∷ LeftLimit 6 3 ∷ []) 3 ≡ loops 4 ∷ mixes 4 ∷ [])
     × (opened (Successor 2 7 2 ∷ Successor 2 7 1 ∷ Successor 1 7 5 ∷ RightLimit 5 4 ∷ RightLimit 3 6 ∷ []) 3 ≡ loops 4 ∷ [])
+    × (opened (Successor 2 7 2 ∷ Successor 2 7 1 ∷ Successor 1 7 5 ∷ RightLimit 5 4 ∷ LeftLimit 4 2 ∷ RightLimit 2 4 ∷ RightLimit 3 6 ∷ []) 3 ≡ loops 4 ∷ mixes 4 ∷ [])
 unfolding ℕ-discrete member sets same-row members reach holds?
-ends-inside = (refl, refl, refl)
+ends-inside = (refl, refl, refl, refl, refl)
 
--- state 5 between an omega step of {0} and a back step of {1}, and where both sets mix too
+-- and between an omega or mix step of {0} and a back or mix step of {1}
 pub limit-state-inside : (opened (Successor 0 7 0 ∷ Successor 1 7 1 ∷ Successor 1 7 0 ∷ LeftLimit 1 5 ∷ RightLimit 5 2 ∷ LeftLimit 3 7 ∷ []) 3 ≡ loops 1 ∷ loops 2 ∷ [])
     × (opened (Successor 0 7 0 ∷ Successor 1 7 1 ∷ Successor 1 7 0 ∷ LeftLimit 1 0 ∷ RightLimit 0 1 ∷ LeftLimit 2 1 ∷ RightLimit 1 2 ∷ LeftLimit 1 5 ∷ RightLimit 5 2 ∷ LeftLimit 3 7 ∷ []) 3
     ≡ loops 1 ∷ mixes 1 ∷ loops 2 ∷ mixes 2 ∷ [])
 unfolding ℕ-discrete member sets same-row members reach holds?
 limit-state-inside = (refl, refl)
 
--- and a content has no more: with 5 in the set the same steps do
+-- a content has no more: with 5 in the set the same steps are inside it
 pub content-enough : opened (Successor 0 7 0 ∷ Successor 1 7 1 ∷ Successor 1 7 0 ∷ LeftLimit 1 5 ∷ RightLimit 5 2 ∷ LeftLimit 35 7 ∷ []) 2 ≡ loops 1 ∷ loops 2 ∷ loops 35 ∷ []
 unfolding ℕ-discrete member sets same-row members reach holds?
 content-enough = refl
@@ -109,3 +117,11 @@ pub claims-needed : (accepts? (Initial 0 ∷ Final 2 ∷ LeftLimit 3 2 ∷ []) (
     × (accepts? (Initial 2 ∷ Final 3 ∷ RightLimit 2 3 ∷ LeftLimit 3 3 ∷ []) (mixes 3 ∷ []) ≡ true)
 unfolding ℕ-discrete member sets same-row members reach accepts?
 claims-needed = (refl, refl, refl, refl)
+
+-- zero steps suffice where a state is initial and final; else a walk goes from the initial to the final state
+pub from-initial-to-final : (accepts? (Initial 0 ∷ Final 0 ∷ []) [] ≡ true)
+    × (accepts? (Initial 0 ∷ Final 1 ∷ []) [] ≡ false)
+    × (accepts? (Initial 0 ∷ Final 1 ∷ Successor 0 7 1 ∷ []) [] ≡ true)
+    × (accepts? (Initial 0 ∷ Final 1 ∷ Successor 1 7 0 ∷ []) [] ≡ false)
+unfolding ℕ-discrete member sets same-row members reach accepts?
+from-initial-to-final = (refl, refl, refl, refl)
