@@ -7,6 +7,11 @@ ghost use Prim.Native.Nat.{_≤_};
 ghost use Rattle.rounds.specs.Promises.{Settles};
 ghost use Rattle.checker.specs.Promise.{Finishes, Checks, ShowsSheet};
 
+// The longest batch, and a length that every sheet and every line of a refusal fits into.
+const LONGEST_BATCH: usize = 65536;
+
+const LONGEST_SHEET: usize = 6400;
+
 // The rounds of the automaton, until it is settled.
 fn settled(a: Automaton, words: &[u64; 64], k: usize) -> Rounds
     requires { ⌜ k ≤ 64 ⌝ }
@@ -64,10 +69,10 @@ pub fn check(batch: &[u8], sheet: &mut [u8]) -> Answer
 pub fn show(input: &[u8], out: &mut [u8]) -> usize
     ensures { λ r. ⌜ ShowsSheet (now (input .entry)) (now (out .entry)) (now (out .exit)) r ⌝ }
 {
-    if out.len() < 6400 {
+    if out.len() < LONGEST_SHEET {
         return 0;
     }
-    if input.len() > 65536 {
+    if input.len() > LONGEST_BATCH {
         return texts::put_text(out, b"too long\n");
     }
     match check(input, out) {

@@ -11,6 +11,13 @@ use machine::Phase;
 use machine::Verdict;
 use rows::Row;
 
+// As many rows and sets as can stand, and as many rounds as a session can have done.
+pub const ROWS: usize = 256;
+
+pub const SETS: usize = 64;
+
+pub const ROUNDS: u8 = 129;
+
 // What a field that is an array can hold: a struct that holds the row.
 pub struct Slot {
     pub row: Row,
@@ -19,12 +26,12 @@ pub struct Slot {
 // The standing rows sorted as byte strings; their sets, rising; the rounds in which the loop and the mix of each set opened, 0 for
 // not open; the phase and the count of rounds. What is not used holds a filler.
 pub struct Session {
-    pub rows: [Slot; 256],
+    pub rows: [Slot; ROWS],
     pub row_count: usize,
-    pub sets: [u64; 64],
+    pub sets: [u64; SETS],
     pub set_count: usize,
-    pub loop_rounds: [u8; 64],
-    pub mix_rounds: [u8; 64],
+    pub loop_rounds: [u8; SETS],
+    pub mix_rounds: [u8; SETS],
     pub phase: Phase,
     pub rounds: u8,
 }
@@ -45,6 +52,6 @@ pub struct Reply {
 
 // The keys of rows, in order: the first words and the second words.
 pub struct Keys {
-    pub high: [u64; 256],
-    pub low: [u64; 256],
+    pub high: [u64; ROWS],
+    pub low: [u64; ROWS],
 }

@@ -1,5 +1,7 @@
 // The calls load and withdraw.
+use crate::ROWS;
 use crate::Reply;
+use crate::SETS;
 use crate::Session;
 use crate::State;
 use crate::tables::slots;
@@ -15,9 +17,9 @@ impl Session {
     // What a batch came to: all its rows or none. Where it is done, the session takes the table that the arrays hold.
     fn take_table(
         self,
-        high: &[u64; 256],
-        low: &[u64; 256],
-        sets: [u64; 64],
+        high: &[u64; ROWS],
+        low: &[u64; ROWS],
+        sets: [u64; SETS],
         n: usize,
         k: usize,
         answer: Answer,

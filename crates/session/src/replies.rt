@@ -1,5 +1,7 @@
 // The gate at the head of every call, and what a refusal hands back.
+use crate::ROWS;
 use crate::Reply;
+use crate::SETS;
 use crate::Session;
 use crate::State;
 use machine::Answer;
@@ -16,10 +18,10 @@ impl Session {
     {
         let row_count = self.row_count;
         let set_count = self.set_count;
-        if row_count > 256 {
+        if row_count > ROWS {
             return State::Foreign;
         }
-        if set_count > 64 {
+        if set_count > SETS {
             return State::Foreign;
         }
         let phase = self.phase;

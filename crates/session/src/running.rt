@@ -1,5 +1,7 @@
 // The calls close, round and reopen.
+use crate::ROUNDS;
 use crate::Reply;
+use crate::SETS;
 use crate::Session;
 use crate::State;
 use machine::Answer;
@@ -85,8 +87,8 @@ impl Session {
     fn reopen_closed(self) -> Reply
         ensures { λ r. ⌜ KeepsIn NotOpen self reopen [] [] r ⌝ }
     {
-        let loop_rounds = [0u8; 64];
-        let mix_rounds = [0u8; 64];
+        let loop_rounds = [0u8; SETS];
+        let mix_rounds = [0u8; SETS];
         let phase = Phase::Open;
         let now = Rounds {
             loop_rounds,
@@ -118,7 +120,7 @@ impl Session {
             State::Foreign => self.refuse(24),
             State::Open => self.refuse(9),
             State::Running => {
-                if rounds < 129 {
+                if rounds < ROUNDS {
                     self.round_running()
                 } else {
                     self.refuse(13)

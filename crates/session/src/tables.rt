@@ -1,5 +1,7 @@
 // The fresh session; the table of a session as arrays of keys, and its automaton.
 use crate::Keys;
+use crate::ROWS;
+use crate::SETS;
 use crate::Session;
 use crate::Slot;
 use automaton::Automaton;
@@ -11,13 +13,13 @@ ghost use Rattle.session.specs.Promise.{Fresh, Ranged};
 ghost use Rattle.session.specs.Standing.{standing, Slotted, Reads};
 
 // The rows of the first `n` keys, and then the filler.
-pub(crate) fn slots(high: &[u64; 256], low: &[u64; 256], n: usize) -> [Slot; 256]
+pub(crate) fn slots(high: &[u64; ROWS], low: &[u64; ROWS], n: usize) -> [Slot; ROWS]
     requires { ⌜ n ≤ 256 ⌝ }
     ensures { λ r. ⌜ Slotted (now (high .entry)) (now (low .entry)) n r ⌝ }
 {
     let row = Row::Initial(0);
     let blank = Slot { row };
-    let mut rows = [blank; 256];
+    let mut rows = [blank; ROWS];
     let mut i = 0;
     while i < n {
         let row = rows::row_of(high[i], low[i]);
@@ -35,10 +37,10 @@ impl Session {
     {
         let row = Row::Initial(0);
         let blank = Slot { row };
-        let rows = [blank; 256];
-        let sets = [0u64; 64];
-        let loop_rounds = [0u8; 64];
-        let mix_rounds = [0u8; 64];
+        let rows = [blank; ROWS];
+        let sets = [0u64; SETS];
+        let loop_rounds = [0u8; SETS];
+        let mix_rounds = [0u8; SETS];
         let phase = Phase::Open;
         Session {
             rows,
@@ -58,8 +60,8 @@ impl Session {
         ensures { λ r. ⌜ Keyed (standing self) (r .high) (r .low) (self .«row_count») ⌝ }
     {
         let n = self.row_count;
-        let mut high = [0u64; 256];
-        let mut low = [0u64; 256];
+        let mut high = [0u64; ROWS];
+        let mut low = [0u64; ROWS];
         let mut i = 0;
         while i < n {
             let slot = self.rows[i];
