@@ -7,7 +7,6 @@ use lib.ListN.{length, take, getD, length-take, length-drop, length-append, leng
 use lib.Seq.{getD-take, ext-getD}
 use native.Mathlib.Omega.{arith}
 use Rattle.lists.specs.Tests.{_among_}
-use Rattle.lists.proofs.Places.{getD-among, getD-map}
 use Rattle.lists.proofs.Deciding.{ltb·, dec·}
 use Rattle.masks.specs.Mask.{_∈_}
 use Rattle.masks.proofs.Member.{in-none}
@@ -16,12 +15,10 @@ use Rattle.rows.specs.declared.Row.{Row}
 use Rattle.rows.specs.declared.Row.the-variants.{Initial, Final, Successor, LeftLimit, RightLimit}
 use Rattle.rows.specs.Rows as Rows
 use Rattle.rows.specs.Rows.{AllFit}
-use Rattle.rows.specs.Keys.{high, low, row-from}
-use Rattle.rows.proofs.Keys.{key-back}
 use Rattle.rows.proofs.Sets.{words-rise}
 use Rattle.search.specs.Graph.{part, graph-of}
 use Rattle.search.proofs.Parts.{past-part, letters-at, sets-at, lefts-at, rights-at}
-use Rattle.table.specs.Arrays.{Keyed, Worded}
+use Rattle.table.specs.Arrays.{Worded}
 use Rattle.automaton.specs.declared.Automaton.{Automaton}
 use Rattle.automaton.specs.Promise.{Adds, Puts, HasSets, Places, Gives}
 use Rattle.automaton.proofs.Adding.{put-iff}
@@ -180,14 +177,6 @@ module _ (sets : List ℕ) (n : ℕ) (few : n ≤ 64) {l : List Row} {graph : Li
   }
 
 -- ---- all rows
-
--- the row of a key
-pub row-there : (rows : List Row) → AllFit rows → (highs lows : List ℕ) (n : ℕ) → Keyed rows highs lows n → (i : ℕ) → i < n → row-from (getD highs i 0) (getD lows i 0) ≡ getD rows i (Initial 0)
-row-there rows fit highs lows n keyed i h =
-    let k : i < length rows = omega (arith, keyed .count) in
-    let a : getD highs i 0 ≡ high (getD rows i (Initial 0)) = sym (getD-take n highs i 0 h) ∙ ap (λ (l : List ℕ). getD l i 0) (keyed .highs-are) ∙ getD-map high rows i (Initial 0) 0 k in
-    let b : getD lows i 0 ≡ low (getD rows i (Initial 0)) = sym (getD-take n lows i 0 h) ∙ ap (λ (l : List ℕ). getD l i 0) (keyed .lows-are) ∙ getD-map low rows i (Initial 0) 0 k in
-    rw (a, b) (key-back (getD rows i (Initial 0)) (fit (getD rows i (Initial 0)) (getD-among rows i (Initial 0) k)))
 
 module _ (rows : List Row) (fit : AllFit rows) (sets : List ℕ) (k : ℕ) (count : k ≡ length (Rows.sets rows)) (are : take k sets ≡ Rows.sets rows) (few : k ≤ 64) where
   -- a row whose state is below 64 where it stands

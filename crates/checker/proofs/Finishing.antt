@@ -16,6 +16,7 @@ use Rattle.machine.proofs.Settling.{Settles, settles, after-after}
 use Rattle.machine.proofs.Answers.{tells-as, tells-refused}
 use Rattle.machine.proofs.History.{settle-runs}
 use Rattle.machine.proofs.Program.{settled-formed}
+use Rattle.search.specs.Graph.{graph-of}
 use Rattle.automaton.specs.declared.Automaton.{Automaton}
 use Rattle.automaton.specs.Promise.{Gives, GivesKeyed}
 use Rattle.rounds.specs.declared.Rounds.{Rounds}
@@ -25,7 +26,7 @@ use Rattle.printing.specs.Promise.{PrintsSheet}
 use Rattle.printing.proofs.Automata.{gives-filed, given-rows}
 
 module _ (rows : List Row) (t : Table rows) (highs lows words : List ℕ) (n k : ℕ) (f : Filed highs lows words n k rows)
-    (a : Automaton) (g : GivesKeyed highs lows n words k a) (d : Rounds) (s : SettlesRows (a .letters) words (a .lefts) (a .rights) (a .initials) (a .finals) k d) where
+    (a : Automaton) (g : GivesKeyed highs lows n words k a) (d : Rounds) (s : SettlesRows (graph-of (a .graph)) (a .initials) (a .finals) k d) where
   abbrev m : Machine
   m = run (open-with rows) settle
 

@@ -5,6 +5,7 @@ use machine::Phase;
 use rounds::Rounds;
 ghost use Prim.Native.Nat.{_≤_};
 ghost use Rattle.rounds.specs.Promises.{Settles};
+ghost use Rattle.search.specs.Graph.{graph-of};
 ghost use Rattle.checker.specs.Promise.{Finishes, Checks, ShowsSheet};
 
 // The longest batch, and a length that every sheet and every line of a refusal fits into.
@@ -13,17 +14,12 @@ const LONGEST_BATCH: usize = 65536;
 const LONGEST_SHEET: usize = 6400;
 
 // The rounds of the automaton, until it is settled.
-fn settled(a: Automaton, words: &[u64; 64], k: usize) -> Rounds
+fn settled(a: Automaton, k: usize) -> Rounds
     requires { ⌜ k ≤ 64 ⌝ }
-    ensures { λ r. ⌜ Settles (a .letters) (now (words .entry)) (a .lefts) (a .rights)
-        (a .initials) (a .finals) k r ⌝ }
+    ensures { λ r. ⌜ Settles (graph-of (a .graph)) (a .initials) (a .finals) k r ⌝ }
 {
-    let letters = a.letters;
-    let lefts = a.lefts;
-    let rights = a.rights;
-    let starts = a.initials;
-    let ends = a.finals;
-    rounds::settle(&letters, words, &lefts, &rights, starts, ends, k)
+    let graph = a.graph;
+    rounds::settle(&graph, a.initials, a.finals, k)
 }
 
 // Closes the table that the arrays hold, settles it and prints its sheet.
@@ -40,7 +36,7 @@ fn finish(
         (now (sheet .entry)) (now (sheet .exit)) r ⌝ }
 {
     let a = automaton::of_keys(high, low, n, words, k);
-    let done = settled(a, words, k);
+    let done = settled(a, k);
     let phase = done.phase;
     match phase {
         Phase::Open => Answer::Refused(9, 0),

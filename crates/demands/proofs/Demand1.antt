@@ -18,8 +18,8 @@ answered : (m : Machine) (s : Session) (e : Exchange Call Reply) → Stands m s 
 answered m s e h = record {
   result = does h .tells .answer-is;
   refused = λ n place. (
-    (λ i. refusals m (e .asked) n place (h .served .brings) .0 (by n place i)),
-    λ c. does h .tells .answer-is ∙ ap answer-of (refusals m (e .asked) n place (h .served .brings) .1 c),
+    (λ i. refusals m (e .asked) n place (h .record-is .formed .table) (h .served .brings) .0 (by n place i)),
+    λ c. does h .tells .answer-is ∙ ap answer-of (refusals m (e .asked) n place (h .record-is .formed .table) (h .served .brings) .1 c),
   );
   unchanged = λ n place i. (
     does h .session-is ∙ ap record-of (refused-keeps m (e .asked) n place (by n place i)) ∙ sym (h .record-is .whole),

@@ -6,8 +6,10 @@ use Rattle.rows.specs.declared.Row.{Row}
 use Rattle.rows.specs.Rows.{sets}
 use Rattle.machine.specs.WellFormed.{Table}
 use Rattle.table.specs.Arrays.{Worded, Filed}
+use Rattle.search.specs.Graph.{graph-of}
 use Rattle.automaton.specs.declared.Automaton.{Automaton}
 use Rattle.automaton.specs.Promise.{Gives, GivesKeyed}
+use Rattle.automaton.proofs.Passing.{graph-worded}
 use Rattle.rounds.specs.Promises.{Given}
 
 module _ {rows : List Row} (t : Table rows) {words : List ℕ} {k : ℕ} {a : Automaton} where
@@ -16,5 +18,5 @@ module _ {rows : List Row} (t : Table rows) {words : List ℕ} {k : ℕ} {a : Au
   gives-filed f g = g rows (t .fit) (f .0) (f .1 .count) (rw (f .1 .count, f .1 .words-are) (take-append-seam (sets rows) _))
 
   -- as the rounds are given them
-  pub given-rows : Worded rows words k → Gives rows words k a → Given rows (a .letters) words (a .lefts) (a .rights) (a .initials) (a .finals) k
-  given-rows w g = record { table = t; worded = w; masked = g .masked; initial-iff = g .initial-iff; final-iff = g .final-iff }
+  pub given-rows : Worded rows words k → Gives rows words k a → Given rows (graph-of (a .graph)) (a .initials) (a .finals) k
+  given-rows w g = record { table = t; worded = graph-worded rows words k a g w; masked = g .masked; initial-iff = g .initial-iff; final-iff = g .final-iff }

@@ -10,7 +10,6 @@ use lib.ListN.{length, length-append}
 use Rattle.lists.specs.Tests.{Decides, _among_, gather}
 use Rattle.lists.specs.Writing as Writing
 use Rattle.lists.proofs.Deciding.{yes·, no·}
-use Rattle.masks.specs.Graph.{Turned}
 use Rattle.orderings.specs.Steps.{Claim}
 use Rattle.orderings.specs.Decide.{same-claim}
 use Rattle.orderings.proofs.Deciding.{same-claim·}
@@ -27,7 +26,10 @@ use Rattle.machine.proofs.Answers.{tells-as}
 use Rattle.machine.proofs.Outcomes.{writing}
 use Rattle.machine.proofs.Text.{number-length}
 use Rattle.table.specs.Arrays.{Worded}
+use Rattle.search.specs.declared.Claims.{Claims}
+use Rattle.search.specs.Graph.{Graph, graph-of, TurnedGraph}
 use Rattle.automaton.specs.declared.Automaton.{Automaton}
+use Rattle.automaton.proofs.Passing.{graph-worded}
 use Rattle.rounds.specs.declared.Rounds.{Rounds}
 use Rattle.rounds.specs.Arrays.{round-of, OpenPlaces}
 use Rattle.rounds.specs.Promises.{Kept}
@@ -41,15 +43,15 @@ use Rattle.printing.specs.Promise.{FindsWalk, PrintsSheet}
 
 -- ---- the walk
 
-pub finds : (highs lows : List ℕ) (n : ℕ) (words : List ℕ) (k : ℕ) (a : Automaton) (rounds : Rounds) (back : List ℕ) (loop-mask mix-mask : ℕ) (w : Walk)
-    → Turned (a .letters) back → OpenPlaces (rounds .«loop_rounds») k loop-mask → OpenPlaces (rounds .«mix_rounds») k mix-mask
-    → FirstWalk highs lows n back words (a .lefts) (a .rights) loop-mask mix-mask (a .initials) (a .finals) w
-    → FindsWalk highs lows n words k a rounds w
-finds highs lows n words k a rounds back loop-mask mix-mask w turned h g f m formed filed gives kept =
-    f (a .letters) (m .rows) (open-claims m) k turned
+pub finds : (highs lows : List ℕ) (n k : ℕ) (a : Automaton) (rounds : Rounds) (back : Graph) (force : Claims) (w : Walk) → TurnedGraph (graph-of (a .graph)) back
+    → OpenPlaces (rounds .«loop_rounds») k (force .loops) → OpenPlaces (rounds .«mix_rounds») k (force .mixes)
+    → FirstWalk highs lows n back force (a .initials) (a .finals) w → FindsWalk highs lows n k a rounds w
+finds highs lows n k a rounds back force w turned h g f m words formed filed gives kept =
+    f (graph-of (a .graph)) (m .rows) (open-claims m) k turned
     (record {
       masked = gives .masked;
-      forced = forced-of m formed words k (filed .1) (rounds .«loop_rounds») (rounds .«mix_rounds») (kept .loops-are) (kept .mixes-are) loop-mask mix-mask h g;
+      forced = forced-of m formed (graph-of (a .graph)) k (graph-worded (m .rows) words k a gives (filed .1))
+          (rounds .«loop_rounds») (rounds .«mix_rounds») (kept .loops-are) (kept .mixes-are) force h g;
     })
     (sym (filed .1 .count)) (filed .0) (formed .table) (gives .initial-iff) (gives .final-iff)
 
@@ -118,6 +120,6 @@ module _ (highs lows : List ℕ) (n : ℕ) (words : List ℕ) (k : ℕ) (a : Aut
   pub prints-empty : TellsText (head-text Empty words k rounds) old new r → PrintsSheet Empty highs lows n words k a rounds old new r
   prints-empty p m formed e filed gives kept = prints-text m Empty (head-text Empty words k rounds) old new r e (empty-sheet m formed words k (filed .1) rounds kept e) p
 
-  pub prints-nonempty : (w : Walk) → FindsWalk highs lows n words k a rounds w → TellsText (walked-text words k rounds w) old new r → PrintsSheet NonEmpty highs lows n words k a rounds old new r
+  pub prints-nonempty : (w : Walk) → FindsWalk highs lows n k a rounds w → TellsText (walked-text words k rounds w) old new r → PrintsSheet NonEmpty highs lows n words k a rounds old new r
   prints-nonempty w f p m formed e filed gives kept =
-      prints-text m NonEmpty (walked-text words k rounds w) old new r e (nonempty-sheet m formed words k (filed .1) rounds kept w (f m formed filed gives kept) e) p
+      prints-text m NonEmpty (walked-text words k rounds w) old new r e (nonempty-sheet m formed words k (filed .1) rounds kept w (f m words formed filed gives kept) e) p

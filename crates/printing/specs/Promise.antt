@@ -18,8 +18,8 @@ use Rattle.walks.specs.declared.Walk.{Walk}
 use Rattle.walks.specs.Walks.{Answers}
 
 -- the walk is the one that the machine prints, or there is none
-abbrev pub FindsWalk : List ℕ → List ℕ → ℕ → List ℕ → ℕ → Automaton → Rounds → Walk → Type 0
-FindsWalk highs lows n words k a rounds w = (m : Machine) → WellFormed m → Filed highs lows words n k (m .rows) → Gives (m .rows) words k a
+abbrev pub FindsWalk : List ℕ → List ℕ → ℕ → ℕ → Automaton → Rounds → Walk → Type 0
+FindsWalk highs lows n k a rounds w = (m : Machine) (words : List ℕ) → WellFormed m → Filed highs lows words n k (m .rows) → Gives (m .rows) words k a
     → Kept m (rounds .«loop_rounds») (rounds .«mix_rounds») (rounds .phase) (rounds .count)
     → Answers (m .rows) (open-claims m) w
 

@@ -5,6 +5,8 @@ use automaton::Automaton;
 use machine::Answer;
 use machine::Verdict;
 use rounds::Rounds;
+use search::Claims;
+use search::graphs;
 use walks::Walk;
 ghost use mathlib.Core.Path.{_≡_};
 ghost use mathlib.Core.Option.{some};
@@ -77,38 +79,22 @@ fn first_walk(
     high: &[u64; 256],
     low: &[u64; 256],
     n: usize,
-    words: &[u64; 64],
     k: usize,
     a: Automaton,
     rounds: Rounds,
 ) -> Walk
     requires { ⌜ (n ≤ 256) × (k ≤ 64) ⌝ }
     ensures bounded { λ r. ⌜ Bounded r ⌝ }
-    ensures finds { λ r. ⌜ FindsWalk (now (high .entry)) (now (low .entry)) n (now (words .entry)) k a rounds r ⌝ }
+    ensures finds { λ r. ⌜ FindsWalk (now (high .entry)) (now (low .entry)) n k a rounds r ⌝ }
 {
-    let letters = a.letters;
-    let lefts = a.lefts;
-    let rights = a.rights;
-    let starts = a.initials;
-    let ends = a.finals;
+    let graph = a.graph;
     let looped = rounds.loop_rounds;
     let mixed = rounds.mix_rounds;
-    let back = masks::transpose(&letters);
+    let back = graphs::turned(&graph);
     let loops = rounds::open_mask(&looped, k);
     let mixes = rounds::open_mask(&mixed, k);
-    walks::first_walk(
-        high,
-        low,
-        n,
-        &back,
-        words,
-        &lefts,
-        &rights,
-        loops,
-        mixes,
-        starts,
-        ends,
-    )
+    let force = Claims { loops, mixes };
+    walks::first_walk(high, low, n, &back, force, a.initials, a.finals)
 }
 
 // The sheet of an empty automaton: the verdict and the openings.
@@ -165,7 +151,7 @@ pub fn print(
 {
     match verdict {
         Verdict::NonEmpty => {
-            let walk = first_walk(high, low, n, words, k, a, rounds);
+            let walk = first_walk(high, low, n, k, a, rounds);
             print_nonempty(buffer, words, k, rounds, walk)
         }
         Verdict::Empty => print_empty(buffer, words, k, rounds),

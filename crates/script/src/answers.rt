@@ -1,12 +1,12 @@
 // What lines and their calls are answered.
 use commands::Command;
 use commands::Report;
+use machine::Answer;
 use machine::Phase;
 use machine::Verdict;
 use output::first;
 use output::say;
 use output::say_number;
-use machine::Answer;
 
 fn say_verdict(verdict: Verdict) {
     match verdict {

@@ -13,6 +13,7 @@ use Rattle.machine.specs.Causes.{NotOpen}
 use Rattle.machine.proofs.Phases.{open-closes, running-rounds, not-open-reopens}
 use Rattle.machine.proofs.Demands.{never-130th}
 use Rattle.automaton.specs.declared.Automaton.{Automaton}
+use Rattle.search.specs.Graph.{graph-of}
 use Rattle.rounds.specs.declared.Rounds.{Rounds}
 use Rattle.rounds.specs.Promises.{Closes, DoesRound}
 use Rattle.session.specs.declared.Session.{Session}
@@ -30,10 +31,10 @@ pub never-past : (s : Session) → 129 ≤ s .rounds → (m : Machine) → Repre
 never-past s h m p e = omega (arith, rounds-count m s p, never-130th m (p .formed) e)
 
 module _ (s : Session) (a : Automaton) (reads : Reads s a) (now : Rounds) {r : Reply} (made : r ≡ reply (with-rounds s now) Done) where
-  pub close-done : Closes (a .letters) (s .sets) (a .lefts) (a .rights) (a .initials) (a .finals) now → KeepsIn (At IsOpen) s close [] [] r
+  pub close-done : Closes (graph-of (a .graph)) (a .initials) (a .finals) now → KeepsIn (At IsOpen) s close [] [] r
   close-done c m p e = does-done m close [] (ap (λ (x : Phase). call-in x m close) e ∙ open-closes m) (closed-record m s p a now reads c) made
 
-  pub round-done : DoesRound (a .letters) (s .sets) (a .lefts) (a .rights) (a .initials) (a .finals) (s .«set_count») (rounds-in s) now
+  pub round-done : DoesRound (graph-of (a .graph)) (a .initials) (a .finals) (s .«set_count») (rounds-in s) now
       → KeepsIn (At IsRunning) s round [] [] r
   round-done d m p e =
       does-done m round [] (ap (λ (x : Phase). call-in x m round) e ∙ running-rounds m (never-130th m (p .formed) e)) (round-record m s p a now reads d) made

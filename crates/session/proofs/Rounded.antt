@@ -4,6 +4,7 @@ use lib.ListN.{replicate}
 use Rattle.orderings.specs.Steps.{loops, mixes}
 use Rattle.machine.specs.declared.Phase.the-variants.{Open}
 use Rattle.machine.specs.Machine.{Machine, closed, next-round, reopened}
+use Rattle.search.specs.Graph.{graph-of}
 use Rattle.automaton.specs.declared.Automaton.{Automaton}
 use Rattle.rounds.specs.declared.Rounds.{Rounds}
 use Rattle.rounds.specs.Promises.{Given, Kept, Closes, DoesRound}
@@ -16,7 +17,7 @@ use Rattle.session.proofs.Whole.{worded-of}
 
 module _ (m : Machine) (s : Session) (p : Represents m s) where
   -- the masks of the machine's rows
-  given-of : (a : Automaton) → Reads s a → Given (m .rows) (a .letters) (s .sets) (a .lefts) (a .rights) (a .initials) (a .finals) (s .«set_count»)
+  given-of : (a : Automaton) → Reads s a → Given (m .rows) (graph-of (a .graph)) (a .initials) (a .finals) (s .«set_count»)
   given-of a h = given-rows (p .formed .table) (worded-of m s p) (h m p)
 
   pub kept-of : Kept m (s .«loop_rounds») (s .«mix_rounds») (s .phase) (s .rounds)
@@ -34,13 +35,13 @@ module _ (m : Machine) (s : Session) (p : Represents m s) where
   unfolding record-of
   kept-record to now same k = ap (λ (x : Session). with-rounds x now) (p .whole) ∙ rw (k .loops-are, k .mixes-are, k .phase-is, k .count-is, same) refl
 
-  pub closed-record : (a : Automaton) (now : Rounds) → Reads s a → Closes (a .letters) (s .sets) (a .lefts) (a .rights) (a .initials) (a .finals) now
+  pub closed-record : (a : Automaton) (now : Rounds) → Reads s a → Closes (graph-of (a .graph)) (a .initials) (a .finals) now
       → with-rounds s now ≡ record-of (closed m)
   unfolding closed
   closed-record a now h c = kept-record (closed m) now refl (c m (s .«set_count») (given-of a h))
 
   pub round-record : (a : Automaton) (now : Rounds) → Reads s a
-      → DoesRound (a .letters) (s .sets) (a .lefts) (a .rights) (a .initials) (a .finals) (s .«set_count») (rounds-in s) now
+      → DoesRound (graph-of (a .graph)) (a .initials) (a .finals) (s .«set_count») (rounds-in s) now
       → with-rounds s now ≡ record-of (next-round m)
   unfolding next-round
   round-record a now h d = kept-record (next-round m) now refl (d m (p .formed) (given-of a h) kept-of)

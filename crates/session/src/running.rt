@@ -56,12 +56,9 @@ impl Session {
         requires { ⌜ Ranged self ⌝ }
         ensures { λ r. ⌜ KeepsIn (At State.Open) self close [] [] r ⌝ }
     {
-        let words = self.sets;
         let a = self.automaton();
-        let letters = a.letters;
-        let lefts = a.lefts;
-        let rights = a.rights;
-        let now = rounds::close(&letters, &words, &lefts, &rights, a.initials, a.finals);
+        let graph = a.graph;
+        let now = rounds::close(&graph, a.initials, a.finals);
         self.done_with(now)
     }
 
@@ -70,16 +67,11 @@ impl Session {
         requires { ⌜ Ranged self × (self .rounds < 129) ⌝ }
         ensures { λ r. ⌜ KeepsIn (At State.Running) self round [] [] r ⌝ }
     {
-        let words = self.sets;
         let n = self.set_count;
         let before = self.kept();
         let a = self.automaton();
-        let letters = a.letters;
-        let lefts = a.lefts;
-        let rights = a.rights;
-        let starts = a.initials;
-        let ends = a.finals;
-        let now = rounds::round(&letters, &words, &lefts, &rights, starts, ends, n, before);
+        let graph = a.graph;
+        let now = rounds::round(&graph, a.initials, a.finals, n, before);
         self.done_with(now)
     }
 

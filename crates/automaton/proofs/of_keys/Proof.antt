@@ -12,7 +12,8 @@ use Rattle.rows.specs.declared.Row.{Row}
 use Rattle.rows.specs.declared.Row.the-variants.{Initial}
 use Rattle.rows.specs.Rows.{AllFit}
 use Rattle.table.specs.Arrays.{Keyed}
-use Rattle.automaton.proofs.Passing.{Passed, none-passed, pass-initial, pass-final, pass-step, pass-left, pass-right, row-there, passed-all}
+use Rattle.table.proofs.Keys.{row-there}
+use Rattle.automaton.proofs.Passing.{Passed, none-passed, pass-initial, pass-final, pass-step, pass-left, pass-right, passed-all}
 use Rattle.automaton.proofs.of_keys.Statement.{statement}
 use Rattle.automaton.proofs.of_keys.Tie as tie
 

@@ -1,11 +1,12 @@
 -- `first_walk` meets its contract: the arrays stand for the rows and the open claims of the machine.
 use Rattle.printing.proofs.Printing.{finds}
 use borrow.Author.Needs.{needs}
+use Rattle.search.specs.Graph.{graph-of}
 use Rattle.printing.proofs.first_walk.Statement.{statement}
 use Rattle.printing.proofs.first_walk.Tie as tie
 
-transpose-requires : tie.Need-transpose-requires
-transpose-requires c κs = search needs
+turned-requires : tie.Need-turned-requires
+turned-requires c κs = search needs
 
 open-mask-requires : tie.Need-open-mask-requires
 open-mask-requires c κs = search needs
@@ -18,20 +19,20 @@ first-walk-requires c κs = search needs
 
 returns : tie.Need-returns
 returns c =
-    let mixes = c .before .before .before .before in
+    let mixes = c .before .before in
     let loops = mixes .before .before in
     let turned = loops .before .before in
-    let a = turned .before .before .before .before .before .before .before .args in (
+    let a = turned .before .before .before .before .before .args in (
       c .first-walk .ensures .0,
-      finds (a .high .now) (a .low .now) (a .n) (a .words .now) (a .k) (a .a) (a .rounds) (turned .transpose .result) (loops .open-mask .result) (mixes .open-mask2 .result) (c .first-walk .result)
-          (turned .transpose .ensures) (loops .open-mask .ensures) (mixes .open-mask2 .ensures) (c .first-walk .ensures .1),
+      finds (a .high .now) (a .low .now) (a .n) (a .k) (a .a) (a .rounds) (graph-of (turned .turned .result)) (record { loops = loops .open-mask .result; mixes = mixes .open-mask2 .result }) (c .first-walk .result)
+          (turned .turned .ensures) (loops .open-mask .ensures) (mixes .open-mask2 .ensures) (c .first-walk .ensures .1),
     )
 
 pub first-walk-spec : {M : Type 1} → statement M
 first-walk-spec =
     tie.close
     (tie.spec
-    transpose-requires
+    turned-requires
     open-mask-requires
     open-mask-requires-2
     first-walk-requires

@@ -16,8 +16,8 @@ done-with-requires c κs = search needs
 returns : tie.Need-returns
 returns c =
     let d = c .before in
-    let a = d .before .before .before .before .before .before .before .before in
-    close-done (a .before .before .args .self) (a .automaton .result) (a .automaton .ensures) (d .close .result) (c .done-with .ensures) (d .close .ensures)
+    let a = d .before .before .before in
+    close-done (a .before .args .self) (a .automaton .result) (a .automaton .ensures) (d .close .result) (c .done-with .ensures) (d .close .ensures)
 
 pub close-open-spec : {M : Type 1} → statement M
 close-open-spec = tie.close (tie.spec automaton-requires close-requires done-with-requires returns)

@@ -1,6 +1,7 @@
 -- `round_running` meets its contract.
 use Prim.Native.Nat.{_<_}
 use mathlib.Core.Path.{sym, subst}
+use Rattle.search.specs.Graph.{graph-of}
 use Rattle.rounds.specs.declared.Rounds.{Rounds}
 use Rattle.rounds.specs.Promises.{DoesRound}
 use Rattle.session.proofs.Phases.{round-done}
@@ -16,8 +17,8 @@ automaton-requires c κs = search needs
 
 round-requires : tie.Need-round-requires
 round-requires c κs =
-    let k = c .before .before .before .before .before .before .before .before in
-    let start = k .before .before in
+    let k = c .before .before .before in
+    let start = k .before in
     (start .pre .0 .few-sets, subst (λ (r : Rounds). r .count < 129) (sym (k .kept .ensures)) (start .pre .1))
 
 done-with-requires : tie.Need-done-with-requires
@@ -26,12 +27,12 @@ done-with-requires c κs = search needs
 returns : tie.Need-returns
 returns c =
     let d = c .before in
-    let a = d .before .before .before .before .before .before .before .before in
+    let a = d .before .before .before in
     let k = a .before in
-    let s = k .before .before .args .self in
+    let s = k .before .args .self in
     let m = a .automaton .result in
     round-done s m (a .automaton .ensures) (d .round .result) (c .done-with .ensures)
-    (subst (λ (r : Rounds). DoesRound (m .letters) (s .sets) (m .lefts) (m .rights) (m .initials) (m .finals) (s .«set_count») r (d .round .result)) (k .kept .ensures) (d .round .ensures))
+    (subst (λ (r : Rounds). DoesRound (graph-of (m .graph)) (m .initials) (m .finals) (s .«set_count») r (d .round .result)) (k .kept .ensures) (d .round .ensures))
 
 pub round-running-spec : {M : Type 1} → statement M
 round-running-spec =
