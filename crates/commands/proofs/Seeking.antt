@@ -147,21 +147,20 @@ tells l r e =
     let q : p .0 ≡ seek l (table words) 0 0 .place = omega (arith, p .1) in
     rw e (record { within = p .2; told = λ room. p .3 room ∙ ap (λ n. after (alone-at words n) room (drop (seek l (table words) 0 0 .end) l)) q })
 
--- the commands of the words, in their order
-unfoldable pub listed : List Word → List Command
-listed [] = []
-listed (says w m ∷ ws) = command-of m ∷ listed ws
+-- none of the numbers below n
+unfoldable pub Past : ℕ → ℕ → Type 0
+Past zero k = Unit {0}
+Past (suc n) k = Past n k × (OneOf (n ∷ []) k → ⊥)
 
-pub listed-at : (ws : List Word) (k : ℕ) (d : Command) → k < length ws → getD (listed ws) k d ≡ command-of (alone-at ws k)
-unfolding listed
-listed-at [] k d h = absurd (omega arith)
-listed-at (says w m ∷ ws) zero d h = refl
-listed-at (says w m ∷ ws) (suc k) d h = listed-at ws k d (omega arith)
+pub at-least : (n k : ℕ) → Past n k → n ≤ k
+unfolding Past
+at-least zero k p = omega arith
+at-least (suc n) k p = let h = at-least n k (p .0) in let g = p .1 in omega arith
 
-pub listed-end : (ws : List Word) (k : ℕ) → length ws ≤ k → alone-at ws k ≡ unknown
-listed-end [] k h = refl
-listed-end (says w m ∷ ws) zero h = absurd (omega arith)
-listed-end (says w m ∷ ws) (suc k) h = listed-end ws k (omega arith)
+pub past-words : (ws : List Word) (k : ℕ) → length ws ≤ k → alone-at ws k ≡ unknown
+past-words [] k h = refl
+past-words (says w m ∷ ws) zero h = absurd (omega arith)
+past-words (says w m ∷ ws) (suc k) h = past-words ws k (omega arith)
 
 -- a word alone brings no bytes, and no buffer longer than 6,400
 sound : Meaning → Bool

@@ -231,19 +231,16 @@ fn find(line: &[u8]) -> Found
 fn alone(place: usize) -> Command
     ensures { λ r. ⌜ r ≡ command-of (alone-at words place) ⌝ }
 {
-    let commands = [
-        Command::Changes(Change::Load, 0),
-        Command::Changes(Change::Withdraw, 0),
-        Command::Reports(Report::Print, 6400),
-        Command::Reports(Report::Save, 6400),
-        Command::Moves(Move::Close),
-        Command::Moves(Move::Round),
-        Command::Moves(Move::Reopen),
-    ];
-    if place >= commands.len() {
-        return Command::Unknown;
+    match place {
+        0 => Command::Changes(Change::Load, 0),
+        1 => Command::Changes(Change::Withdraw, 0),
+        2 => Command::Reports(Report::Print, 6400),
+        3 => Command::Reports(Report::Save, 6400),
+        4 => Command::Moves(Move::Close),
+        5 => Command::Moves(Move::Round),
+        6 => Command::Moves(Move::Reopen),
+        _ => Command::Unknown,
     }
-    commands[place]
 }
 
 // What the word asks for with a text behind it.

@@ -98,13 +98,18 @@ fn max(a: u64, b: u64) -> u64 {
     if a < b { b } else { a }
 }
 
+// Counts the openings, and keeps the length of the longest walk.
+fn count_lines(sheet: &[u8], counts: &mut [u64]) {
+    add(counts, OPENINGS, lines(sheet, b'o', b'e'));
+    let longest = max(get(counts, LONGEST), lines(sheet, b's', b'e'));
+    set(counts, LONGEST, longest);
+}
+
 // Counts what a sheet says.
 pub fn count(sheet: &[u8], counts: &mut [u64]) {
     add(counts, rounds(sheet), 1);
     add(counts, verdict(sheet), 1);
-    add(counts, OPENINGS, lines(sheet, b'o', b'e'));
-    let longest = max(get(counts, LONGEST), lines(sheet, b's', b'e'));
-    set(counts, LONGEST, longest);
+    count_lines(sheet, counts);
 }
 
 // The line of a count of rounds, if it came up.
@@ -135,14 +140,22 @@ fn report_count(name: &[u8], counts: &[u64], i: usize) {
     say_count(name, get(counts, i));
 }
 
-pub fn report(counts: &[u64]) {
+fn report_verdicts(counts: &[u64]) {
     say_count(b"automata ", tried(counts));
     report_count(b"empty ", counts, EMPTY);
     report_count(b"nonempty ", counts, NONEMPTY);
-    report_rounds(counts);
+}
+
+fn report_sheets(counts: &[u64]) {
     report_count(b"openings ", counts, OPENINGS);
     report_count(b"longest walk ", counts, LONGEST);
     report_count(b"different ", counts, DIFFERENT);
+}
+
+pub fn report(counts: &[u64]) {
+    report_verdicts(counts);
+    report_rounds(counts);
+    report_sheets(counts);
 }
 
 // The first difference: how many automata came before it, the batch and both sheets.

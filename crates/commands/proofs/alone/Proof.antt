@@ -1,26 +1,44 @@
--- `alone` meets its contract: the array has the commands of the words, in their order.
+-- `alone` meets its contract: place by place, and past the words.
 use mathlib.Core.Path.{ap, sym}
-use native.Mathlib.Omega.{arith}
 use Rattle.commands.specs.Meaning.{words}
 use Rattle.commands.specs.Table.{command-of}
-use Rattle.commands.proofs.Seeking.{listed, listed-at, listed-end}
-use borrow.Author.Needs.{needs}
+use Rattle.commands.proofs.Seeking.{Past, at-least, past-words}
 use Rattle.commands.proofs.alone.Statement.{statement}
 use Rattle.commands.proofs.alone.Tie as tie
 
 returns : tie.Need-returns
 unfolding words
-returns c = ap command-of (sym (listed-end words (c .before .args .place) (omega arith)))
-
-mul-result : tie.Need-mul-result
-mul-result c = search needs
-
-array-copy-out-result : tie.Need-array-copy-out-result
-array-copy-out-result c = search needs
+returns c = simp (c .match .keys1)
 
 returns-2 : tie.Need-returns-2
-unfolding words listed
-returns-2 c = listed-at words (c .before .before .args .place) _ (omega arith)
+unfolding words
+returns-2 c = simp (c .match .keys2)
+
+returns-3 : tie.Need-returns-3
+unfolding words
+returns-3 c = simp (c .match .keys3)
+
+returns-4 : tie.Need-returns-4
+unfolding words
+returns-4 c = simp (c .match .keys4)
+
+returns-5 : tie.Need-returns-5
+unfolding words
+returns-5 c = simp (c .match .keys5)
+
+returns-6 : tie.Need-returns-6
+unfolding words
+returns-6 c = simp (c .match .keys6)
+
+returns-7 : tie.Need-returns-7
+unfolding words
+returns-7 c = simp (c .match .keys7)
+
+returns-8 : tie.Need-returns-8
+unfolding words Past
+returns-8 c = ap command-of (sym (past-words words (c .before .args .place) (at-least 7 (c .before .args .place) (c .match .rest))))
 
 pub alone-spec : {M : Type 1} → statement M
-alone-spec = tie.close (tie.spec returns mul-result array-copy-out-result returns-2)
+alone-spec =
+    tie.close
+    (tie.spec returns returns-2 returns-3 returns-4 returns-5 returns-6 returns-7 returns-8)
