@@ -1,17 +1,16 @@
 // One batch in, one sheet out.
 use automaton::Automaton;
 use machine::Answer;
+use machine::LONGEST_BATCH;
+use machine::LONGEST_SHEET;
 use machine::Phase;
+use machine::ROWS;
+use machine::SETS;
 use rounds::Rounds;
 ghost use Prim.Native.Nat.{_≤_};
 ghost use Rattle.rounds.specs.Promises.{Settles};
 ghost use Rattle.search.specs.Graph.{graph-of};
 ghost use Rattle.checker.specs.Promise.{Finishes, Checks, ShowsSheet};
-
-// The longest batch, and a length that every sheet and every line of a refusal fits into.
-const LONGEST_BATCH: usize = 65536;
-
-const LONGEST_SHEET: usize = 6400;
 
 // The rounds of the automaton, until it is settled.
 fn settled(a: Automaton, k: usize) -> Rounds
@@ -24,10 +23,10 @@ fn settled(a: Automaton, k: usize) -> Rounds
 
 // Closes the table that the arrays hold, settles it and prints its sheet.
 fn finish(
-    high: &[u64; 256],
-    low: &[u64; 256],
+    high: &[u64; ROWS],
+    low: &[u64; ROWS],
     n: usize,
-    words: &[u64; 64],
+    words: &[u64; SETS],
     k: usize,
     sheet: &mut [u8],
 ) -> Answer
@@ -49,9 +48,9 @@ fn finish(
 pub fn check(batch: &[u8], sheet: &mut [u8]) -> Answer
     ensures { λ r. ⌜ Checks (now (batch .entry)) (now (sheet .entry)) (now (sheet .exit)) r ⌝ }
 {
-    let mut high = [0u64; 256];
-    let mut low = [0u64; 256];
-    let mut words = [0u64; 64];
+    let mut high = [0u64; ROWS];
+    let mut low = [0u64; ROWS];
+    let mut words = [0u64; SETS];
     let loaded = table::load_rows(&mut high, &mut low, &mut words, 0, 0, batch);
     let answer = loaded.answer;
     match answer {

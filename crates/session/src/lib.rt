@@ -8,15 +8,10 @@ mod tables;
 
 use machine::Answer;
 use machine::Phase;
+use machine::ROWS;
+use machine::SETS;
 use machine::Verdict;
 use rows::Row;
-
-// As many rows and sets as can stand, and as many rounds as a session can have done.
-pub const ROWS: usize = 256;
-
-pub const SETS: usize = 64;
-
-pub const ROUNDS: u8 = 129;
 
 // What a field that is an array can hold: a struct that holds the row.
 pub struct Slot {

@@ -1,11 +1,11 @@
 // The calls load and withdraw.
-use crate::ROWS;
 use crate::Reply;
-use crate::SETS;
 use crate::Session;
 use crate::State;
 use crate::tables::slots;
 use machine::Answer;
+use machine::ROWS;
+use machine::SETS;
 ghost use Prim.Native.Nat.{_≤_};
 ghost use mathlib.Core.List.{[]};
 ghost use Rattle.machine.specs.Calls.{load, withdraw};

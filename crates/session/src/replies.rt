@@ -1,11 +1,11 @@
 // The gate at the head of every call, and what a refusal hands back.
-use crate::ROWS;
 use crate::Reply;
-use crate::SETS;
 use crate::Session;
 use crate::State;
 use machine::Answer;
 use machine::Phase;
+use machine::ROWS;
+use machine::SETS;
 ghost use mathlib.Core.Path.{_≡_};
 ghost use Rattle.machine.specs.declared.Answer.the-variants.{Refused};
 ghost use Rattle.session.specs.Promise.{HasState};

@@ -1,11 +1,11 @@
 // The calls close, round and reopen.
-use crate::ROUNDS;
 use crate::Reply;
-use crate::SETS;
 use crate::Session;
 use crate::State;
 use machine::Answer;
 use machine::Phase;
+use machine::ROUNDS;
+use machine::SETS;
 use rounds::Rounds;
 ghost use mathlib.Core.Path.{_≡_};
 ghost use mathlib.Core.List.{[]};

@@ -1,11 +1,11 @@
 // The fresh session; the table of a session as arrays of keys, and its automaton.
 use crate::Keys;
-use crate::ROWS;
-use crate::SETS;
 use crate::Session;
 use crate::Slot;
 use automaton::Automaton;
 use machine::Phase;
+use machine::ROWS;
+use machine::SETS;
 use rows::Row;
 ghost use Prim.Native.Nat.{_≤_};
 ghost use Rattle.table.specs.Arrays.{Keyed};
