@@ -4,8 +4,8 @@ use machine::Answer;
 use machine::LONGEST_BATCH;
 use machine::LONGEST_SHEET;
 use machine::Phase;
-use machine::ROWS;
-use machine::SETS;
+use machine::MOST_ROWS;
+use machine::MOST_SETS;
 use rounds::Rounds;
 ghost use Prim.Native.Nat.{_≤_};
 ghost use Rattle.rounds.specs.Promises.{Settles};
@@ -23,10 +23,10 @@ fn settled(a: Automaton, k: usize) -> Rounds
 
 // Closes the table that the arrays hold, settles it and prints its sheet.
 fn finish(
-    high: &[u64; ROWS],
-    low: &[u64; ROWS],
+    high: &[u64; MOST_ROWS],
+    low: &[u64; MOST_ROWS],
     n: usize,
-    words: &[u64; SETS],
+    words: &[u64; MOST_SETS],
     k: usize,
     sheet: &mut [u8],
 ) -> Answer
@@ -48,9 +48,9 @@ fn finish(
 pub fn check(batch: &[u8], sheet: &mut [u8]) -> Answer
     ensures { λ r. ⌜ Checks (now (batch .entry)) (now (sheet .entry)) (now (sheet .exit)) r ⌝ }
 {
-    let mut high = [0u64; ROWS];
-    let mut low = [0u64; ROWS];
-    let mut words = [0u64; SETS];
+    let mut high = [0u64; MOST_ROWS];
+    let mut low = [0u64; MOST_ROWS];
+    let mut words = [0u64; MOST_SETS];
     let loaded = table::load_rows(&mut high, &mut low, &mut words, 0, 0, batch);
     let answer = loaded.answer;
     match answer {

@@ -1,11 +1,11 @@
 // The limits, the phases of a session, and what its calls answer. The plain machine of document 01, its sheet and its theorems are in specs/ and proofs/.
 
 // As many rows and sets as can stand, and as many rounds as can be done.
-pub const ROWS: usize = 256;
+pub const MOST_ROWS: usize = 256;
 
-pub const SETS: usize = 64;
+pub const MOST_SETS: usize = 64;
 
-pub const ROUNDS: u8 = 129;
+pub const MOST_ROUNDS: u8 = 129;
 
 // The longest batch that the program takes, and a length that every sheet fits into.
 pub const LONGEST_BATCH: usize = 65536;

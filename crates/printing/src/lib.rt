@@ -3,8 +3,8 @@ pub mod saved;
 
 use automaton::Automaton;
 use machine::Answer;
-use machine::ROWS;
-use machine::SETS;
+use machine::MOST_ROWS;
+use machine::MOST_SETS;
 use machine::Verdict;
 use rounds::Rounds;
 use search::Claims;
@@ -28,9 +28,9 @@ ghost use Rattle.printing.specs.Promise.{FindsWalk, PrintsSheet};
 fn openings_at(
     buf: &mut [u8],
     at: usize,
-    looped: &[u8; SETS],
-    mixed: &[u8; SETS],
-    words: &[u64; SETS],
+    looped: &[u8; MOST_SETS],
+    mixed: &[u8; MOST_SETS],
+    words: &[u64; MOST_SETS],
     k: usize,
     count: u8,
 ) -> usize
@@ -52,7 +52,7 @@ fn walk_at(buf: &mut [u8], at: usize, walk: Walk) -> usize
 }
 
 // How long the lines of the verdict and of the openings are.
-fn head_len(v: Verdict, words: &[u64; SETS], k: usize, rounds: Rounds) -> usize
+fn head_len(v: Verdict, words: &[u64; MOST_SETS], k: usize, rounds: Rounds) -> usize
     requires { ⌜ k ≤ 64 ⌝ }
     ensures { λ r. ⌜ (r ≡ length (head-text v (now (words .entry)) k rounds)) × (r ≤ 1100000) ⌝ }
 {
@@ -64,7 +64,7 @@ fn head_len(v: Verdict, words: &[u64; SETS], k: usize, rounds: Rounds) -> usize
 }
 
 // Writes the lines of the verdict and of the openings.
-fn put_head(buffer: &mut [u8], v: Verdict, words: &[u64; SETS], k: usize, rounds: Rounds) -> usize
+fn put_head(buffer: &mut [u8], v: Verdict, words: &[u64; MOST_SETS], k: usize, rounds: Rounds) -> usize
     requires { ⌜ (k ≤ 64) × (length (head-text v (now words) k rounds) ≤ length (now buffer)) ⌝ }
     ensures { λ r. ⌜ Wrote (head-text v (now (words .entry)) k rounds)
         (now (buffer .entry)) (now (buffer .exit)) r ⌝ }
@@ -78,8 +78,8 @@ fn put_head(buffer: &mut [u8], v: Verdict, words: &[u64; SETS], k: usize, rounds
 
 // The first of the shortest walks from an initial to a final state, with the claims that are open.
 fn first_walk(
-    high: &[u64; ROWS],
-    low: &[u64; ROWS],
+    high: &[u64; MOST_ROWS],
+    low: &[u64; MOST_ROWS],
     n: usize,
     k: usize,
     a: Automaton,
@@ -100,7 +100,7 @@ fn first_walk(
 }
 
 // The sheet of an empty automaton: the verdict and the openings.
-fn print_empty(buffer: &mut [u8], words: &[u64; SETS], k: usize, rounds: Rounds) -> Answer
+fn print_empty(buffer: &mut [u8], words: &[u64; MOST_SETS], k: usize, rounds: Rounds) -> Answer
     requires { ⌜ k ≤ 64 ⌝ }
     ensures { λ r. ⌜ TellsText (head-text Empty (now (words .entry)) k rounds)
         (now (buffer .entry)) (now (buffer .exit)) r ⌝ }
@@ -116,7 +116,7 @@ fn print_empty(buffer: &mut [u8], words: &[u64; SETS], k: usize, rounds: Rounds)
 // The sheet of a non-empty one: the verdict, the openings and the walk.
 fn print_nonempty(
     buffer: &mut [u8],
-    words: &[u64; SETS],
+    words: &[u64; MOST_SETS],
     k: usize,
     rounds: Rounds,
     walk: Walk,
@@ -139,10 +139,10 @@ fn print_nonempty(
 pub fn print(
     buffer: &mut [u8],
     verdict: Verdict,
-    high: &[u64; ROWS],
-    low: &[u64; ROWS],
+    high: &[u64; MOST_ROWS],
+    low: &[u64; MOST_ROWS],
     n: usize,
-    words: &[u64; SETS],
+    words: &[u64; MOST_SETS],
     k: usize,
     a: Automaton,
     rounds: Rounds,

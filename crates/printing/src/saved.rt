@@ -1,6 +1,6 @@
 // The rows of a table, written from their keys into a lent buffer as one batch.
 use machine::Answer;
-use machine::ROWS;
+use machine::MOST_ROWS;
 use rows::Row;
 ghost use mathlib.Core.Path.{_≡_};
 ghost use Prim.Native.Nat.{_≤_, _+_};
@@ -19,7 +19,7 @@ fn row_at(buf: &mut [u8], at: usize, row: Row) -> usize
 }
 
 // How many bytes the rows of the first `n` keys have.
-fn rows_len(high: &[u64; ROWS], low: &[u64; ROWS], n: usize) -> usize
+fn rows_len(high: &[u64; MOST_ROWS], low: &[u64; MOST_ROWS], n: usize) -> usize
     requires { ⌜ n ≤ 256 ⌝ }
     ensures { λ r. ⌜ r ≡ length (batch-of (row-list (now (high .entry)) (now (low .entry)) n)) ⌝ }
 {
@@ -33,7 +33,7 @@ fn rows_len(high: &[u64; ROWS], low: &[u64; ROWS], n: usize) -> usize
 }
 
 // Writes these rows one after another.
-fn put_rows(buffer: &mut [u8], high: &[u64; ROWS], low: &[u64; ROWS], n: usize) -> usize
+fn put_rows(buffer: &mut [u8], high: &[u64; MOST_ROWS], low: &[u64; MOST_ROWS], n: usize) -> usize
     requires { ⌜ (n ≤ 256) × (length (batch-of (row-list (now high) (now low) n)) ≤ length (now buffer)) ⌝ }
     ensures { λ r. ⌜ Wrote (batch-of (row-list (now (high .entry)) (now (low .entry)) n))
         (now (buffer .entry)) (now (buffer .exit)) r ⌝ }
@@ -49,7 +49,7 @@ fn put_rows(buffer: &mut [u8], high: &[u64; ROWS], low: &[u64; ROWS], n: usize) 
 }
 
 // The rows of the first `n` keys into the buffer; nothing where the buffer is too short.
-pub fn save(buffer: &mut [u8], high: &[u64; ROWS], low: &[u64; ROWS], n: usize) -> Answer
+pub fn save(buffer: &mut [u8], high: &[u64; MOST_ROWS], low: &[u64; MOST_ROWS], n: usize) -> Answer
     requires { ⌜ n ≤ 256 ⌝ }
     ensures { λ r. ⌜ TellsText (batch-of (row-list (now (high .entry)) (now (low .entry)) n))
         (now (buffer .entry)) (now (buffer .exit)) r ⌝ }

@@ -8,8 +8,8 @@ mod tables;
 
 use machine::Answer;
 use machine::Phase;
-use machine::ROWS;
-use machine::SETS;
+use machine::MOST_ROWS;
+use machine::MOST_SETS;
 use machine::Verdict;
 use rows::Row;
 
@@ -21,12 +21,12 @@ pub struct Slot {
 // The standing rows sorted as byte strings; their sets, rising; the rounds in which the loop and the mix of each set opened, 0 for
 // not open; the phase and the count of rounds. What is not used holds a filler.
 pub struct Session {
-    pub rows: [Slot; ROWS],
+    pub rows: [Slot; MOST_ROWS],
     pub row_count: usize,
-    pub sets: [u64; SETS],
+    pub sets: [u64; MOST_SETS],
     pub set_count: usize,
-    pub loop_rounds: [u8; SETS],
-    pub mix_rounds: [u8; SETS],
+    pub loop_rounds: [u8; MOST_SETS],
+    pub mix_rounds: [u8; MOST_SETS],
     pub phase: Phase,
     pub rounds: u8,
 }
@@ -47,6 +47,6 @@ pub struct Reply {
 
 // The keys of rows, in order: the first words and the second words.
 pub struct Keys {
-    pub high: [u64; ROWS],
-    pub low: [u64; ROWS],
+    pub high: [u64; MOST_ROWS],
+    pub low: [u64; MOST_ROWS],
 }

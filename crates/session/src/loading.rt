@@ -4,8 +4,8 @@ use crate::Session;
 use crate::State;
 use crate::tables::slots;
 use machine::Answer;
-use machine::ROWS;
-use machine::SETS;
+use machine::MOST_ROWS;
+use machine::MOST_SETS;
 ghost use Prim.Native.Nat.{_≤_};
 ghost use mathlib.Core.List.{[]};
 ghost use Rattle.machine.specs.Calls.{load, withdraw};
@@ -17,9 +17,9 @@ impl Session {
     // What a batch came to: all its rows or none. Where it is done, the session takes the table that the arrays hold.
     fn take_table(
         self,
-        high: &[u64; ROWS],
-        low: &[u64; ROWS],
-        sets: [u64; SETS],
+        high: &[u64; MOST_ROWS],
+        low: &[u64; MOST_ROWS],
+        sets: [u64; MOST_SETS],
         n: usize,
         k: usize,
         answer: Answer,

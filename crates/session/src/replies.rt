@@ -4,8 +4,8 @@ use crate::Session;
 use crate::State;
 use machine::Answer;
 use machine::Phase;
-use machine::ROWS;
-use machine::SETS;
+use machine::MOST_ROWS;
+use machine::MOST_SETS;
 ghost use mathlib.Core.Path.{_≡_};
 ghost use Rattle.machine.specs.declared.Answer.the-variants.{Refused};
 ghost use Rattle.session.specs.Promise.{HasState};
@@ -18,10 +18,10 @@ impl Session {
     {
         let row_count = self.row_count;
         let set_count = self.set_count;
-        if row_count > ROWS {
+        if row_count > MOST_ROWS {
             return State::Foreign;
         }
-        if set_count > SETS {
+        if set_count > MOST_SETS {
             return State::Foreign;
         }
         let phase = self.phase;

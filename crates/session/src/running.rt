@@ -4,8 +4,8 @@ use crate::Session;
 use crate::State;
 use machine::Answer;
 use machine::Phase;
-use machine::ROUNDS;
-use machine::SETS;
+use machine::MOST_ROUNDS;
+use machine::MOST_SETS;
 use rounds::Rounds;
 ghost use mathlib.Core.Path.{_≡_};
 ghost use mathlib.Core.List.{[]};
@@ -79,8 +79,8 @@ impl Session {
     fn reopen_closed(self) -> Reply
         ensures { λ r. ⌜ KeepsIn NotOpen self reopen [] [] r ⌝ }
     {
-        let loop_rounds = [0u8; SETS];
-        let mix_rounds = [0u8; SETS];
+        let loop_rounds = [0u8; MOST_SETS];
+        let mix_rounds = [0u8; MOST_SETS];
         let phase = Phase::Open;
         let now = Rounds {
             loop_rounds,
@@ -112,7 +112,7 @@ impl Session {
             State::Foreign => self.refuse(24),
             State::Open => self.refuse(9),
             State::Running => {
-                if rounds < ROUNDS {
+                if rounds < MOST_ROUNDS {
                     self.round_running()
                 } else {
                     self.refuse(13)

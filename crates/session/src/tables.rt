@@ -4,8 +4,8 @@ use crate::Session;
 use crate::Slot;
 use automaton::Automaton;
 use machine::Phase;
-use machine::ROWS;
-use machine::SETS;
+use machine::MOST_ROWS;
+use machine::MOST_SETS;
 use rows::Row;
 ghost use Prim.Native.Nat.{_≤_};
 ghost use Rattle.table.specs.Arrays.{Keyed};
@@ -13,13 +13,13 @@ ghost use Rattle.session.specs.Promise.{Fresh, Ranged};
 ghost use Rattle.session.specs.Standing.{standing, Slotted, Reads};
 
 // The rows of the first `n` keys, and then the filler.
-pub(crate) fn slots(high: &[u64; ROWS], low: &[u64; ROWS], n: usize) -> [Slot; ROWS]
+pub(crate) fn slots(high: &[u64; MOST_ROWS], low: &[u64; MOST_ROWS], n: usize) -> [Slot; MOST_ROWS]
     requires { ⌜ n ≤ 256 ⌝ }
     ensures { λ r. ⌜ Slotted (now (high .entry)) (now (low .entry)) n r ⌝ }
 {
     let row = Row::Initial(0);
     let blank = Slot { row };
-    let mut rows = [blank; ROWS];
+    let mut rows = [blank; MOST_ROWS];
     let mut i = 0;
     while i < n {
         let row = rows::row_of(high[i], low[i]);
@@ -37,10 +37,10 @@ impl Session {
     {
         let row = Row::Initial(0);
         let blank = Slot { row };
-        let rows = [blank; ROWS];
-        let sets = [0u64; SETS];
-        let loop_rounds = [0u8; SETS];
-        let mix_rounds = [0u8; SETS];
+        let rows = [blank; MOST_ROWS];
+        let sets = [0u64; MOST_SETS];
+        let loop_rounds = [0u8; MOST_SETS];
+        let mix_rounds = [0u8; MOST_SETS];
         let phase = Phase::Open;
         Session {
             rows,
@@ -60,8 +60,8 @@ impl Session {
         ensures { λ r. ⌜ Keyed (standing self) (r .high) (r .low) (self .«row_count») ⌝ }
     {
         let n = self.row_count;
-        let mut high = [0u64; ROWS];
-        let mut low = [0u64; ROWS];
+        let mut high = [0u64; MOST_ROWS];
+        let mut low = [0u64; MOST_ROWS];
         let mut i = 0;
         while i < n {
             let slot = self.rows[i];
