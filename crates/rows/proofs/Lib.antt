@@ -2,6 +2,5 @@ pub mod Same
 pub mod Reading
 pub mod Batch
 pub mod Sets
-pub mod Joined
 pub mod ByteOrder
 pub mod Keys

@@ -1,22 +1,23 @@
 -- A row that fits is read back from its bytes, what is read fits and has the bytes that were read, and a refusal has its cause.
 use Prim.Native.Nat.{ℕ, zero, suc, _≤_, _<_, _+_, _*_, _/_, _%_, _^_}
 use mathlib.Core.Path.{_≡_, refl, ap, sym, _∙_, subst}
-use mathlib.Core.Bool.{Bool, true, false, cond, _||_, or-false}
+use mathlib.Core.Bool.{Bool, true, false, cond, _&&_, _||_}
 use mathlib.Core.Logic.{⊎-elim, _↔_}
-use mathlib.Core.List.{List, [], _∷_, _++_, List·Memᴰ·head, List·Memᴰ·tail, List·Memᴰ·not-nil, List·Memᴰ·cases-cons, List·Memᴰ·append-cases}
-use lib.Dec.{eqb, ltb}
+use mathlib.Core.List.{List, [], _∷_, _++_, List·Memᴰ·head, List·Memᴰ·tail, List·Memᴰ·not-nil, List·Memᴰ·cases-cons, List·Memᴰ·append-cases, List·Memᴰ·eq-of-singleton}
+use lib.Dec.{eqb, ltb, leb, eqb·suc-zero}
 use lib.ListN.{length, take, drop, getD, length-take, length-drop, take-append-drop}
-use lib.Seq.{drop-cons, drop-drop}
+use lib.Seq.{drop-cons, drop-drop, take-suc, getD-drop}
 use native.Mathlib.Omega.{arith}
-use native.Mathlib.Nat.{div-div-eq-div-mul, div-eq-of-lt, div-one, pow-suc}
+use native.Mathlib.Nat.{div-div-eq-div-mul, div-eq-of-lt, div-one, pow-suc, one-le-pow, pow-le-pow-right, div-lt-iff-lt-mul, one-mul}
+use native.Mathlib.Numerals.{add-one}
 use Rattle.lists.specs.Tests.{Decides, _among_, any}
-use Rattle.lists.proofs.Deciding.{eqb·, ltb·, leb·, and·, any·, dec·, yes·, no·}
+use Rattle.lists.proofs.Deciding.{eqb·, ltb·, leb·, and·, any·, yes·, no·}
 use Rattle.rows.specs.declared.Row.{Row}
 use Rattle.rows.specs.declared.Row.the-variants.{Initial, Final, Successor, LeftLimit, RightLimit}
 use Rattle.rows.specs.declared.ReadRow.{ReadRow}
 use Rattle.rows.specs.declared.ReadRow.the-variants.{Read, Refused}
 use Rattle.rows.specs.Rows.{big, row-bytes, Fits, Bytes}
-use Rattle.rows.specs.Reading.{number, set-at, state-row, step-row, limit-row, kind-row, read-row, Known, width, state-places, set-places, Malformed, unknown-kind, cut-short, high-state, zero-set}
+use Rattle.rows.specs.Reading.{number, set-at, row-at, cut-or-high, row-cause, read-row, Known, width, state-places, set-places, Malformed, unknown-kind, cut-short, high-state, zero-set}
 
 -- without one byte more
 high : (x n : ℕ) → x / 256 ^ suc n ≡ x / 256 ^ n / 256
@@ -40,6 +41,11 @@ big-number [] x h = refl
 big-number (b ∷ l) x h = let t : Bytes l = λ c m. h c (List·Memᴰ·tail m) in
     let e : (x * 256 + b) % 256 ≡ b = omega (arith, h b (List·Memᴰ·head refl)) in
     rw (number-high l (x * 256 + b) t, e, big-number l (x * 256 + b) t)
+
+-- one byte more
+number-snoc : (l : List ℕ) (b x : ℕ) → number (l ++ (b ∷ [])) x ≡ number l x * 256 + b
+number-snoc [] b x = refl
+number-snoc (a ∷ l) b x = number-snoc l b (x * 256 + a)
 
 -- a set is the number of its eight bytes
 pub eight : (P : ℕ) → P < 256 ^ 8 → number (big 8 P) 0 ≡ P
@@ -88,6 +94,21 @@ module _ (l : List ℕ) (j : ℕ) (h : Bytes l) (w : j + 8 ≤ length l) where
   set-split = sym (take-append-drop 8 (drop j l))
       ∙ (ap (λ (x : List ℕ). x ++ drop 8 (drop j l)) (sym set-bytes) ∙ ap (λ (x : List ℕ). big 8 (set-at l j) ++ x) (drop-drop 8 j l))
 
+-- the number of the first bytes from a place on, one byte after another
+module _ (l : List ℕ) (j i : ℕ) (w : j + 8 ≤ length l) (g : i < 8) where
+  pub number-next : number (take (i + 1) (drop j l)) 0 ≡ number (take i (drop j l)) 0 * 256 + getD l (j + i) 0
+  number-next = rw (add-one, take-suc (drop j l) i 0 (simp length-drop (omega arith)), number-snoc, getD-drop)
+
+  pub number-fits : Bytes l → number (take i (drop j l)) 0 < 256 ^ 7
+  number-fits h =
+      let m = take i (drop j l) in
+      let len : length m ≤ 7 = simp length-take (omega arith) in
+      let e = number-high m 0 (bytes-take i (drop j l) (bytes-drop j l h)) in
+      let some : 0 < 256 ^ length m = one-le-pow (length m) 256 (omega arith) in
+      let few : 256 ^ length m ≤ 256 ^ 7 = pow-le-pow-right (omega arith) len in
+      let one : number m 0 / 256 ^ length m < 1 = rw e (omega arith) in
+      omega (arith, div-lt-iff-lt-mul some .0 one, one-mul (256 ^ length m), few)
+
 pub some-bytes : (r : Row) → 0 < length (row-bytes r)
 unfolding row-bytes
 some-bytes (Initial s) = omega arith
@@ -110,41 +131,6 @@ cond-yes {x = x} y d h = cond-ok (λ z. z ≡ x) d (λ h. refl) (λ n. absurd (n
 cond-no : {A : Type 0} {b : Bool} {B : Type 0} (x : A) {y z : A} → Decides b B → ¬ B → y ≡ z → cond b x y ≡ z
 cond-no x {z = z} d n e = cond-ok (λ a. a ≡ z) d (λ h. absurd (n h)) (λ n. e)
 
-state-back : (make : ℕ → Row) (l : List ℕ) (s : ℕ) → getD l 1 0 ≡ s → 2 ≤ length l → s < 64 → state-row make l ≡ Read (make s) 2
-unfolding state-row
-state-back make l s e w h = cond-no _ (ltb· (length l) 2) (omega arith) (cond-no _ (ltb· 63 (getD l 1 0)) (omega arith) (cc))
-
-limit-back : (make : ℕ → ℕ → Row) (i j : ℕ) (l : List ℕ) (P q : ℕ) → getD l i 0 ≡ q → set-at l j ≡ P → 10 ≤ length l → (0 < P) × (P < 256 ^ 8) × (q < 64)
-    → limit-row make i j l ≡ Read (make P q) 10
-unfolding limit-row
-limit-back make i j l P q e g w h =
-    cond-no _ (ltb· (length l) 10) (omega arith) (cond-no _ (ltb· 63 (getD l i 0)) (omega arith) (cond-no _ (eqb· (set-at l j) 0) (omega arith) (cc)))
-
--- a row that fits is read back, whatever follows it
-pub read-back : (r : Row) (tail : List ℕ) → Fits r → read-row (row-bytes r ++ tail) ≡ Read r (length (row-bytes r))
-unfolding row-bytes read-row kind-row step-row set-at
-read-back (Initial s) tail f = state-back Initial (1 ∷ s ∷ tail) s refl (omega arith) f
-read-back (Final s) tail f = state-back Final (2 ∷ s ∷ tail) s refl (omega arith) f
-read-back (Successor p a q) tail f =
-    cond-no _ (ltb· (suc (suc (suc (suc (length tail))))) 4) (omega arith) (cond-no _ (ltb· 63 p) (omega arith) (cond-no _ (ltb· 63 q) (omega arith) refl))
-read-back (LeftLimit P q) tail f = limit-back LeftLimit 9 1 (4 ∷ (big 8 P ++ (q ∷ tail))) P q refl (eight P (f .1)) (omega arith) f
-read-back (RightLimit q P) tail f = limit-back (λ P q. RightLimit q P) 1 2 (5 ∷ q ∷ (big 8 P ++ tail)) P q refl (eight P (f .1)) (omega arith) f
-
--- the row at the head of bytes of a known kind
-abbrev row-at : ℕ → List ℕ → Row
-row-at k l = cond (eqb k 1) (Initial (getD l 1 0))
-    (cond (eqb k 2) (Final (getD l 1 0))
-    (cond (eqb k 3) (Successor (getD l 1 0) (getD l 2 0) (getD l 3 0))
-    (cond (eqb k 4) (LeftLimit (set-at l 1) (getD l 9 0))
-    (RightLimit (getD l 1 0) (set-at l 2)))))
-
--- the tests by the places of the kind
-abbrev checked : ℕ → List ℕ → ReadRow
-checked k l = cond (ltb (length l) (width k)) (Refused 3)
-    (cond (any (λ i. ltb 63 (getD l i 0)) (state-places k)) (Refused 4)
-    (cond (any (λ j. eqb (set-at l j) 0) (set-places k)) (Refused 5)
-    (Read (row-at k l) (width k))))
-
 -- what holds of each kind holds of a known kind
 by-kind : (Q : ℕ → Type 0) → Q 1 → Q 2 → Q 3 → Q 4 → Q 5 → (k : ℕ) → Known k → Q k
 by-kind Q a b c d e zero h = absurd (omega arith)
@@ -155,35 +141,8 @@ by-kind Q a b c d e (suc (suc (suc (suc zero)))) h = d
 by-kind Q a b c d e (suc (suc (suc (suc (suc zero))))) h = e
 by-kind Q a b c d e (suc (suc (suc (suc (suc (suc k)))))) h = absurd (omega arith)
 
-cond-or : {A : Type 0} (a b : Bool) (x y : A) → cond a x (cond b x y) ≡ cond (a || b) x y
-cond-or true b x y = refl
-cond-or false b x y = refl
-
--- the reader makes the tests of the kind
-known : (l : List ℕ) (k : ℕ) → Known k → kind-row k l ≡ checked k l
-unfolding kind-row state-row step-row limit-row
-known l = by-kind (λ k. kind-row k l ≡ checked k l)
-    (simp (or-false, cond-or))
-    (simp (or-false, cond-or))
-    (simp (or-false, cond-or))
-    (simp (or-false, cond-or))
-    (simp (or-false, cond-or))
-
-unknown : (l : List ℕ) (k : ℕ) → ¬ Known k → kind-row k l ≡ Refused 2
-unfolding kind-row
-unknown l k n = cond-no _ (eqb· k 1) (λ e. n (omega arith)) (cond-no _ (eqb· k 2) (λ e. n (omega arith)) (cond-no _ (eqb· k 3) (λ e. n (omega arith))
-    (cond-no _ (eqb· k 4) (λ e. n (omega arith)) (cond-no _ (eqb· k 5) (λ e. n (omega arith)) refl))))
-
--- no cause but an unknown kind refuses the row at the head of the bytes
-record Sound (k : ℕ) (l : List ℕ) : Type 0 where
-  whole : width k ≤ length l
-  low : (i : ℕ) → i among state-places k → getD l i 0 ≤ 63
-  some : (j : ℕ) → j among set-places k → ¬ (set-at l j ≡ 0)
-
--- what was read, or why not
-abbrev Right : List ℕ → ReadRow → Type 0
-Right l (Refused n) = Malformed l n
-Right l (Read r n) = Known (getD l 0 0) × Sound (getD l 0 0) l × (r ≡ row-at (getD l 0 0) l) × (n ≡ width (getD l 0 0))
+known· : (k : ℕ) → Decides (ltb 0 k && leb k 5) (Known k)
+known· k = and· (ltb· 0 k) (leb· k 5)
 
 high· : (k : ℕ) (l : List ℕ) → Decides (any (λ i. ltb 63 (getD l i 0)) (state-places k)) ((i : ℕ) × i among state-places k × (63 < getD l i 0))
 high· k l = any· (λ i. ltb· 63 (getD l i 0)) (state-places k)
@@ -191,16 +150,139 @@ high· k l = any· (λ i. ltb· 63 (getD l i 0)) (state-places k)
 zero· : (k : ℕ) (l : List ℕ) → Decides (any (λ j. eqb (set-at l j) 0) (set-places k)) ((j : ℕ) × j among set-places k × (set-at l j ≡ 0))
 zero· k l = any· (λ j. eqb· (set-at l j) 0) (set-places k)
 
-checked-right : (l : List ℕ) → Known (getD l 0 0) → Right l (checked (getD l 0 0) l)
-checked-right l h = cond-ok (Right l) (ltb· (length l) (width (getD l 0 0))) (cut-short h)
+-- no cause but an unknown kind refuses the row at the head of the bytes
+record Sound (k : ℕ) (l : List ℕ) : Type 0 where
+  whole : width k ≤ length l
+  low : (i : ℕ) → i among state-places k → getD l i 0 ≤ 63
+  some : (j : ℕ) → j among set-places k → ¬ (set-at l j ≡ 0)
+
+-- what a cause of a kind, or none, says
+abbrev Caused : List ℕ → ℕ → Type 0
+Caused l zero = Known (getD l 0 0) × Sound (getD l 0 0) l
+Caused l (suc n) = Malformed l (suc n)
+
+caused : (l : List ℕ) → Caused l (row-cause (getD l 0 0) l)
+unfolding row-cause
+caused l = cond-ok (Caused l) (known· (getD l 0 0))
+    (λ h. cond-ok (Caused l) (ltb· (length l) (width (getD l 0 0))) (cut-short h)
     (λ w. let long : width (getD l 0 0) ≤ length l = omega arith in
-    cond-ok (Right l) (high· (getD l 0 0) l) (λ p. high-state (getD l 0 0) (p .0) (refl, h, long) (p .1) (p .2))
+    cond-ok (Caused l) (high· (getD l 0 0) l) (λ p. high-state (getD l 0 0) (p .0) (refl, h, long) (p .1) (p .2))
     (λ n. let low : (i : ℕ) → i among state-places (getD l 0 0) → getD l i 0 ≤ 63 = λ i m. below i m n in
-    cond-ok (Right l) (zero· (getD l 0 0) l) (λ p. zero-set (getD l 0 0) (p .0) (refl, h, long) low (p .1) (p .2))
-    (λ z. (h, record { whole = long; low = low; some = λ j m e. z (j, m, e) }, refl, refl))))
+    cond-ok (Caused l) (zero· (getD l 0 0) l) (λ p. zero-set (getD l 0 0) (p .0) (refl, h, long) low (p .1) (p .2))
+    (λ z. (h, record { whole = long; low = low; some = λ j m e. z (j, m, e) })))))
+    unknown-kind
   where
     below : (i : ℕ) → i among state-places (getD l 0 0) → ¬ ((i : ℕ) × i among state-places (getD l 0 0) × (63 < getD l i 0)) → getD l i 0 ≤ 63
     below i m n = let g : ¬ (63 < getD l i 0) = λ g. n (i, m, g) in omega arith
+
+-- a place said twice; and a number that stands where no other does
+module _ (w : ℕ) (l : List ℕ) where
+  pub place-twice : (i n : ℕ) → cut-or-high w (i ∷ i ∷ []) l n ≡ cut-or-high w (i ∷ []) l n
+  place-twice i n = go (ltb 63 (getD l i 0))
+    where
+      go : (b : Bool) → cond (ltb (length l) w) 3 (cond (b || (b || false)) 4 n) ≡ cond (ltb (length l) w) 3 (cond (b || false) 4 n)
+      go true = refl
+      go false = refl
+
+  pub cut-first : (places : List ℕ) (n : ℕ) → ¬ (cut-or-high w places l 0 ≡ 0) → cut-or-high w places l n ≡ cut-or-high w places l 0
+  cut-first places n = go (ltb (length l) w) (any (λ i. ltb 63 (getD l i 0)) places)
+    where
+      go : (a b : Bool) → ¬ (_≡_ {A = ℕ} (cond a 3 (cond b 4 0)) 0) → _≡_ {A = ℕ} (cond a 3 (cond b 4 n)) (cond a 3 (cond b 4 0))
+      go true b h = refl
+      go false true h = refl
+      go false false h = absurd (h refl)
+
+  pub cut-none : (places : List ℕ) (n : ℕ) → cut-or-high w places l 0 ≡ 0 → (w ≤ length l) × (cut-or-high w places l n ≡ n)
+  cut-none places n = go (ltb (length l) w) (any (λ i. ltb 63 (getD l i 0)) places) (ltb· (length l) w)
+    where
+      go : (a b : Bool) → Decides a (length l < w) → _≡_ {A = ℕ} (cond a 3 (cond b 4 0)) 0 → (w ≤ length l) × (cond a 3 (cond b 4 n) ≡ n)
+      go true b d h = absurd (omega arith)
+      go false true d h = absurd (omega arith)
+      go false false d h = let g = no· d in (omega arith, refl)
+
+-- each cause has its number, and a sound row none
+module _ (k : ℕ) (l : List ℕ) where
+  pub unknown-cause : ¬ Known k → row-cause k l ≡ 2
+  unfolding row-cause
+  unknown-cause n = cond-no _ (known· k) n refl
+
+  module _ (h : Known k) where
+    cut-cause : length l < width k → row-cause k l ≡ 3
+    unfolding row-cause
+    cut-cause w = cond-yes _ (known· k) h ∙ cond-yes _ (ltb· (length l) (width k)) w
+
+    high-cause : width k ≤ length l → (i : ℕ) → i among state-places k → 63 < getD l i 0 → row-cause k l ≡ 4
+    unfolding row-cause
+    high-cause w i m g = cond-yes _ (known· k) h ∙ cond-no _ (ltb· (length l) (width k)) (omega arith) (cond-yes _ (high· k l) (i, m, g))
+
+    zero-cause : width k ≤ length l → ((i : ℕ) → i among state-places k → getD l i 0 ≤ 63)
+        → (j : ℕ) → j among set-places k → set-at l j ≡ 0 → row-cause k l ≡ 5
+    unfolding row-cause
+    zero-cause w low j m z =
+        cond-yes _ (known· k) h ∙ cond-no _ (ltb· (length l) (width k)) (omega arith)
+        (cond-no _ (high· k l) (λ p. omega (arith, low (p .0) (p .1), p .2)) (cond-yes _ (zero· k l) (j, m, z)))
+
+    no-cause : Sound k l → row-cause k l ≡ 0
+    unfolding row-cause
+    no-cause s =
+        cond-yes _ (known· k) h ∙ cond-no _ (ltb· (length l) (width k)) (omega (arith, s .whole))
+        (cond-no _ (high· k l) (λ p. omega (arith, s .low (p .0) (p .1), p .2)) (cond-no _ (zero· k l) (λ p. s .some (p .0) (p .1) (p .2)) refl))
+
+numbered : (l : List ℕ) (n : ℕ) → Malformed l n → row-cause (getD l 0 0) l ≡ n
+numbered l _ (unknown-kind n) = unknown-cause (getD l 0 0) l n
+numbered l _ (cut-short h w) = cut-cause (getD l 0 0) l h w
+numbered l _ (high-state k i w m g) = ap (λ (x : ℕ). row-cause x l) (w .0) ∙ high-cause k l (w .1) (w .2) i m g
+numbered l _ (zero-set k j w low m z) = ap (λ (x : ℕ). row-cause x l) (w .0) ∙ zero-cause k l (w .1) (w .2) low j m z
+
+-- one place, and what holds there
+only : (P : ℕ → Type 0) (i : ℕ) → P i → (j : ℕ) → j among (i ∷ []) → P j
+only P i h j m = subst P (sym (List·Memᴰ·eq-of-singleton m)) h
+
+-- a whole row is read
+read-sound : (k : ℕ) (l : List ℕ) → Known k → Sound k (k ∷ l) → read-row (k ∷ l) ≡ Read (row-at k (k ∷ l)) (width k)
+unfolding read-row
+read-sound k l h s = rw (no-cause k (k ∷ l) h s)
+
+-- known and whole where no cause refuses it
+pub none-caused : (l : List ℕ) → row-cause (getD l 0 0) l ≡ 0 → Known (getD l 0 0) × (width (getD l 0 0) ≤ length l)
+none-caused l e = let c = subst (Caused l) e (caused l) in (c .0, c .1 .whole)
+
+-- a row that fits is read back, whatever follows it
+pub read-back : (r : Row) (tail : List ℕ) → Fits r → read-row (row-bytes r ++ tail) ≡ Read r (length (row-bytes r))
+unfolding row-bytes row-at set-at
+read-back (Initial s) tail f =
+    read-sound 1 (s ∷ tail) (omega arith) (record { whole = omega arith; low = only (λ i. getD (1 ∷ s ∷ tail) i 0 ≤ 63) 1 (omega arith); some = λ j m. absurd (List·Memᴰ·not-nil m) })
+read-back (Final s) tail f =
+    read-sound 2 (s ∷ tail) (omega arith) (record { whole = omega arith; low = only (λ i. getD (2 ∷ s ∷ tail) i 0 ≤ 63) 1 (omega arith); some = λ j m. absurd (List·Memᴰ·not-nil m) })
+read-back (Successor p a q) tail f =
+    read-sound 3 (p ∷ a ∷ q ∷ tail) (omega arith) (record {
+      whole = omega arith;
+      low = λ i m. ⊎-elim (λ e. rw e (omega arith)) (only (λ i. getD (3 ∷ p ∷ a ∷ q ∷ tail) i 0 ≤ 63) 3 (omega arith) i) (List·Memᴰ·cases-cons m);
+      some = λ j m. absurd (List·Memᴰ·not-nil m);
+    })
+read-back (LeftLimit P q) tail f =
+    let l = big 8 P ++ (q ∷ tail) in
+    let e : set-at (4 ∷ l) 1 ≡ P = eight P (f .1) in
+    read-sound 4 l (omega arith) (record {
+      whole = omega arith;
+      low = only (λ i. getD (4 ∷ l) i 0 ≤ 63) 9 (omega arith);
+      some = only (λ j. ¬ (set-at (4 ∷ l) j ≡ 0)) 1 (λ z. omega (arith, e, z));
+    })
+    ∙ ap (λ (Q : ℕ). Read (LeftLimit Q q) 10) e
+read-back (RightLimit q P) tail f =
+    let l = q ∷ (big 8 P ++ tail) in
+    let e : set-at (5 ∷ l) 2 ≡ P = eight P (f .1) in
+    read-sound 5 l (omega arith) (record {
+      whole = omega arith;
+      low = only (λ i. getD (5 ∷ l) i 0 ≤ 63) 1 (omega arith);
+      some = only (λ j. ¬ (set-at (5 ∷ l) j ≡ 0)) 2 (λ z. omega (arith, e, z));
+    })
+    ∙ ap (λ (Q : ℕ). Read (RightLimit q Q) 10) e
+
+-- what was read, or why not
+abbrev Right : List ℕ → ReadRow → Type 0
+Right l (Refused n) = Malformed l n
+Right l (Read r n) = Known (getD l 0 0) × Sound (getD l 0 0) l × (r ≡ row-at (getD l 0 0) l) × (n ≡ width (getD l 0 0))
 
 -- nothing to read, and something
 pub read-none : (l : List ℕ) → length l ≡ 0 → read-row l ≡ Refused 3
@@ -208,30 +290,31 @@ unfolding read-row
 read-none [] h = refl
 read-none (k ∷ l) h = absurd (omega arith)
 
-pub read-some : (l : List ℕ) → 0 < length l → read-row l ≡ kind-row (getD l 0 0) l
+pub read-some : (l : List ℕ) → 0 < length l
+    → read-row l ≡ cond (eqb (row-cause (getD l 0 0) l) 0) (Read (row-at (getD l 0 0) l) (width (getD l 0 0))) (Refused (row-cause (getD l 0 0) l))
 unfolding read-row
 read-some [] h = absurd (omega arith)
 read-some (k ∷ l) h = refl
 
-right : (l : List ℕ) → 0 < length l → Right l (read-row l)
-right l h = rw (read-some l h) (elim (dec· (and· (leb· 1 (getD l 0 0)) (leb· (getD l 0 0) 5))) [
-  | yes k ↦ rw (known l (getD l 0 0) k) (checked-right l k)
-  | no n ↦ rw (unknown l (getD l 0 0) n) (unknown-kind n)
-])
+by-cause : (l : List ℕ) (n : ℕ) → Caused l n → Right l (cond (eqb n 0) (Read (row-at (getD l 0 0) l) (width (getD l 0 0))) (Refused n))
+by-cause l zero c = (c .0, c .1, refl, refl)
+by-cause l (suc n) c = rw (eqb·suc-zero n) c
 
--- each cause refuses with its number
-refused : (l : List ℕ) (n : ℕ) → Malformed l n → kind-row (getD l 0 0) l ≡ Refused n
-refused l _ (unknown-kind n) = unknown l (getD l 0 0) n
-refused l _ (cut-short h w) = known l (getD l 0 0) h ∙ cond-yes _ (ltb· (length l) (width (getD l 0 0))) w
-refused l _ (high-state k i w m g) =
-    ap (λ (x : ℕ). kind-row x l) (w .0) ∙ (known l k (w .1) ∙ cond-no _ (ltb· (length l) (width k)) (omega arith) (cond-yes _ (high· k l) (i, m, g)))
-refused l _ (zero-set k j w low m z) =
-    ap (λ (x : ℕ). kind-row x l) (w .0) ∙ (known l k (w .1)
-    ∙ cond-no _ (ltb· (length l) (width k)) (omega arith) (cond-no _ (high· k l) (λ p. omega (arith, low (p .0) (p .1), p .2)) (cond-yes _ (zero· k l) (j, m, z))))
+right : (l : List ℕ) → 0 < length l → Right l (read-row l)
+right l h = rw (read-some l h) (by-cause l (row-cause (getD l 0 0) l) (caused l))
+
+no-zero : (l : List ℕ) (n : ℕ) → Malformed l n → ¬ (n ≡ 0)
+no-zero l _ (unknown-kind n) e = omega arith
+no-zero l _ (cut-short h w) e = omega arith
+no-zero l _ (high-state k i w m g) e = omega arith
+no-zero l _ (zero-set k j w low m z) e = omega arith
 
 -- the reader refuses with the number of the cause, and with no other
 pub malformed : (l : List ℕ) (n : ℕ) → 0 < length l → (read-row l ≡ Refused n) ↔ Malformed l n
-malformed l n h = ((λ e. subst (Right l) e (right l h)), λ m. read-some l h ∙ refused l n m)
+malformed l n h = (
+  (λ e. subst (Right l) e (right l h)),
+  λ m. read-some l h ∙ (rw (numbered l n m) (cond-no _ (eqb· n 0) (no-zero l n m) refl)),
+)
 
 -- what holds where a row was read
 got : (l : List ℕ) (r : Row) (n : ℕ) → read-row l ≡ Read r n → Right l (Read r n)
@@ -241,6 +324,7 @@ got (k ∷ l) r n e = rw e at (right (k ∷ l) (omega arith))
 
 -- the row at the head fits, and it has the bytes at the head, as many as its kind has
 fits-at : (l : List ℕ) → Bytes l → (k : ℕ) → Known k → Sound k l → Fits (row-at k l)
+unfolding row-at
 fits-at l h = by-kind (λ k. Sound k l → Fits (row-at k l))
     (λ s. omega (arith, s .low 1 (List·Memᴰ·head refl)))
     (λ s. omega (arith, s .low 1 (List·Memᴰ·head refl)))
@@ -248,12 +332,12 @@ fits-at l h = by-kind (λ k. Sound k l → Fits (row-at k l))
     (λ s. omega (arith, s .some 1 (List·Memᴰ·head refl), set-below l 1 h (omega (arith, s .whole)), s .low 9 (List·Memᴰ·head refl)))
     (λ s. omega (arith, s .some 2 (List·Memᴰ·head refl), set-below l 2 h (omega (arith, s .whole)), s .low 1 (List·Memᴰ·head refl)))
 
-size-at : (l : List ℕ) (k : ℕ) → Known k → length (row-bytes (row-at k l)) ≡ width k
-unfolding row-bytes
+pub size-at : (l : List ℕ) (k : ℕ) → Known k → length (row-bytes (row-at k l)) ≡ width k
+unfolding row-bytes row-at
 size-at l = by-kind (λ k. length (row-bytes (row-at k l)) ≡ width k) refl refl refl refl refl
 
 split-at : (l : List ℕ) → Bytes l → (k : ℕ) → Known k → getD l 0 0 ≡ k → width k ≤ length l → l ≡ row-bytes (row-at k l) ++ drop (width k) l
-unfolding row-bytes
+unfolding row-bytes row-at
 split-at l h = by-kind (λ k. getD l 0 0 ≡ k → width k ≤ length l → l ≡ row-bytes (row-at k l) ++ drop (width k) l)
     (λ e w. cc (byte 0 (omega arith), byte 1 (omega arith)))
     (λ e w. cc (byte 0 (omega arith), byte 1 (omega arith)))

@@ -1,11 +1,11 @@
 -- Document 01, "Rows and the batch" and causes 2 to 5 of "Causes and numbers": the row at the head of some bytes.
 use Prim.Native.Nat.{ℕ, _+_, _*_, _≤_, _<_}
 use mathlib.Core.Path.{_≡_}
-use mathlib.Core.Bool.{cond}
+use mathlib.Core.Bool.{cond, _&&_}
 use mathlib.Core.List.{List, [], _∷_}
-use lib.Dec.{eqb, ltb}
+use lib.Dec.{eqb, ltb, leb}
 use lib.ListN.{length, take, drop, getD}
-use Rattle.lists.specs.Tests.{_among_}
+use Rattle.lists.specs.Tests.{_among_, any}
 use Rattle.rows.specs.declared.Row.{Row}
 use Rattle.rows.specs.declared.Row.the-variants.{Initial, Final, Successor, LeftLimit, RightLimit}
 use Rattle.rows.specs.declared.ReadRow.{ReadRow}
@@ -20,57 +20,44 @@ number (b ∷ l) x = number l (x * 256 + b)
 unfoldable pub set-at : List ℕ → ℕ → ℕ
 set-at l i = number (take 8 (drop i l)) 0
 
--- kinds 1 and 2: a state
-unfoldable pub state-row : (ℕ → Row) → List ℕ → ReadRow
-state-row make l =
-    cond (ltb (length l) 2) (Refused 3)
-    (cond (ltb 63 (getD l 1 0)) (Refused 4)
-    (Read (make (getD l 1 0)) 2))
-
--- kind 3: a state, a letter, a state
-unfoldable pub step-row : List ℕ → ReadRow
-step-row l =
-    cond (ltb (length l) 4) (Refused 3)
-    (cond (ltb 63 (getD l 1 0)) (Refused 4)
-    (cond (ltb 63 (getD l 3 0)) (Refused 4)
-    (Read (Successor (getD l 1 0) (getD l 2 0) (getD l 3 0)) 4)))
-
--- kinds 4 and 5: a set at place j and a state at place i
-unfoldable pub limit-row : (ℕ → ℕ → Row) → ℕ → ℕ → List ℕ → ReadRow
-limit-row make i j l =
-    cond (ltb (length l) 10) (Refused 3)
-    (cond (ltb 63 (getD l i 0)) (Refused 4)
-    (cond (eqb (set-at l j) 0) (Refused 5)
-    (Read (make (set-at l j) (getD l i 0)) 10)))
-
--- by the kind
-unfoldable pub kind-row : ℕ → List ℕ → ReadRow
-kind-row k l =
-    cond (eqb k 1) (state-row Initial l)
-    (cond (eqb k 2) (state-row Final l)
-    (cond (eqb k 3) (step-row l)
-    (cond (eqb k 4) (limit-row LeftLimit 9 1 l)
-    (cond (eqb k 5) (limit-row (λ P q. RightLimit q P) 1 2 l)
-    (Refused 2)))))
-
--- the row at the head of the bytes, or the lowest number that refuses it
-unfoldable pub read-row : List ℕ → ReadRow
-read-row [] = Refused 3
-read-row (k ∷ l) = kind-row k (k ∷ l)
-
 -- kind 1 to 5
 abbrev pub Known : ℕ → Type 0
 Known k = (1 ≤ k) × (k ≤ 5)
 
--- the bytes of a row of a kind, the places of its states, and that of its set
+-- by the kind: the bytes of a row, the places of its states, and that of its set
 abbrev pub width : ℕ → ℕ
-width k = cond (ltb k 3) 2 (cond (eqb k 3) 4 10)
+width k = getD (0 ∷ 2 ∷ 2 ∷ 4 ∷ 10 ∷ 10 ∷ []) k 0
 
 abbrev pub state-places : ℕ → List ℕ
-state-places k = cond (eqb k 3) (1 ∷ 3 ∷ []) (cond (eqb k 4) (9 ∷ []) (1 ∷ []))
+state-places k = getD ([] ∷ (1 ∷ []) ∷ (1 ∷ []) ∷ (1 ∷ 3 ∷ []) ∷ (9 ∷ []) ∷ (1 ∷ []) ∷ []) k []
 
 abbrev pub set-places : ℕ → List ℕ
-set-places k = cond (eqb k 4) (1 ∷ []) (cond (eqb k 5) (2 ∷ []) [])
+set-places k = getD ([] ∷ [] ∷ [] ∷ [] ∷ (1 ∷ []) ∷ (2 ∷ []) ∷ []) k []
+
+-- the row of a known kind
+unfoldable pub row-at : ℕ → List ℕ → Row
+row-at k l =
+    cond (eqb k 1) (Initial (getD l 1 0))
+    (cond (eqb k 2) (Final (getD l 1 0))
+    (cond (eqb k 3) (Successor (getD l 1 0) (getD l 2 0) (getD l 3 0))
+    (cond (eqb k 4) (LeftLimit (set-at l 1) (getD l 9 0))
+    (RightLimit (getD l 1 0) (set-at l 2)))))
+
+-- 3 where there are fewer bytes than a width, 4 where one of the states at some places is above 63, else n
+abbrev pub cut-or-high : ℕ → List ℕ → List ℕ → ℕ → ℕ
+cut-or-high w places l n = cond (ltb (length l) w) 3 (cond (any (λ i. ltb 63 (getD l i 0)) places) 4 n)
+
+-- the lowest number that refuses a row of a kind, 0 if none does: 2 for no such kind, 5 for the set 0
+unfoldable pub row-cause : ℕ → List ℕ → ℕ
+row-cause k l =
+    cond (ltb 0 k && leb k 5)
+    (cut-or-high (width k) (state-places k) l (cond (any (λ j. eqb (set-at l j) 0) (set-places k)) 5 0))
+    2
+
+-- the row at the head of the bytes, or the number that refuses it
+unfoldable pub read-row : List ℕ → ReadRow
+read-row [] = Refused 3
+read-row (k ∷ l) = cond (eqb (row-cause k (k ∷ l)) 0) (Read (row-at k (k ∷ l)) (width k)) (Refused (row-cause k (k ∷ l)))
 
 -- the kind at the head of the bytes, of which a whole row is there
 abbrev pub Whole : ℕ → List ℕ → Type 0

@@ -2,19 +2,15 @@
 
 ghost use mathlib.Core.Path.{_≡_};
 ghost use mathlib.Core.Bool.{cond};
-ghost use Prim.Native.Nat.{_+_, _*_, _≤_, _<_};
+ghost use mathlib.Core.List.{[], _∷_};
+ghost use Prim.Native.Nat.{_+_, _≤_, _<_};
+ghost use lib.Dec.{eqb};
 ghost use lib.ListN.{length};
 ghost use Rattle.lists.specs.Writing.{Wrote};
-ghost use Rattle.rows.specs.declared.Row.{Row};
 ghost use Rattle.rows.specs.Rows.{row-bytes};
-ghost use Rattle.rows.specs.Reading.{set-at, state-row, step-row, limit-row, read-row};
+ghost use Rattle.rows.specs.Reading.{set-at, Known, width, row-at, cut-or-high, row-cause, read-row};
 ghost use Rattle.rows.specs.Keys.{high, low, row-from, set-or-none};
 ghost use Rattle.rows.specs.Storing.{stored};
-
-// Document 01's limits: rows that may stand, and different sets of them.
-pub const MOST_ROWS: usize = 256;
-
-pub const MOST_SETS: usize = 64;
 
 // States are 0 to this.
 const LAST_STATE: u8 = 63;
@@ -60,96 +56,74 @@ pub enum ReadRow {
     Refused(u8),
 }
 
-// Two bytes as one number.
-fn join8(a: u8, b: u8) -> u16
-    ensures { λ r. ⌜ r ≡ a * 256 + b ⌝ }
-{
-    (a as u16) * 256 + (b as u16)
-}
-
-// Two numbers of two bytes as one.
-fn join16(a: u16, b: u16) -> u32
-    ensures { λ r. ⌜ r ≡ a * 65536 + b ⌝ }
-{
-    (a as u32) * 65536 + (b as u32)
-}
-
-// Two numbers of four bytes as one.
-fn join32(a: u32, b: u32) -> u64
-    ensures { λ r. ⌜ r ≡ a * 4294967296 + b ⌝ }
-{
-    (a as u64) * BYTE_4 + (b as u64)
-}
-
 // The set at place `at`: eight bytes, most significant first.
 fn set_at(s: &[u8], at: usize) -> u64
     requires { ⌜ at + 8 ≤ length (now s) ⌝ }
     ensures { λ r. ⌜ r ≡ set-at (now (s .entry)) at ⌝ }
 {
-    let a = join8(s[at], s[at + 1]);
-    let b = join8(s[at + 2], s[at + 3]);
-    let c = join8(s[at + 4], s[at + 5]);
-    let d = join8(s[at + 6], s[at + 7]);
-    join32(join16(a, b), join16(c, d))
+    let mut set: u64 = 0;
+    let mut i = 0;
+    while i < 8 {
+        set = set * 256 + s[at + i] as u64;
+        i += 1;
+    }
+    set
 }
 
-// A row of kind 1 or 2.
-fn read_state(rest: &[u8], initial: bool) -> ReadRow
-    ensures { λ r. ⌜ r ≡ state-row (cond initial Row.Initial Row.Final) (now (rest .entry)) ⌝ }
+// 3 where a row of `width` bytes is cut short, 4 where the state at `first` or at `last` is too high, else 0.
+fn cut_or_high(rest: &[u8], width: usize, first: usize, last: usize) -> u8
+    requires { ⌜ (first < width) × (last < width) ⌝ }
+    ensures { λ r. ⌜ r ≡ cut-or-high width (first ∷ last ∷ []) (now (rest .entry)) 0 ⌝ }
 {
-    if rest.len() < 2 {
-        return ReadRow::Refused(3);
+    if rest.len() < width {
+        return 3;
     }
-    let state = rest[1];
-    if LAST_STATE < state {
-        return ReadRow::Refused(4);
+    if LAST_STATE < rest[first] {
+        return 4;
     }
-    if initial {
-        ReadRow::Read(Row::Initial(state), 2)
-    } else {
-        ReadRow::Read(Row::Final(state), 2)
+    if LAST_STATE < rest[last] {
+        return 4;
+    }
+    0
+}
+
+// The same for a row of ten bytes with a state, and 5 where the set at `set` is 0.
+fn limit_cause(rest: &[u8], state: usize, set: usize) -> u8
+    requires { ⌜ (state < 10) × (set ≤ 2) ⌝ }
+    ensures { λ r. ⌜ r ≡ cut-or-high 10 (state ∷ []) (now (rest .entry)) (cond (eqb (set-at (now (rest .entry)) set) 0) 5 0) ⌝ }
+{
+    let cause = cut_or_high(rest, 10, state, state);
+    if cause != 0 {
+        return cause;
+    }
+    if set_at(rest, set) == 0 { 5 } else { 0 }
+}
+
+// The lowest number that refuses a row of the kind at the head of the bytes, 0 if none does.
+fn cause_of(rest: &[u8], kind: u8) -> u8
+    ensures { λ r. ⌜ r ≡ row-cause kind (now (rest .entry)) ⌝ }
+{
+    match kind {
+        1 => cut_or_high(rest, 2, 1, 1),
+        2 => cut_or_high(rest, 2, 1, 1),
+        3 => cut_or_high(rest, 4, 1, 3),
+        4 => limit_cause(rest, 9, 1),
+        5 => limit_cause(rest, 1, 2),
+        0 | 6..=255 => 2,
     }
 }
 
-// A row of kind 3.
-fn read_step(rest: &[u8]) -> ReadRow
-    ensures { λ r. ⌜ r ≡ step-row (now (rest .entry)) ⌝ }
+// The row of the kind at the head of the bytes, of which there are enough.
+fn row_at(rest: &[u8], kind: u8) -> Row
+    requires { ⌜ Known kind × (width kind ≤ length (now rest)) ⌝ }
+    ensures { λ r. ⌜ r ≡ row-at kind (now (rest .entry)) ⌝ }
 {
-    if rest.len() < 4 {
-        return ReadRow::Refused(3);
-    }
-    let from = rest[1];
-    let letter = rest[2];
-    let to = rest[3];
-    if LAST_STATE < from {
-        return ReadRow::Refused(4);
-    }
-    if LAST_STATE < to {
-        return ReadRow::Refused(4);
-    }
-    ReadRow::Read(Row::Successor(from, letter, to), 4)
-}
-
-// A row of kind 4 or 5: a state at `state_place` and a set at `set_place`.
-fn read_limit(rest: &[u8], left: bool, state_place: usize, set_place: usize) -> ReadRow
-    requires { ⌜ («state_place» < 10) × («set_place» ≤ 2) ⌝ }
-    ensures { λ r. ⌜ r ≡ limit-row (cond left Row.LeftLimit (λ P q. Row.RightLimit q P)) «state_place» «set_place» (now (rest .entry)) ⌝ }
-{
-    if rest.len() < 10 {
-        return ReadRow::Refused(3);
-    }
-    let state = rest[state_place];
-    if LAST_STATE < state {
-        return ReadRow::Refused(4);
-    }
-    let set = set_at(rest, set_place);
-    if set == 0 {
-        return ReadRow::Refused(5);
-    }
-    if left {
-        ReadRow::Read(Row::LeftLimit(set, state), 10)
-    } else {
-        ReadRow::Read(Row::RightLimit(state, set), 10)
+    match kind {
+        1 => Row::Initial(rest[1]),
+        2 => Row::Final(rest[1]),
+        3 => Row::Successor(rest[1], rest[2], rest[3]),
+        4 => Row::LeftLimit(set_at(rest, 1), rest[9]),
+        _ => Row::RightLimit(rest[1], set_at(rest, 2)),
     }
 }
 
@@ -161,14 +135,12 @@ pub fn read_row(rest: &[u8]) -> ReadRow
         return ReadRow::Refused(3);
     }
     let kind = rest[0];
-    match kind {
-        1 => read_state(rest, true),
-        2 => read_state(rest, false),
-        3 => read_step(rest),
-        4 => read_limit(rest, true, 9, 1),
-        5 => read_limit(rest, false, 1, 2),
-        0 | 6..=255 => ReadRow::Refused(2),
+    let cause = cause_of(rest, kind);
+    if cause != 0 {
+        return ReadRow::Refused(cause);
     }
+    let row = row_at(rest, kind);
+    ReadRow::Read(row, row_len(row))
 }
 
 // How many bytes the row has.

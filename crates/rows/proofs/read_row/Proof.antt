@@ -1,10 +1,12 @@
--- `rows::read_row` meets its contract: each kind by its reader; no other kind is known.
-use Rattle.rows.proofs.Reading.{read-none, read-some}
-use Rattle.rows.specs.Reading.{kind-row}
+-- `rows::read_row` meets its contract: a row without a cause, or the cause.
 use mathlib.Core.Path.{sym, _∙_}
+use Prim.Native.Nat.{_≤_}
 use native.Mathlib.Omega.{arith}
+use lib.ListN.{length, getD}
+use Rattle.rows.specs.Reading.{Known, width}
 use borrow.Author.Tests.{ne-eqb}
 use borrow.Author.Needs.{needs}
+use Rattle.rows.proofs.Reading.{read-none, read-some, none-caused, size-at}
 use Rattle.rows.proofs.read_row.Statement.{statement}
 use Rattle.rows.proofs.read_row.Tie as tie
 
@@ -14,48 +16,30 @@ returns c = sym (read-none _ (c .if1 .taken))
 shared-slice-read-kind : tie.Need-shared-slice-read-kind
 shared-slice-read-kind c = search needs
 
-read-state-requires : tie.Need-read-state-requires
-read-state-requires c κs = search needs
-
-read-state-requires-2 : tie.Need-read-state-requires-2
-read-state-requires-2 c κs = search needs
-
-read-step-requires : tie.Need-read-step-requires
-read-step-requires c κs = search needs
-
-read-limit-requires : tie.Need-read-limit-requires
-read-limit-requires c κs = search needs
-
-read-limit-requires-2 : tie.Need-read-limit-requires-2
-read-limit-requires-2 c κs = search needs
+cause-of-requires : tie.Need-cause-of-requires
+cause-of-requires c κs = search needs
 
 returns-2 : tie.Need-returns-2
-unfolding kind-row
-returns-2 c = c .read-state .ensures ∙ sym (read-some _ (omega (arith, c .before .before .before .if1 .left)) ∙ simp (c .before .match .keys1))
+returns-2 c =
+    let start = c .before .before .before in
+    sym (read-some _ (omega (arith, start .if1 .left)) ∙ rw (← c .before .cause-of .ensures) (rw (ne-eqb _ _ (c .if2 .taken))))
+
+-- the kind is known, and the row whole
+fine : (c : tie.Else2) → let l = c .before .before .before .before .before .args .rest .now in Known (getD l 0 0) × (width (getD l 0 0) ≤ length l)
+fine c = none-caused (c .before .before .before .before .before .args .rest .now) (sym (c .before .cause-of .ensures) ∙ c .if2 .left)
+
+row-at-requires : tie.Need-row-at-requires
+row-at-requires c κs = fine c
+
+row-len-requires : tie.Need-row-len-requires
+row-len-requires c κs = search needs
 
 returns-3 : tie.Need-returns-3
-unfolding kind-row
-returns-3 c = c .read-state2 .ensures ∙ sym (read-some _ (omega (arith, c .before .before .before .if1 .left)) ∙ simp (c .before .match .keys2))
-
-returns-4 : tie.Need-returns-4
-unfolding kind-row
-returns-4 c = c .read-step .ensures ∙ sym (read-some _ (omega (arith, c .before .before .before .if1 .left)) ∙ simp (c .before .match .keys3))
-
-returns-5 : tie.Need-returns-5
-unfolding kind-row
-returns-5 c = c .read-limit .ensures ∙ sym (read-some _ (omega (arith, c .before .before .before .if1 .left)) ∙ simp (c .before .match .keys4))
-
-returns-6 : tie.Need-returns-6
-unfolding kind-row
-returns-6 c = c .read-limit2 .ensures ∙ sym (read-some _ (omega (arith, c .before .before .before .if1 .left)) ∙ simp (c .before .match .keys5))
-
-returns-7 : tie.Need-returns-7
-unfolding kind-row
-returns-7 c = sym (read-some _ (omega (arith, c .before .before .if1 .left)) ∙ simp (c .match .keys6))
-
-returns-8 : tie.Need-returns-8
-unfolding kind-row
-returns-8 c = sym (read-some _ (omega (arith, c .before .before .if1 .left)) ∙ simp (ne-eqb _ _ (c .match .rest .0 .0 .0 .0 .0 .1), ne-eqb _ _ (c .match .rest .0 .0 .0 .0 .1), ne-eqb _ _ (c .match .rest .0 .0 .0 .1), ne-eqb _ _ (c .match .rest .0 .0 .1), ne-eqb _ _ (c .match .rest .0 .1)))
+returns-3 c =
+    let clear = c .before .before in
+    let start = clear .before .before .before in
+    let size = size-at (start .before .before .args .rest .now) (getD (start .before .before .args .rest .now) 0 0) (fine clear .0) in
+    sym (read-some _ (omega (arith, start .if1 .left)) ∙ rw (← clear .before .cause-of .ensures) (rw (clear .if2 .left, c .row-len .ensures, c .before .row-at .ensures, size)))
 
 pub read-row-spec : {M : Type 1} → statement M
 read-row-spec =
@@ -63,15 +47,8 @@ read-row-spec =
     (tie.spec
     returns
     shared-slice-read-kind
-    read-state-requires
-    read-state-requires-2
-    read-step-requires
-    read-limit-requires
-    read-limit-requires-2
+    cause-of-requires
     returns-2
-    returns-3
-    returns-4
-    returns-5
-    returns-6
-    returns-7
-    returns-8)
+    row-at-requires
+    row-len-requires
+    returns-3)

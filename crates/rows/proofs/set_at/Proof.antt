@@ -1,103 +1,76 @@
--- `rows::set_at` meets its contract: the eight bytes, joined by twos and fours, are the number of the eight.
+-- `rows::set_at` meets its contract. The loop's invariant: the number of the first i bytes, with room for one more.
+use Prim.Native.Nat.{_+_, _-_, _^_, _≤_, _<_}
+use mathlib.Core.Path.{_≡_, refl}
 use native.Mathlib.Omega.{arith}
-use Rattle.rows.proofs.Joined.{set-joined}
+use lib.ListN.{take, drop}
 use borrow.Author.Needs.{needs}
+use Rattle.rows.specs.Reading.{number, set-at}
+use Rattle.rows.proofs.Reading.{all-bytes, number-next, number-fits}
 use Rattle.rows.proofs.set_at.Statement.{statement}
 use Rattle.rows.proofs.set_at.Tie as tie
 
-shared-slice-read-join8 : tie.Need-shared-slice-read-join8
-shared-slice-read-join8 c = search needs
+abbrev Inv-loop : tie.InvT-loop
+Inv-loop s at set₀ i₀ set i = (i ≤ 8) × (set ≡ number (take i (drop at s)) 0) × (i < 8 → set < 256 ^ 7)
 
-add-join8 : tie.Need-add-join8
-add-join8 c = search needs
+abbrev μ-loop : tie.MeasureT-loop
+μ-loop s at set₀ i₀ set i = 8 - i
 
-shared-slice-read-join8-2 : tie.Need-shared-slice-read-join8-2
-shared-slice-read-join8-2 c = search needs
+loop-holds : tie.Need-loop-holds Inv-loop μ-loop
+loop-holds c = (omega arith, refl, λ h. omega arith)
 
-join8-requires : tie.Need-join8-requires
-join8-requires c κs = search needs
+mul-set : tie.Need-mul-set Inv-loop μ-loop
+mul-set c = omega (arith, c .before .loop .inv .2 (c .loop-test .taken))
 
-add-join8-2 : tie.Need-add-join8-2
-add-join8-2 c = search needs
+add-set : tie.Need-add-set Inv-loop μ-loop
+add-set c = search needs
 
-shared-slice-read-join8-3 : tie.Need-shared-slice-read-join8-3
-shared-slice-read-join8-3 c = search needs
+shared-slice-read-set : tie.Need-shared-slice-read-set Inv-loop μ-loop
+shared-slice-read-set c = search needs
 
-add-join8-3 : tie.Need-add-join8-3
-add-join8-3 c = search needs
+cast-set : tie.Need-cast-set Inv-loop μ-loop
+cast-set c = let a = c .before .before .before .args in omega (arith, c .shared-slice-known .given (a .at + c .before .before .loop .i))
 
-shared-slice-read-join8-4 : tie.Need-shared-slice-read-join8-4
-shared-slice-read-join8-4 c = search needs
+add-set-2 : tie.Need-add-set-2 Inv-loop μ-loop
+add-set-2 c =
+    let a = c .before .before .before .args in
+    omega (arith, c .before .before .loop .inv .2 (c .before .loop-test .taken), c .shared-slice-known .given (a .at + c .before .before .loop .i))
 
-join8-requires-2 : tie.Need-join8-requires-2
-join8-requires-2 c κs = search needs
+add-i : tie.Need-add-i Inv-loop μ-loop
+add-i c = search needs
 
-add-join8-4 : tie.Need-add-join8-4
-add-join8-4 c = search needs
+loop-less : tie.Need-loop-less Inv-loop μ-loop
+loop-less c = search needs
 
-shared-slice-read-join8-5 : tie.Need-shared-slice-read-join8-5
-shared-slice-read-join8-5 c = search needs
+loop-again : tie.Need-loop-again Inv-loop μ-loop
+loop-again c =
+    let at = c .before .before in
+    let a = at .before .args in
+    let s = a .s .now in
+    let next = number-next s (a .at) (at .loop .i) (at .before .pre) (c .before .loop-test .taken) in (
+      omega arith,
+      rw next (rw (at .loop .inv .1)),
+      λ h. rw (at .loop .inv .1, ← next) (number-fits s (a .at) (at .loop .i + 1) (at .before .pre) h (all-bytes s (λ j. c .shared-slice-known .given j .fits))),
+    )
 
-add-join8-5 : tie.Need-add-join8-5
-add-join8-5 c = search needs
-
-shared-slice-read-join8-6 : tie.Need-shared-slice-read-join8-6
-shared-slice-read-join8-6 c = search needs
-
-join8-requires-3 : tie.Need-join8-requires-3
-join8-requires-3 c κs = search needs
-
-add-join8-6 : tie.Need-add-join8-6
-add-join8-6 c = search needs
-
-shared-slice-read-join8-7 : tie.Need-shared-slice-read-join8-7
-shared-slice-read-join8-7 c = search needs
-
-add-join8-7 : tie.Need-add-join8-7
-add-join8-7 c = search needs
-
-shared-slice-read-join8-8 : tie.Need-shared-slice-read-join8-8
-shared-slice-read-join8-8 c = search needs
-
-join8-requires-4 : tie.Need-join8-requires-4
-join8-requires-4 c κs = search needs
-
-join16-requires : tie.Need-join16-requires
-join16-requires c κs = search needs
-
-join16-requires-2 : tie.Need-join16-requires-2
-join16-requires-2 c κs = search needs
-
-join32-requires : tie.Need-join32-requires
-join32-requires c κs = search needs
-
-returns : tie.Need-returns
-returns c = omega (arith, set-joined (c .before .before .before .before .before .before .before .before .before .before .before .before .before .before .before .before .args .s .now) (c .before .before .before .before .before .before .before .before .before .before .before .before .before .before .before .before .args .at) (search needs))
+returns : tie.Need-returns Inv-loop μ-loop
+unfolding set-at
+returns c =
+    let e : c .before .loop .i ≡ 8 = omega arith in
+    rw e at (c .before .loop .inv .1)
 
 pub set-at-spec : {M : Type 1} → statement M
 set-at-spec =
     tie.close
     (tie.spec
-    shared-slice-read-join8
-    add-join8
-    shared-slice-read-join8-2
-    join8-requires
-    add-join8-2
-    shared-slice-read-join8-3
-    add-join8-3
-    shared-slice-read-join8-4
-    join8-requires-2
-    add-join8-4
-    shared-slice-read-join8-5
-    add-join8-5
-    shared-slice-read-join8-6
-    join8-requires-3
-    add-join8-6
-    shared-slice-read-join8-7
-    add-join8-7
-    shared-slice-read-join8-8
-    join8-requires-4
-    join16-requires
-    join16-requires-2
-    join32-requires
+    Inv-loop
+    μ-loop
+    loop-holds
+    mul-set
+    add-set
+    shared-slice-read-set
+    cast-set
+    add-set-2
+    add-i
+    loop-less
+    loop-again
     returns)
