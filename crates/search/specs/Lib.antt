@@ -1,6 +1,5 @@
 -- What the search reads, and what its promises say.
 pub mod Graph
-pub mod Parts
 pub mod Masked
 pub mod Hops
 pub mod Promises

@@ -3,7 +3,6 @@ ghost use mathlib.Core.Path.{_≡_};
 ghost use Prim.Native.Nat.{_≤_, _<_};
 ghost use lib.ListN.{getD};
 ghost use Rattle.search.specs.Graph.{part, graph-of, TurnedGraph};
-ghost use Rattle.search.specs.Parts.{TurnedMask};
 
 // Where the parts begin; the letters stand first.
 pub const SETS: usize = 64;
@@ -44,23 +43,6 @@ pub fn rights_at(graph: &[u64; 256], i: usize) -> u64
     mask_at(graph, RIGHTS, i)
 }
 
-// The mask at place `i` of the graph turned round, whose letters are `back`.
-fn turned_mask(graph: &[u64; 256], back: &[u64; 64], i: usize) -> u64
-    requires { ⌜ i < 256 ⌝ }
-    ensures { λ r. ⌜ TurnedMask (now (graph .entry)) (now (back .entry)) i r ⌝ }
-{
-    if i < SETS {
-        return back[i];
-    }
-    if i < LEFTS {
-        return graph[i];
-    }
-    if i < RIGHTS {
-        return graph[i + 64];
-    }
-    graph[i - 64]
-}
-
 // The graph with every step turned round.
 pub fn turned(graph: &[u64; 256]) -> [u64; 256]
     ensures { λ r. ⌜ TurnedGraph (graph-of (now (graph .entry))) (graph-of r) ⌝ }
@@ -68,8 +50,11 @@ pub fn turned(graph: &[u64; 256]) -> [u64; 256]
     let back = masks::transpose(graph);
     let mut r = [0u64; 256];
     let mut i = 0;
-    while i < 256 {
-        r[i] = turned_mask(graph, &back, i);
+    while i < 64 {
+        r[i] = back[i];
+        r[SETS + i] = graph[SETS + i];
+        r[LEFTS + i] = graph[RIGHTS + i];
+        r[RIGHTS + i] = graph[LEFTS + i];
         i += 1;
     }
     r
