@@ -117,6 +117,14 @@ some-bytes (Successor p a q) = omega arith
 some-bytes (LeftLimit P q) = omega arith
 some-bytes (RightLimit q P) = omega arith
 
+pub row-short : (r : Row) → length (row-bytes r) ≤ 10
+unfolding row-bytes
+row-short (Initial s) = omega arith
+row-short (Final s) = omega arith
+row-short (Successor p a q) = omega arith
+row-short (LeftLimit P q) = omega arith
+row-short (RightLimit q P) = omega arith
+
 -- what holds of both branches, each with its test, holds of the cond
 cond-ok : {A : Type 0} (Q : A → Type 0) {b : Bool} {B : Type 0} {x y : A} → Decides b B → (B → Q x) → (¬ B → Q y) → Q (cond b x y)
 cond-ok {A} Q {b} {B} {x} {y} d f g = go b d
