@@ -17,7 +17,7 @@ use Rattle.session.specs.declared.Session.{Session}
 use Rattle.session.specs.declared.State.the-variants.{Open as IsOpen}
 use Rattle.session.specs.declared.Reply.{Reply}
 use Rattle.session.specs.Record.{Represents}
-use Rattle.session.specs.Promise.{Does, KeepsIn, At}
+use Rattle.session.specs.Promise.{Does, KeepsIn, Phased}
 use Rattle.session.specs.Standing.{reply, with-table, Slotted, TakesTable}
 use Rattle.session.proofs.Whole.{rows-table}
 use Rattle.session.proofs.Gate.{does-done, does-refused}
@@ -39,7 +39,7 @@ takes-done s high low words n k slots h e = rw e (λ rows t f. rw (h rows (t .fi
 -- what the batch comes to in the arrays, it comes to in the machine
 pub batch-keeps : {c : Call} {rule : Row → List Row → Turn (List Row)} {batch : List ℕ} → Feeds c rule batch → (s : Session) (a : Answer) (Has Then : List Row → Type 0)
     → ((m : Machine) → Represents m s → Comes Has (feed rule (m .rows) batch) a) → ((rows : List Row) → Table rows → Has rows → Then rows)
-    → {r : Reply} → TakesTable s Then a r → KeepsIn (At IsOpen) s c [] [] r
+    → {r : Reply} → TakesTable s Then a r → KeepsIn (Phased IsOpen) s c [] [] r
 batch-keeps {c} {rule} {batch} feeds s a Has Then comes then {r} takes m p e = go (feed rule (m .rows) batch) refl (comes m p)
   where
     fed-call : (x : Fed (List Row)) → feed rule (m .rows) batch ≡ x → call m c ≡ with-rows m x

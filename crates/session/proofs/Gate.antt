@@ -17,7 +17,7 @@ use Rattle.session.specs.declared.State.{State}
 use Rattle.session.proofs.State.{the-type}
 use Rattle.session.specs.declared.State.the-variants.{Foreign, Open as IsOpen, Running as IsRunning, Settled as IsSettled}
 use Rattle.session.specs.Record.{record-of, Represents}
-use Rattle.session.specs.Promise.{Does, Keeps, KeepsIn, At, Ranged, RangedIn, HasState}
+use Rattle.session.specs.Promise.{Does, Keeps, KeepsIn, Phased, Ranged, RangedIn, HasState}
 use Rattle.session.specs.Standing.{reply}
 use Rattle.session.proofs.Whole.{count-of, set-count-of}
 
@@ -44,14 +44,14 @@ many-sets s h = record { phase-is = λ m p. absurd (omega (arith, set-count-of m
 
 module _ (s : Session) {x : State} (h : HasState s x) {q : State} (e : x ≡ q) where
   -- the phase of every machine that the session represents
-  pub meets : (m : Machine) → Represents m s → At q (m .phase)
-  meets m p = subst (λ (y : State). At y (m .phase)) e (h .phase-is m p)
+  pub meets : (m : Machine) → Represents m s → Phased q (m .phase)
+  meets m p = subst (λ (y : State). Phased y (m .phase)) e (h .phase-is m p)
 
   pub in-range : RangedIn q s
   in-range = subst (λ (y : State). RangedIn y s) e (h .ranged)
 
   -- what is promised of machines in its phases
-  pub serves : {c : Call} {old new : List ℕ} {r : Reply} → KeepsIn (At q) s c old new r → Keeps s c old new r
+  pub serves : {c : Call} {old new : List ℕ} {r : Reply} → KeepsIn (Phased q) s c old new r → Keeps s c old new r
   serves k m p = k m p (meets m p)
 
 -- the counts of a session in any phase

@@ -20,7 +20,7 @@ use Rattle.session.specs.declared.Session.{Session}
 use Rattle.session.specs.declared.Reply.{Reply}
 use Rattle.session.specs.declared.State.the-variants.{Open as IsOpen, Running as IsRunning}
 use Rattle.session.specs.Record.{Represents}
-use Rattle.session.specs.Promise.{KeepsIn, At}
+use Rattle.session.specs.Promise.{KeepsIn, Phased}
 use Rattle.session.specs.Standing.{reply, rounds-in, with-rounds, Reads}
 use Rattle.session.proofs.Whole.{rounds-count}
 use Rattle.session.proofs.Gate.{does-done}
@@ -31,11 +31,11 @@ pub never-past : (s : Session) → 129 ≤ s .rounds → (m : Machine) → Repre
 never-past s h m p e = omega (arith, rounds-count m s p, never-130th m (p .formed) e)
 
 module _ (s : Session) (a : Automaton) (reads : Reads s a) (now : Rounds) {r : Reply} (made : r ≡ reply (with-rounds s now) Done) where
-  pub close-done : Closes (graph-of (a .graph)) (a .initials) (a .finals) now → KeepsIn (At IsOpen) s close [] [] r
+  pub close-done : Closes (graph-of (a .graph)) (a .initials) (a .finals) now → KeepsIn (Phased IsOpen) s close [] [] r
   close-done c m p e = does-done m close [] (ap (λ (x : Phase). call-in x m close) e ∙ open-closes m) (closed-record m s p a now reads c) made
 
   pub round-done : DoesRound (graph-of (a .graph)) (a .initials) (a .finals) (s .«set_count») (rounds-in s) now
-      → KeepsIn (At IsRunning) s round [] [] r
+      → KeepsIn (Phased IsRunning) s round [] [] r
   round-done d m p e =
       does-done m round [] (ap (λ (x : Phase). call-in x m round) e ∙ running-rounds m (never-130th m (p .formed) e)) (round-record m s p a now reads d) made
 

@@ -32,11 +32,11 @@ abbrev pub KeepsIn : (Phase → Type 0) → Session → Call → List ℕ → Li
 KeepsIn Then s c old new r = (m : Machine) → Represents m s → Then (m .phase) → Does m c old new r
 
 -- the phases of a state: a foreign record has none
-abbrev pub At : State → Phase → Type 0
-At Foreign p = ⊥
-At IsOpen p = p ≡ Open
-At IsRunning p = p ≡ Running
-At (IsSettled v) p = p ≡ Settled v
+abbrev pub Phased : State → Phase → Type 0
+Phased Foreign p = ⊥
+Phased IsOpen p = p ≡ Open
+Phased IsRunning p = p ≡ Running
+Phased (IsSettled v) p = p ≡ Settled v
 
 -- the counts are within the arrays
 pub record Ranged (s : Session) : Type 0 where
@@ -52,5 +52,5 @@ RangedIn (IsSettled v) s = Ranged s
 
 -- the state of a record: where it is that of a machine, the machine's phase
 pub record HasState (s : Session) (x : State) : Type 0 where
-  pub phase-is : (m : Machine) → Represents m s → At x (m .phase)
+  pub phase-is : (m : Machine) → Represents m s → Phased x (m .phase)
   pub ranged : RangedIn x s

@@ -10,7 +10,7 @@ ghost use Prim.Native.Nat.{_≤_};
 ghost use mathlib.Core.List.{[]};
 ghost use Rattle.machine.specs.Calls.{load, withdraw};
 ghost use Rattle.table.specs.Arrays.{Filed};
-ghost use Rattle.session.specs.Promise.{Ranged, At, Keeps, KeepsIn};
+ghost use Rattle.session.specs.Promise.{Ranged, Phased, Keeps, KeepsIn};
 ghost use Rattle.session.specs.Standing.{TakesTable};
 
 impl Session {
@@ -53,7 +53,7 @@ impl Session {
     // The batch into the table of an open session.
     fn load_open(self, batch: &[u8]) -> Reply
         requires { ⌜ Ranged self ⌝ }
-        ensures { λ r. ⌜ KeepsIn (At State.Open) self (load (now (batch .entry))) [] [] r ⌝ }
+        ensures { λ r. ⌜ KeepsIn (Phased State.Open) self (load (now (batch .entry))) [] [] r ⌝ }
     {
         let keys = self.keys();
         let mut high = keys.high;
@@ -69,7 +69,7 @@ impl Session {
     // The batch out of the table of an open session.
     fn withdraw_open(self, batch: &[u8]) -> Reply
         requires { ⌜ Ranged self ⌝ }
-        ensures { λ r. ⌜ KeepsIn (At State.Open) self (withdraw (now (batch .entry))) [] [] r ⌝ }
+        ensures { λ r. ⌜ KeepsIn (Phased State.Open) self (withdraw (now (batch .entry))) [] [] r ⌝ }
     {
         let keys = self.keys();
         let mut high = keys.high;

@@ -5,13 +5,13 @@ use crate::State;
 use machine::Verdict;
 ghost use lib.ListN.{length};
 ghost use Rattle.machine.specs.Calls.{print};
-ghost use Rattle.session.specs.Promise.{Ranged, At, Keeps, KeepsIn};
+ghost use Rattle.session.specs.Promise.{Ranged, Phased, Keeps, KeepsIn};
 
 impl Session {
     // The sheet of a settled session.
     fn print_settled(self, v: Verdict, buffer: &mut [u8]) -> Reply
         requires { ⌜ Ranged self ⌝ }
-        ensures { λ r. ⌜ KeepsIn (At (State.Settled v)) self (print (length (now (buffer .entry))))
+        ensures { λ r. ⌜ KeepsIn (Phased (State.Settled v)) self (print (length (now (buffer .entry))))
             (now (buffer .entry)) (now (buffer .exit)) r ⌝ }
     {
         let words = self.sets;

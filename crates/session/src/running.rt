@@ -13,7 +13,7 @@ ghost use Prim.Native.Nat.{_<_};
 ghost use Rattle.machine.specs.declared.Answer.the-variants.{Done};
 ghost use Rattle.machine.specs.Calls.{close, round, reopen};
 ghost use Rattle.machine.specs.Causes.{NotOpen};
-ghost use Rattle.session.specs.Promise.{Ranged, At, Keeps, KeepsIn};
+ghost use Rattle.session.specs.Promise.{Ranged, Phased, Keeps, KeepsIn};
 ghost use Rattle.session.specs.Standing.{reply, rounds-in, with-rounds};
 
 impl Session {
@@ -54,7 +54,7 @@ impl Session {
     // Close of an open session: no claim is open.
     fn close_open(self) -> Reply
         requires { ⌜ Ranged self ⌝ }
-        ensures { λ r. ⌜ KeepsIn (At State.Open) self close [] [] r ⌝ }
+        ensures { λ r. ⌜ KeepsIn (Phased State.Open) self close [] [] r ⌝ }
     {
         let a = self.automaton();
         let graph = a.graph;
@@ -65,7 +65,7 @@ impl Session {
     // A round of a running session: what it opens depends on the claims that were open before it, and on no other.
     fn round_running(self) -> Reply
         requires { ⌜ Ranged self × (self .rounds < 129) ⌝ }
-        ensures { λ r. ⌜ KeepsIn (At State.Running) self round [] [] r ⌝ }
+        ensures { λ r. ⌜ KeepsIn (Phased State.Running) self round [] [] r ⌝ }
     {
         let n = self.set_count;
         let before = self.kept();
