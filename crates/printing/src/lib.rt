@@ -64,7 +64,13 @@ fn head_len(v: Verdict, words: &[u64; MOST_SETS], k: usize, rounds: Rounds) -> u
 }
 
 // Writes the lines of the verdict and of the openings.
-fn put_head(buffer: &mut [u8], v: Verdict, words: &[u64; MOST_SETS], k: usize, rounds: Rounds) -> usize
+fn put_head(
+    buffer: &mut [u8],
+    v: Verdict,
+    words: &[u64; MOST_SETS],
+    k: usize,
+    rounds: Rounds,
+) -> usize
     requires { ⌜ (k ≤ 64) × (length (head-text v (now words) k rounds) ≤ length (now buffer)) ⌝ }
     ensures { λ r. ⌜ Wrote (head-text v (now (words .entry)) k rounds)
         (now (buffer .entry)) (now (buffer .exit)) r ⌝ }

@@ -7,9 +7,9 @@ mod saving;
 mod tables;
 
 use machine::Answer;
-use machine::Phase;
 use machine::MOST_ROWS;
 use machine::MOST_SETS;
+use machine::Phase;
 use machine::Verdict;
 use rows::Row;
 

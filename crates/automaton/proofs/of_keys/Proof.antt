@@ -24,71 +24,8 @@ Inv-loop high low n sets k graph₀ initials₀ finals₀ i₀ graph initials fi
 abbrev μ-loop : tie.MeasureT-loop
 μ-loop high low n sets k graph₀ initials₀ finals₀ i₀ graph initials finals i = n - i
 
-with-sets-requires : tie.Need-with-sets-requires Inv-loop μ-loop
-with-sets-requires c κs = search needs
-
 loop-holds : tie.Need-loop-holds Inv-loop μ-loop
 loop-holds c = (omega arith, λ rows f key. none-passed _ _ _ (c .with-sets .ensures))
-
-mul-row-of : tie.Need-mul-row-of Inv-loop μ-loop
-mul-row-of c = search needs
-
-element-copy-out-row-of : tie.Need-element-copy-out-row-of Inv-loop μ-loop
-element-copy-out-row-of c = search needs
-
-mul-row-of-2 : tie.Need-mul-row-of-2 Inv-loop μ-loop
-mul-row-of-2 c = search needs
-
-element-copy-out-row-of-2 : tie.Need-element-copy-out-row-of-2 Inv-loop μ-loop
-element-copy-out-row-of-2 c = search needs
-
-row-of-requires : tie.Need-row-of-requires Inv-loop μ-loop
-row-of-requires c κs = search needs
-
-enum-known-row : tie.Need-enum-known-row Inv-loop μ-loop
-enum-known-row c = search needs
-
-add-requires : tie.Need-add-requires Inv-loop μ-loop
-add-requires c κs = search needs
-
-enum-known-row-2 : tie.Need-enum-known-row-2 Inv-loop μ-loop
-enum-known-row-2 c = search needs
-
-add-requires-2 : tie.Need-add-requires-2 Inv-loop μ-loop
-add-requires-2 c κs = search needs
-
-enum-known-row-3 : tie.Need-enum-known-row-3 Inv-loop μ-loop
-enum-known-row-3 c = search needs
-
-cast-put : tie.Need-cast-put Inv-loop μ-loop
-cast-put c = search needs
-
-put-requires : tie.Need-put-requires Inv-loop μ-loop
-put-requires c κs = search needs
-
-enum-known-row-4 : tie.Need-enum-known-row-4 Inv-loop μ-loop
-enum-known-row-4 c = search needs
-
-place-requires : tie.Need-place-requires Inv-loop μ-loop
-place-requires c κs = search needs
-
-put-requires-2 : tie.Need-put-requires-2 Inv-loop μ-loop
-put-requires-2 c κs = search needs
-
-enum-known-row-5 : tie.Need-enum-known-row-5 Inv-loop μ-loop
-enum-known-row-5 c = search needs
-
-place-requires-2 : tie.Need-place-requires-2 Inv-loop μ-loop
-place-requires-2 c κs = search needs
-
-put-requires-3 : tie.Need-put-requires-3 Inv-loop μ-loop
-put-requires-3 c κs = search needs
-
-add-i : tie.Need-add-i Inv-loop μ-loop
-add-i c = search needs
-
-loop-less : tie.Need-loop-less Inv-loop μ-loop
-loop-less c = search needs
 
 loop-again : tie.Need-loop-again Inv-loop μ-loop
 loop-again c =
@@ -126,27 +63,27 @@ of-keys-spec =
     (tie.spec
     Inv-loop
     μ-loop
-    with-sets-requires
+    (λ c κs. search needs)
     loop-holds
-    mul-row-of
-    element-copy-out-row-of
-    mul-row-of-2
-    element-copy-out-row-of-2
-    row-of-requires
-    enum-known-row
-    add-requires
-    enum-known-row-2
-    add-requires-2
-    enum-known-row-3
-    cast-put
-    put-requires
-    enum-known-row-4
-    place-requires
-    put-requires-2
-    enum-known-row-5
-    place-requires-2
-    put-requires-3
-    add-i
-    loop-less
+    (λ c. search needs)
+    (λ c. search needs)
+    (λ c. search needs)
+    (λ c. search needs)
+    (λ c κs. search needs)
+    (λ c. search needs)
+    (λ c κs. search needs)
+    (λ c. search needs)
+    (λ c κs. search needs)
+    (λ c. search needs)
+    (λ c. search needs)
+    (λ c κs. search needs)
+    (λ c. search needs)
+    (λ c κs. search needs)
+    (λ c κs. search needs)
+    (λ c. search needs)
+    (λ c κs. search needs)
+    (λ c κs. search needs)
+    (λ c. search needs)
+    (λ c. search needs)
     loop-again
     returns)

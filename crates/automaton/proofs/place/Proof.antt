@@ -4,15 +4,6 @@ use borrow.Author.Needs.{needs}
 use Rattle.automaton.proofs.place.Statement.{statement}
 use Rattle.automaton.proofs.place.Tie as tie
 
-find-word-requires : tie.Need-find-word-requires
-find-word-requires c κs = search needs
-
-enum-known-i : tie.Need-enum-known-i
-enum-known-i c = search needs
-
-enum-told : tie.Need-enum-told
-enum-told c = search needs
-
 returns : tie.Need-returns
 returns c = let a = c .before .before .before .before .before .args in
     found-place (a .sets .now) (a .n) (a .x) _ (rw (c .before .i .given .1) at (c .before .before .before .find-word .ensures))
@@ -22,4 +13,4 @@ returns-2 c = let s = c .before .before .before .before in
     no-place (s .args .sets .now) (s .args .n) (s .args .x) _ (s .pre) (rw (c .enum-told .given .1) at (c .before .before .find-word .ensures))
 
 pub place-spec : {M : Type 1} → statement M
-place-spec = tie.close (tie.spec find-word-requires enum-known-i enum-told returns returns-2)
+place-spec = tie.close (tie.spec (λ c κs. search needs) (λ c. search needs) (λ c. search needs) returns returns-2)

@@ -17,27 +17,6 @@ abbrev μ-loop : tie.MeasureT-loop
 loop-holds : tie.Need-loop-holds Inv-loop μ-loop
 loop-holds c = (omega arith, no-sets _)
 
-mul-graph : tie.Need-mul-graph Inv-loop μ-loop
-mul-graph c = search needs
-
-element-copy-out-graph : tie.Need-element-copy-out-graph Inv-loop μ-loop
-element-copy-out-graph c = search needs
-
-add-graph : tie.Need-add-graph Inv-loop μ-loop
-add-graph c = search needs
-
-mul-graph-2 : tie.Need-mul-graph-2 Inv-loop μ-loop
-mul-graph-2 c = search needs
-
-array-write-graph : tie.Need-array-write-graph Inv-loop μ-loop
-array-write-graph c = search needs
-
-add-i : tie.Need-add-i Inv-loop μ-loop
-add-i c = search needs
-
-loop-less : tie.Need-loop-less Inv-loop μ-loop
-loop-less c = search needs
-
 loop-again : tie.Need-loop-again Inv-loop μ-loop
 loop-again c = let at = c .before .before in
     (omega arith, one-set-more (at .before .args .sets .now) (at .loop .graph) (at .loop .i) (c .before .loop-test .taken) (at .loop .inv .1))
@@ -54,12 +33,12 @@ with-sets-spec =
     Inv-loop
     μ-loop
     loop-holds
-    mul-graph
-    element-copy-out-graph
-    add-graph
-    mul-graph-2
-    array-write-graph
-    add-i
-    loop-less
+    (λ c. search needs)
+    (λ c. search needs)
+    (λ c. search needs)
+    (λ c. search needs)
+    (λ c. search needs)
+    (λ c. search needs)
+    (λ c. search needs)
     loop-again
     returns)

@@ -7,24 +7,6 @@ use borrow.Author.Needs.{needs}
 use Rattle.checker.proofs.finish.Statement.{statement}
 use Rattle.checker.proofs.finish.Tie as tie
 
-of-keys-requires : tie.Need-of-keys-requires
-of-keys-requires c κs = search needs
-
-settled-requires : tie.Need-settled-requires
-settled-requires c κs = search needs
-
-enum-told : tie.Need-enum-told
-enum-told c = search needs
-
-enum-told-2 : tie.Need-enum-told-2
-enum-told-2 c = search needs
-
-enum-known-phase : tie.Need-enum-known-phase
-enum-known-phase c = search needs
-
-print-requires : tie.Need-print-requires
-print-requires c κs = search needs
-
 returns : tie.Need-returns
 returns c rows t f =
     let d = c .before .before in
@@ -39,9 +21,6 @@ returns-2 c rows t f =
     not-settled rows t (a .high .now) (a .low .now) (a .words .now) (a .n) (a .k) f (d .before .of-keys .result) (d .before .of-keys .ensures) (d .settled .result) (d .settled .ensures)
     Running 11 (a .sheet .now) (c .enum-told2 .given .1) (running-refuses _)
 
-same-length : tie.Need-same-length
-same-length c = search needs
-
 returns-3 : tie.Need-returns-3
 returns-3 c rows t f =
     let p = c .before .before in
@@ -55,13 +34,13 @@ pub finish-spec : {M : Type 1} → statement M
 finish-spec =
     tie.close
     (tie.spec
-    of-keys-requires
-    settled-requires
-    enum-told
-    enum-told-2
-    enum-known-phase
-    print-requires
+    (λ c κs. search needs)
+    (λ c κs. search needs)
+    (λ c. search needs)
+    (λ c. search needs)
+    (λ c. search needs)
+    (λ c κs. search needs)
     returns
     returns-2
-    same-length
+    (λ c. search needs)
     returns-3)

@@ -16,35 +16,11 @@ returns c =
     let a = c .before .before .before .args in
     shows-short (a .input .now) (a .out .now) (omega arith)
 
-slice-aggregate-put-text : tie.Need-slice-aggregate-put-text
-slice-aggregate-put-text c = search needs
-
-put-text-requires : tie.Need-put-text-requires
-put-text-requires c κs = search needs
-
-same-length : tie.Need-same-length
-same-length c = search needs
-
 returns-2 : tie.Need-returns-2
 returns-2 c =
     let t = c .before .before in
     let a = t .before .before .before .before .before .before .before .args in
     shows-long (a .input .now) (a .out .now) _ _ (omega arith) (omega arith) (t .put-text .ensures)
-
-check-requires : tie.Need-check-requires
-check-requires c κs = search needs
-
-enum-told : tie.Need-enum-told
-enum-told c = search needs
-
-enum-known-n : tie.Need-enum-known-n
-enum-known-n c = search needs
-
-enum-known-n-2 : tie.Need-enum-known-n-2
-enum-known-n-2 c = search needs
-
-cast-put-refusal-line : tie.Need-cast-put-refusal-line
-cast-put-refusal-line c = search needs
 
 put-refusal-line-requires : tie.Need-put-refusal-line-requires
 put-refusal-line-requires c κs =
@@ -61,9 +37,6 @@ put-refusal-line-requires c κs =
     let g : length (refusal-line n place) ≤ length mid = omega arith in
     g
 
-same-length-2 : tie.Need-same-length-2
-same-length-2 c = search needs
-
 returns-3 : tie.Need-returns-3
 returns-3 c =
     let k = c .before .before .before .before in
@@ -71,9 +44,6 @@ returns-3 c =
     let a = known .before .args in
     shows-done (a .input .now) (a .out .now) (all-bytes (a .input .now) (λ i. omega (arith, known .shared-slice-known .given i))) (omega arith) (omega arith) _
     (subst (λ r. Checks (a .input .now) (a .out .now) (k .check .last .1 .0) r) (c .enum-told .given .1) (k .check .ensures))
-
-same-length-3 : tie.Need-same-length-3
-same-length-3 c = search needs
 
 returns-4 : tie.Need-returns-4
 returns-4 c =
@@ -83,9 +53,6 @@ returns-4 c =
     let a = known .before .args in
     shows-wrote (a .input .now) (a .out .now) (all-bytes (a .input .now) (λ i. omega (arith, known .shared-slice-known .given i))) (omega arith) (omega arith) _ _
     (subst (λ r. Checks (a .input .now) (a .out .now) (k .check .last .1 .0) r) (o .n .given .1) (k .check .ensures))
-
-same-length-4 : tie.Need-same-length-4
-same-length-4 c = search needs
 
 returns-5 : tie.Need-returns-5
 returns-5 c =
@@ -103,19 +70,19 @@ show-spec =
     tie.close
     (tie.spec
     returns
-    slice-aggregate-put-text
-    put-text-requires
-    same-length
+    (λ c. search needs)
+    (λ c κs. search needs)
+    (λ c. search needs)
     returns-2
-    check-requires
-    enum-told
-    enum-known-n
-    enum-known-n-2
-    cast-put-refusal-line
+    (λ c κs. search needs)
+    (λ c. search needs)
+    (λ c. search needs)
+    (λ c. search needs)
+    (λ c. search needs)
     put-refusal-line-requires
-    same-length-2
+    (λ c. search needs)
     returns-3
-    same-length-3
+    (λ c. search needs)
     returns-4
-    same-length-4
+    (λ c. search needs)
     returns-5)

@@ -6,28 +6,10 @@ use borrow.Author.Needs.{needs}
 use Rattle.commands.proofs.called.Statement.{statement}
 use Rattle.commands.proofs.called.Tie as tie
 
-find-requires : tie.Need-find-requires
-find-requires c κs = search needs
-
-alone-requires : tie.Need-alone-requires
-alone-requires c κs = search needs
-
 returns : tie.Need-returns
 returns c =
     let a = c .before .before .before .before .before .args in
     called-alone (a .line .now) (c .before .before .find .result) (length (a .batch .now)) (c .before .alone .result) (a .batch .now) (c .before .before .find .ensures) (omega arith) (c .before .alone .ensures)
-
-add-rest : tie.Need-add-rest
-add-rest c = search needs
-
-rest-requires : tie.Need-rest-requires
-rest-requires c κs = search needs
-
-with-text-requires : tie.Need-with-text-requires
-with-text-requires c κs = search needs
-
-same-length : tie.Need-same-length
-same-length c = search needs
 
 returns-2 : tie.Need-returns-2
 returns-2 c =
@@ -42,11 +24,11 @@ pub called-spec : {M : Type 1} → statement M
 called-spec =
     tie.close
     (tie.spec
-    find-requires
-    alone-requires
+    (λ c κs. search needs)
+    (λ c κs. search needs)
     returns
-    add-rest
-    rest-requires
-    with-text-requires
-    same-length
+    (λ c. search needs)
+    (λ c κs. search needs)
+    (λ c κs. search needs)
+    (λ c. search needs)
     returns-2)

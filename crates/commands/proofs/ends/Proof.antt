@@ -6,9 +6,6 @@ use borrow.Author.Needs.{needs}
 use Rattle.commands.proofs.ends.Statement.{statement}
 use Rattle.commands.proofs.ends.Tie as tie
 
-shared-slice-read-result : tie.Need-shared-slice-read-result
-shared-slice-read-result c = search needs
-
 returns : tie.Need-returns
 unfolding ends
 returns c = simp (lt-ltb _ _ (c .before .if1 .taken))
@@ -18,4 +15,4 @@ unfolding ends
 returns-2 c = simp (le-ltb _ _ (c .if1 .left))
 
 pub ends-spec : {M : Type 1} → statement M
-ends-spec = tie.close (tie.spec shared-slice-read-result returns returns-2)
+ends-spec = tie.close (tie.spec (λ c. search needs) returns returns-2)

@@ -6,25 +6,13 @@ use borrow.Author.Needs.{needs}
 use Rattle.commands.proofs.further.Statement.{statement}
 use Rattle.commands.proofs.further.Tie as tie
 
-add-result : tie.Need-add-result
-add-result c = search needs
-
 returns : tie.Need-returns
 unfolding further
 returns c = simp (le-ltb _ _ (c .if1 .taken))
 
-shared-slice-read-if2 : tie.Need-shared-slice-read-if2
-shared-slice-read-if2 c = search needs
-
-add-result-2 : tie.Need-add-result-2
-add-result-2 c = search needs
-
 returns-2 : tie.Need-returns-2
 unfolding further
 returns-2 c = simp (lt-ltb _ _ (c .before .before .if1 .left), ne-eqb _ _ (c .if2 .taken))
-
-add-result-3 : tie.Need-add-result-3
-add-result-3 c = search needs
 
 returns-3 : tie.Need-returns-3
 unfolding further
@@ -34,10 +22,10 @@ pub further-spec : {M : Type 1} → statement M
 further-spec =
     tie.close
     (tie.spec
-    add-result
+    (λ c. search needs)
     returns
-    shared-slice-read-if2
-    add-result-2
+    (λ c. search needs)
+    (λ c. search needs)
     returns-2
-    add-result-3
+    (λ c. search needs)
     returns-3)

@@ -9,11 +9,8 @@ use Rattle.commands.proofs.is_passed_over.Tie as tie
 returns : tie.Need-returns
 returns c = sym (passed-empty (c .before .args .line .now) (omega arith))
 
-shared-slice-read-result : tie.Need-shared-slice-read-result
-shared-slice-read-result c = search needs
-
 returns-2 : tie.Need-returns-2
 returns-2 c = sym (passed-first (c .before .before .args .line .now) (omega arith))
 
 pub is-passed-over-spec : {M : Type 1} → statement M
-is-passed-over-spec = tie.close (tie.spec returns shared-slice-read-result returns-2)
+is-passed-over-spec = tie.close (tie.spec returns (λ c. search needs) returns-2)

@@ -8,20 +8,11 @@ use borrow.Author.Needs.{needs}
 use Rattle.commands.proofs.parse.Statement.{statement}
 use Rattle.commands.proofs.parse.Tie as tie
 
-is-passed-over-requires : tie.Need-is-passed-over-requires
-is-passed-over-requires c κs = search needs
-
 returns : tie.Need-returns
 unfolding m.meaning
 returns c =
     let e : m.passed-over (c .before .before .before .before .args .line .now) ≡ true = sym (c .before .is-passed-over .ensures) ∙ c .if1 .taken in
     simp e
-
-called-requires : tie.Need-called-requires
-called-requires c κs = search needs
-
-same-length : tie.Need-same-length
-same-length c = search needs
 
 returns-2 : tie.Need-returns-2
 unfolding m.meaning
@@ -33,4 +24,4 @@ returns-2 c =
 
 pub parse-spec : {M : Type 1} → statement M
 parse-spec =
-    tie.close (tie.spec is-passed-over-requires returns called-requires same-length returns-2)
+    tie.close (tie.spec (λ c κs. search needs) returns (λ c κs. search needs) (λ c. search needs) returns-2)

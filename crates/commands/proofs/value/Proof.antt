@@ -6,12 +6,6 @@ use borrow.Author.Needs.{needs}
 use Rattle.commands.proofs.value.Statement.{statement}
 use Rattle.commands.proofs.value.Tie as tie
 
-sub-result : tie.Need-sub-result
-sub-result c = search needs
-
-sub-result-2 : tie.Need-sub-result-2
-sub-result-2 c = search needs
-
 returns : tie.Need-returns
 returns c = sym (value-decimal (c .before .before .args .c) (omega arith) (omega arith))
 
@@ -37,8 +31,8 @@ pub value-spec : {M : Type 1} → statement M
 value-spec =
     tie.close
     (tie.spec
-    sub-result
-    sub-result-2
+    (λ c. search needs)
+    (λ c. search needs)
     returns
     returns-2
     returns-3

@@ -12,9 +12,6 @@ use Rattle.commands.proofs.with_batch.Tie as tie
 returns : tie.Need-returns
 returns c = batch-odd _ _ _ (λ e. absurd (omega arith))
 
-digits-requires : tie.Need-digits-requires
-digits-requires c κs = search needs
-
 returns-2 : tie.Need-returns-2
 returns-2 c = batch-other _ _ _ (omega arith) (sym (c .before .digits .ensures) ∙ not-true _ (c .if2 .taken))
 
@@ -23,9 +20,6 @@ returns-3 c = batch-long _ _ _ (omega arith) (sym (c .before .before .digits .en
 
 decode-requires : tie.Need-decode-requires
 decode-requires c κs = (omega arith, sym (c .before .before .before .digits .ensures) ∙ not-false _ (c .before .before .if2 .left), omega arith)
-
-same-length : tie.Need-same-length
-same-length c = search needs
 
 returns-4 : tie.Need-returns-4
 returns-4 c =
@@ -39,4 +33,4 @@ returns-4 c =
 pub with-batch-spec : {M : Type 1} → statement M
 with-batch-spec =
     tie.close
-    (tie.spec returns digits-requires returns-2 returns-3 decode-requires same-length returns-4)
+    (tie.spec returns (λ c κs. search needs) returns-2 returns-3 decode-requires (λ c. search needs) returns-4)

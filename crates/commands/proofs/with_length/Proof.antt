@@ -13,14 +13,8 @@ use Rattle.commands.proofs.with_length.Tie as tie
 returns : tie.Need-returns
 returns c = λ buffer. lent-empty _ _ (omega arith)
 
-digits-requires : tie.Need-digits-requires
-digits-requires c κs = search needs
-
 returns-2 : tie.Need-returns-2
 returns-2 c = λ buffer. lent-other _ _ (sym (c .before .digits .ensures) ∙ not-true _ (c .if2 .taken))
-
-number-requires : tie.Need-number-requires
-number-requires c κs = search needs
 
 returns-3 : tie.Need-returns-3
 returns-3 c = λ buffer.
@@ -31,4 +25,4 @@ returns-3 c = λ buffer.
     )
 
 pub with-length-spec : {M : Type 1} → statement M
-with-length-spec = tie.close (tie.spec returns digits-requires returns-2 number-requires returns-3)
+with-length-spec = tie.close (tie.spec returns (λ c κs. search needs) returns-2 (λ c κs. search needs) returns-3)

@@ -5,21 +5,6 @@ use borrow.Author.Needs.{needs}
 use Rattle.commands.proofs.with_text.Statement.{statement}
 use Rattle.commands.proofs.with_text.Tie as tie
 
-enum-known-word : tie.Need-enum-known-word
-enum-known-word c = search needs
-
-with-batch-requires : tie.Need-with-batch-requires
-with-batch-requires c κs = search needs
-
-enum-known-word-2 : tie.Need-enum-known-word-2
-enum-known-word-2 c = search needs
-
-with-length-requires : tie.Need-with-length-requires
-with-length-requires c κs = search needs
-
-same-length : tie.Need-same-length
-same-length c = search needs
-
 returns : tie.Need-returns
 returns c = λ meant asks.
     let w = c .before .before in
@@ -40,11 +25,11 @@ pub with-text-spec : {M : Type 1} → statement M
 with-text-spec =
     tie.close
     (tie.spec
-    enum-known-word
-    with-batch-requires
-    enum-known-word-2
-    with-length-requires
-    same-length
+    (λ c. search needs)
+    (λ c κs. search needs)
+    (λ c. search needs)
+    (λ c κs. search needs)
+    (λ c. search needs)
     returns
     returns-2
     returns-3)

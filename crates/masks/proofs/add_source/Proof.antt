@@ -20,27 +20,6 @@ abbrev μ-loop : tie.MeasureT-loop
 loop-holds : tie.Need-loop-holds Inv-loop μ-loop
 loop-holds c = storing-start
 
-take-lowest-requires : tie.Need-take-lowest-requires Inv-loop μ-loop
-take-lowest-requires c κs = search needs
-
-cast-at : tie.Need-cast-at Inv-loop μ-loop
-cast-at c = search needs
-
-mul-with : tie.Need-mul-with Inv-loop μ-loop
-mul-with c = search needs
-
-element-copy-out-with : tie.Need-element-copy-out-with Inv-loop μ-loop
-element-copy-out-with c = search needs
-
-with-requires : tie.Need-with-requires Inv-loop μ-loop
-with-requires c κs = search needs
-
-mul-back : tie.Need-mul-back Inv-loop μ-loop
-mul-back c = search needs
-
-element-write-back : tie.Need-element-write-back Inv-loop μ-loop
-element-write-back c = search needs
-
 loop-less : tie.Need-loop-less Inv-loop μ-loop
 loop-less c = c .before .before .before .take-lowest .ensures .fewer
 
@@ -69,13 +48,13 @@ add-source-spec =
     Inv-loop
     μ-loop
     loop-holds
-    take-lowest-requires
-    cast-at
-    mul-with
-    element-copy-out-with
-    with-requires
-    mul-back
-    element-write-back
+    (λ c κs. search needs)
+    (λ c. search needs)
+    (λ c. search needs)
+    (λ c. search needs)
+    (λ c κs. search needs)
+    (λ c. search needs)
+    (λ c. search needs)
     loop-less
     loop-again
     returns)

@@ -4,11 +4,8 @@ use Rattle.masks.proofs.Member.{has-test}
 use Rattle.masks.proofs.has.Statement.{statement}
 use Rattle.masks.proofs.has.Tie as tie
 
-shr-result : tie.Need-shr-result
-shr-result c = search needs
-
 returns : tie.Need-returns
 returns c = has-test (c .args .m) (c .args .s) (c .pre)
 
 pub has-spec : {M : Type 1} → statement M
-has-spec = tie.close (tie.spec shr-result returns)
+has-spec = tie.close (tie.spec (λ c. search needs) returns)

@@ -6,9 +6,6 @@ use Rattle.masks.proofs.Member.{in-none, none, difference-left, differe
 use Rattle.masks.proofs.is_subset.Statement.{statement}
 use Rattle.masks.proofs.is_subset.Tie as tie
 
-difference-requires : tie.Need-difference-requires
-difference-requires c κs = search needs
-
 returns : tie.Need-returns
 returns c =
     let a = c .before .args .a in
@@ -21,4 +18,4 @@ returns c =
     }
 
 pub is-subset-spec : {M : Type 1} → statement M
-is-subset-spec = tie.close (tie.spec difference-requires returns)
+is-subset-spec = tie.close (tie.spec (λ c κs. search needs) returns)

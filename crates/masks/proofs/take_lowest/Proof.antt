@@ -7,12 +7,6 @@ use Rattle.masks.proofs.Member.{member-lt}
 use Rattle.masks.proofs.take_lowest.Statement.{statement}
 use Rattle.masks.proofs.take_lowest.Tie as tie
 
-lowest-requires : tie.Need-lowest-requires
-lowest-requires c κs = search needs
-
-without-lowest-requires : tie.Need-without-lowest-requires
-without-lowest-requires c κs = search needs
-
 returns : tie.Need-returns
 returns c =
     let m = c .before .before .args .m in
@@ -29,4 +23,4 @@ returns c =
     }
 
 pub take-lowest-spec : {M : Type 1} → statement M
-take-lowest-spec = tie.close (tie.spec lowest-requires without-lowest-requires returns)
+take-lowest-spec = tie.close (tie.spec (λ c κs. search needs) (λ c κs. search needs) returns)

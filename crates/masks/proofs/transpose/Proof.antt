@@ -17,24 +17,6 @@ abbrev μ-loop : tie.MeasureT-loop
 loop-holds : tie.Need-loop-holds Inv-loop μ-loop
 loop-holds c = (omega arith, refl, sources-start (c .before .args .succ .now))
 
-cast-add-source : tie.Need-cast-add-source Inv-loop μ-loop
-cast-add-source c = search needs
-
-mul-add-source : tie.Need-mul-add-source Inv-loop μ-loop
-mul-add-source c = search needs
-
-shared-slice-read-add-source : tie.Need-shared-slice-read-add-source Inv-loop μ-loop
-shared-slice-read-add-source c = search needs
-
-add-source-requires : tie.Need-add-source-requires Inv-loop μ-loop
-add-source-requires c κs = search needs
-
-add-i : tie.Need-add-i Inv-loop μ-loop
-add-i c = search needs
-
-loop-less : tie.Need-loop-less Inv-loop μ-loop
-loop-less c = search needs
-
 loop-again : tie.Need-loop-again Inv-loop μ-loop
 loop-again c =
     let at = c .before .before .before .before in
@@ -55,11 +37,11 @@ transpose-spec =
     Inv-loop
     μ-loop
     loop-holds
-    cast-add-source
-    mul-add-source
-    shared-slice-read-add-source
-    add-source-requires
-    add-i
-    loop-less
+    (λ c. search needs)
+    (λ c. search needs)
+    (λ c. search needs)
+    (λ c κs. search needs)
+    (λ c. search needs)
+    (λ c. search needs)
     loop-again
     returns)

@@ -4,11 +4,8 @@ use Rattle.masks.proofs.Member.{member-with}
 use Rattle.masks.proofs.with.Statement.{statement}
 use Rattle.masks.proofs.with.Tie as tie
 
-shl-result : tie.Need-shl-result
-shl-result c = search needs
-
 returns : tie.Need-returns
 returns c t = member-with t (c .args .m) (c .args .s) (c .pre)
 
 pub with-spec : {M : Type 1} → statement M
-with-spec = tie.close (tie.spec shl-result returns)
+with-spec = tie.close (tie.spec (λ c. search needs) returns)

@@ -8,11 +8,8 @@ use Rattle.masks.proofs.without_lowest.Tie as tie
 sub-intersection : tie.Need-sub-intersection
 sub-intersection c = omega arith
 
-intersection-requires : tie.Need-intersection-requires
-intersection-requires c κs = search needs
-
 returns : tie.Need-returns
 returns c = let start = c .before in lowest-left-out (start .args .m) (c .intersection .result) (start .pre) (c .intersection .ensures)
 
 pub without-lowest-spec : {M : Type 1} → statement M
-without-lowest-spec = tie.close (tie.spec sub-intersection intersection-requires returns)
+without-lowest-spec = tie.close (tie.spec sub-intersection (λ c κs. search needs) returns)

@@ -16,35 +16,27 @@ Inv-loop a b i₀ i = (i ≤ length a) × (length a ≡ length b) × (take i a �
 abbrev μ-loop : tie.MeasureT-loop
 μ-loop a b i₀ i = length a - i
 
--- src/lib.rt:11:9
 returns : tie.Need-returns Inv-loop μ-loop
 returns c = let a = c .before .args in differ length (a .a .now) (a .b .now) (λ e. absurd (omega arith))
 
--- src/lib.rt:14:5
 loop-holds : tie.Need-loop-holds Inv-loop μ-loop
 loop-holds c = (omega arith, omega arith, refl)
 
--- src/lib.rt:15:12
 shared-slice-read-if2 : tie.Need-shared-slice-read-if2 Inv-loop μ-loop
 shared-slice-read-if2 c = omega arith
 
--- src/lib.rt:15:20
 shared-slice-read-if2-2 : tie.Need-shared-slice-read-if2-2 Inv-loop μ-loop
 shared-slice-read-if2-2 c = omega arith
 
--- src/lib.rt:16:13
 returns-2 : tie.Need-returns-2 Inv-loop μ-loop
 returns-2 c = let h = c .before .before .before .before in let a = h .before .before .args in differ (λ l. getD l (h .loop .i) 0) (a .a .now) (a .b .now) (λ e. absurd (omega arith))
 
--- src/lib.rt:18:9
 add-i : tie.Need-add-i Inv-loop μ-loop
 add-i c = omega arith
 
--- src/lib.rt:14:5
 loop-less : tie.Need-loop-less Inv-loop μ-loop
 loop-less c = omega arith
 
--- src/lib.rt:14:5
 loop-again : tie.Need-loop-again Inv-loop μ-loop
 loop-again c =
     let h = c .before .before .before .before in
@@ -52,7 +44,6 @@ loop-again c =
     let e : suc (h .loop .i) ≡ h .loop .i + 1 = omega arith in
     (omega arith, h .loop .inv .1, subst (λ n. take n (a .a .now) ≡ take n (a .b .now)) e (same-more (a .a .now) (a .b .now) (h .loop .i) (omega arith) (omega arith) (h .loop .inv .2) (omega arith)))
 
--- src/lib.rt:7:1
 returns-3 : tie.Need-returns-3 Inv-loop μ-loop
 returns-3 c =
     let h = c .before in

@@ -5,18 +5,6 @@ use Rattle.search.specs.Graph.{graph-of}
 use Rattle.printing.proofs.first_walk.Statement.{statement}
 use Rattle.printing.proofs.first_walk.Tie as tie
 
-turned-requires : tie.Need-turned-requires
-turned-requires c κs = search needs
-
-open-mask-requires : tie.Need-open-mask-requires
-open-mask-requires c κs = search needs
-
-open-mask-requires-2 : tie.Need-open-mask-requires-2
-open-mask-requires-2 c κs = search needs
-
-first-walk-requires : tie.Need-first-walk-requires
-first-walk-requires c κs = search needs
-
 returns : tie.Need-returns
 returns c =
     let mixes = c .before .before in
@@ -32,8 +20,8 @@ pub first-walk-spec : {M : Type 1} → statement M
 first-walk-spec =
     tie.close
     (tie.spec
-    turned-requires
-    open-mask-requires
-    open-mask-requires-2
-    first-walk-requires
+    (λ c κs. search needs)
+    (λ c κs. search needs)
+    (λ c κs. search needs)
+    (λ c κs. search needs)
     returns)

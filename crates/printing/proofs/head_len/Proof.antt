@@ -10,15 +10,6 @@ use Rattle.printing.proofs.head_len.Tie as tie
 low-count : (c : tie.Start) → c .args .rounds .count < 256
 low-count c = search needs
 
-cast-verdict-line-len : tie.Need-cast-verdict-line-len
-cast-verdict-line-len c = search needs
-
-verdict-line-len-requires : tie.Need-verdict-line-len-requires
-verdict-line-len-requires c κs = search needs
-
-openings-len-requires : tie.Need-openings-len-requires
-openings-len-requires c κs = search needs
-
 add-result : tie.Need-add-result
 add-result c =
     let t = c .before .before .before in
@@ -37,8 +28,8 @@ pub head-len-spec : {M : Type 1} → statement M
 head-len-spec =
     tie.close
     (tie.spec
-    cast-verdict-line-len
-    verdict-line-len-requires
-    openings-len-requires
+    (λ c. search needs)
+    (λ c κs. search needs)
+    (λ c κs. search needs)
     add-result
     returns)

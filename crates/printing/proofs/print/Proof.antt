@@ -7,24 +7,6 @@ use borrow.Author.Needs.{needs}
 use Rattle.printing.proofs.print.Statement.{statement}
 use Rattle.printing.proofs.print.Tie as tie
 
-enum-told : tie.Need-enum-told
-enum-told c = search needs
-
-first-walk-requires : tie.Need-first-walk-requires
-first-walk-requires c κs = search needs
-
-print-nonempty-requires : tie.Need-print-nonempty-requires
-print-nonempty-requires c κs = search needs
-
-enum-told-2 : tie.Need-enum-told-2
-enum-told-2 c = search needs
-
-print-empty-requires : tie.Need-print-empty-requires
-print-empty-requires c κs = search needs
-
-same-length : tie.Need-same-length
-same-length c = search needs
-
 returns : tie.Need-returns
 returns c =
     let p = c .before .before in
@@ -35,9 +17,6 @@ returns c =
     let r = p .print-nonempty .result in
     subst (λ (v : Verdict). PrintsSheet v (a .high .now) (a .low .now) (a .n) (a .words .now) (a .k) (a .a) (a .rounds) (a .buffer .now) new r) (sym (e .enum-told .given .1))
     (prints-nonempty (a .high .now) (a .low .now) (a .n) (a .words .now) (a .k) (a .a) (a .rounds) (a .buffer .now) new r (w .first-walk .result) (w .first-walk .ensures .1) (p .print-nonempty .ensures))
-
-same-length-2 : tie.Need-same-length-2
-same-length-2 c = search needs
 
 returns-2 : tie.Need-returns-2
 returns-2 c =
@@ -53,12 +32,12 @@ pub print-spec : {M : Type 1} → statement M
 print-spec =
     tie.close
     (tie.spec
-    enum-told
-    first-walk-requires
-    print-nonempty-requires
-    enum-told-2
-    print-empty-requires
-    same-length
+    (λ c. search needs)
+    (λ c κs. search needs)
+    (λ c κs. search needs)
+    (λ c. search needs)
+    (λ c κs. search needs)
+    (λ c. search needs)
     returns
-    same-length-2
+    (λ c. search needs)
     returns-2)

@@ -7,20 +7,11 @@ use borrow.Author.Needs.{needs}
 use Rattle.printing.proofs.print_empty.Statement.{statement}
 use Rattle.printing.proofs.print_empty.Tie as tie
 
-head-len-requires : tie.Need-head-len-requires
-head-len-requires c κs = search needs
-
 returns : tie.Need-returns
 returns c =
     let h = c .before in
     let a = h .before .before .args in
     tells-short (head-text Empty (a .words .now) (a .k) (a .rounds)) (a .buffer .now) (omega (arith, h .head-len .ensures .0, c .if1 .taken))
-
-put-head-requires : tie.Need-put-head-requires
-put-head-requires c κs = search needs
-
-same-length : tie.Need-same-length
-same-length c = search needs
 
 returns-2 : tie.Need-returns-2
 returns-2 c =
@@ -32,4 +23,4 @@ returns-2 c =
 
 pub print-empty-spec : {M : Type 1} → statement M
 print-empty-spec =
-    tie.close (tie.spec head-len-requires returns put-head-requires same-length returns-2)
+    tie.close (tie.spec (λ c κs. search needs) returns (λ c κs. search needs) (λ c. search needs) returns-2)

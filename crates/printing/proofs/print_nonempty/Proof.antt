@@ -8,15 +8,6 @@ use borrow.Author.Needs.{needs}
 use Rattle.printing.proofs.print_nonempty.Statement.{statement}
 use Rattle.printing.proofs.print_nonempty.Tie as tie
 
-head-len-requires : tie.Need-head-len-requires
-head-len-requires c κs = search needs
-
-walk-len-requires : tie.Need-walk-len-requires
-walk-len-requires c κs = search needs
-
-add-len : tie.Need-add-len
-add-len c = search needs
-
 returns : tie.Need-returns
 returns c =
     let l = c .before in
@@ -24,15 +15,6 @@ returns c =
     let a = h .before .before .args in
     tells-short (walked-text (a .words .now) (a .k) (a .rounds) (a .walk)) (a .buffer .now)
     (omega (arith, h .head-len .ensures .0, l .walk-len .ensures .0, walked-length (a .words .now) (a .k) (a .rounds) (a .walk), c .if1 .taken))
-
-put-head-requires : tie.Need-put-head-requires
-put-head-requires c κs = search needs
-
-walk-at-requires : tie.Need-walk-at-requires
-walk-at-requires c κs = search needs
-
-same-length : tie.Need-same-length
-same-length c = search needs
 
 returns-2 : tie.Need-returns-2
 returns-2 c =
@@ -51,11 +33,11 @@ pub print-nonempty-spec : {M : Type 1} → statement M
 print-nonempty-spec =
     tie.close
     (tie.spec
-    head-len-requires
-    walk-len-requires
-    add-len
+    (λ c κs. search needs)
+    (λ c κs. search needs)
+    (λ c. search needs)
     returns
-    put-head-requires
-    walk-at-requires
-    same-length
+    (λ c κs. search needs)
+    (λ c κs. search needs)
+    (λ c. search needs)
     returns-2)

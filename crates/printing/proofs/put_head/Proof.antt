@@ -6,9 +6,6 @@ use borrow.Author.Needs.{needs}
 use Rattle.printing.proofs.put_head.Statement.{statement}
 use Rattle.printing.proofs.put_head.Tie as tie
 
-cast-put-verdict-line : tie.Need-cast-put-verdict-line
-cast-put-verdict-line c = search needs
-
 put-verdict-line-requires : tie.Need-put-verdict-line-requires
 put-verdict-line-requires c κs = let s = c .before .before .before .before in omega (arith, s .pre .1, head-length (s .args .words .now) (s .args .k) (s .args .rounds) (s .args .v))
 
@@ -17,9 +14,6 @@ openings-at-requires c κs =
     let p = c .before .before .before .before .before in
     let s = p .before .before .before .before .before in
     (s .pre .0, omega (arith, s .pre .1, head-length (s .args .words .now) (s .args .k) (s .args .rounds) (s .args .v), p .put-verdict-line .ensures .length-is, p .put-verdict-line .kept .0))
-
-same-length : tie.Need-same-length
-same-length c = search needs
 
 returns : tie.Need-returns
 returns c =
@@ -32,8 +26,8 @@ pub put-head-spec : {M : Type 1} → statement M
 put-head-spec =
     tie.close
     (tie.spec
-    cast-put-verdict-line
+    (λ c. search needs)
     put-verdict-line-requires
     openings-at-requires
-    same-length
+    (λ c. search needs)
     returns)

@@ -7,24 +7,6 @@ use borrow.Author.Needs.{needs}
 use Rattle.printing.proofs.walk_at.Statement.{statement}
 use Rattle.printing.proofs.walk_at.Tie as tie
 
-sub-put-walk : tie.Need-sub-put-walk
-sub-put-walk c = search needs
-
-part-put-walk-start : tie.Need-part-put-walk-start
-part-put-walk-start c = search needs
-
-part-put-walk-end : tie.Need-part-put-walk-end
-part-put-walk-end c = search needs
-
-put-walk-requires : tie.Need-put-walk-requires
-put-walk-requires c κs = search needs
-
-add-result : tie.Need-add-result
-add-result c = search needs
-
-same-length : tie.Need-same-length
-same-length c = search needs
-
 returns : tie.Need-returns
 returns c =
     let p = c .before .before in
@@ -35,10 +17,10 @@ pub walk-at-spec : {M : Type 1} → statement M
 walk-at-spec =
     tie.close
     (tie.spec
-    sub-put-walk
-    part-put-walk-start
-    part-put-walk-end
-    put-walk-requires
-    add-result
-    same-length
+    (λ c. search needs)
+    (λ c. search needs)
+    (λ c. search needs)
+    (λ c κs. search needs)
+    (λ c. search needs)
+    (λ c. search needs)
     returns)

@@ -12,9 +12,6 @@ Inv-loop counts₀ seed₀ left₀ counts seed left = length counts ≡ length c
 abbrev μ-loop : tie.MeasureT-loop
 μ-loop counts₀ seed₀ left₀ counts seed left = left
 
-loop-holds : tie.Need-loop-holds Inv-loop μ-loop
-loop-holds c = search needs
-
 try-one-requires : tie.Need-try-one-requires Inv-loop μ-loop
 try-one-requires c κs = tt
 
@@ -27,12 +24,6 @@ sub-left c = omega arith
 loop-less : tie.Need-loop-less Inv-loop μ-loop
 loop-less c = omega arith
 
-loop-again : tie.Need-loop-again Inv-loop μ-loop
-loop-again c = search needs
-
-same-length : tie.Need-same-length Inv-loop μ-loop
-same-length c = search needs
-
 returns : tie.Need-returns Inv-loop μ-loop
 returns c = tt
 
@@ -42,11 +33,11 @@ try-all-spec =
     (tie.spec
     Inv-loop
     μ-loop
-    loop-holds
+    (λ c. search needs)
     try-one-requires
     next-seed-requires
     sub-left
     loop-less
-    loop-again
-    same-length
+    (λ c. search needs)
+    (λ c. search needs)
     returns)

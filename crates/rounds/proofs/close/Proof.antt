@@ -9,16 +9,10 @@ use borrow.Author.Needs.{needs}
 use Rattle.rounds.proofs.close.Statement.{statement}
 use Rattle.rounds.proofs.close.Tie as tie
 
-accepts-requires : tie.Need-accepts-requires
-accepts-requires c κs = search needs
-
-judge-requires : tie.Need-judge-requires
-judge-requires c κs = search needs
-
 returns : tie.Need-returns
 returns c m n g =
     subst (λ (p : Phase). Kept (closed m) (replicate 64 0) (replicate 64 0) p 0) (sym (c .judge .ensures))
     (closed-kept m g (c .before .accepts .result) (c .before .accepts .ensures))
 
 pub close-spec : {M : Type 1} → statement M
-close-spec = tie.close (tie.spec accepts-requires judge-requires returns)
+close-spec = tie.close (tie.spec (λ c κs. search needs) (λ c κs. search needs) returns)

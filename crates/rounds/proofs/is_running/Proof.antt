@@ -7,24 +7,12 @@ use Rattle.rounds.proofs.Settled.{not-running}
 use Rattle.rounds.proofs.is_running.Statement.{statement}
 use Rattle.rounds.proofs.is_running.Tie as tie
 
-enum-told : tie.Need-enum-told
-enum-told c = search needs
-
-enum-told-2 : tie.Need-enum-told-2
-enum-told-2 c = search needs
-
-enum-told-3 : tie.Need-enum-told-3
-enum-told-3 c = search needs
-
 returns : tie.Need-returns
 returns c = not-running (c .before .before .args .phase) _ (c .enum-told .given .1) (λ e. let z : _≡_ {A = ℕ} 0 1 = cc in absurd (omega arith))
-
-returns-2 : tie.Need-returns-2
-returns-2 c = search needs
 
 returns-3 : tie.Need-returns-3
 returns-3 c = not-running (c .before .before .args .phase) _ (c .enum-told3 .given .1) (λ e. let z : _≡_ {A = ℕ} 0 1 = cc in absurd (omega arith))
 
 pub is-running-spec : {M : Type 1} → statement M
 is-running-spec =
-    tie.close (tie.spec enum-told enum-told-2 enum-told-3 returns returns-2 returns-3)
+    tie.close (tie.spec (λ c. search needs) (λ c. search needs) (λ c. search needs) returns (λ c. search needs) returns-3)

@@ -9,8 +9,5 @@ returns c = rw (c .if1 .taken)
 returns-2 : tie.Need-returns-2
 returns-2 c = rw (c .before .if1 .left, c .if2 .taken)
 
-returns-3 : tie.Need-returns-3
-returns-3 c = search needs
-
 pub judge-spec : {M : Type 1} → statement M
-judge-spec = tie.close (tie.spec returns returns-2 returns-3)
+judge-spec = tie.close (tie.spec returns returns-2 (λ c. search needs))

@@ -20,15 +20,6 @@ abbrev μ-loop : tie.MeasureT-loop
 loop-holds : tie.Need-loop-holds Inv-loop μ-loop
 loop-holds c = storing-start
 
-take-lowest-requires : tie.Need-take-lowest-requires Inv-loop μ-loop
-take-lowest-requires c κs = search needs
-
-cast-rounds : tie.Need-cast-rounds Inv-loop μ-loop
-cast-rounds c = search needs
-
-element-write-rounds : tie.Need-element-write-rounds Inv-loop μ-loop
-element-write-rounds c = search needs
-
 loop-less : tie.Need-loop-less Inv-loop μ-loop
 loop-less c = c .before .take-lowest .ensures .fewer
 
@@ -54,9 +45,9 @@ mark-spec =
     Inv-loop
     μ-loop
     loop-holds
-    take-lowest-requires
-    cast-rounds
-    element-write-rounds
+    (λ c κs. search needs)
+    (λ c. search needs)
+    (λ c. search needs)
     loop-less
     loop-again
     returns)

@@ -9,9 +9,6 @@ use Rattle.masks.proofs.Member.{in-none, none, union-left, union-right, union-c
 use Rattle.rounds.proofs.nothing.Statement.{statement}
 use Rattle.rounds.proofs.nothing.Tie as tie
 
-union-requires : tie.Need-union-requires
-union-requires c κs = search needs
-
 returns : tie.Need-returns
 returns c =
     let a = c .before .args .a in
@@ -25,4 +22,4 @@ returns c =
     }
 
 pub nothing-spec : {M : Type 1} → statement M
-nothing-spec = tie.close (tie.spec union-requires returns)
+nothing-spec = tie.close (tie.spec (λ c κs. search needs) returns)

@@ -3,15 +3,6 @@ use borrow.Author.Needs.{needs}
 use Rattle.rounds.proofs.opened.Statement.{statement}
 use Rattle.rounds.proofs.opened.Tie as tie
 
-turned-requires : tie.Need-turned-requires
-turned-requires c κs = search needs
-
-all-ends-requires : tie.Need-all-ends-requires
-all-ends-requires c κs = search needs
-
-all-ends-requires-2 : tie.Need-all-ends-requires-2
-all-ends-requires-2 c κs = search needs
-
 open-next-requires : tie.Need-open-next-requires
 open-next-requires c κs =
     let from = c .before .before .before in
@@ -25,4 +16,4 @@ returns c = c .open-next .ensures
 pub opened-spec : {M : Type 1} → statement M
 opened-spec =
     tie.close
-    (tie.spec turned-requires all-ends-requires all-ends-requires-2 open-next-requires returns)
+    (tie.spec (λ c κs. search needs) (λ c κs. search needs) (λ c κs. search needs) open-next-requires returns)

@@ -10,36 +10,6 @@ use borrow.Author.Needs.{needs}
 use Rattle.rounds.proofs.round.Statement.{statement}
 use Rattle.rounds.proofs.round.Tie as tie
 
-open-mask-requires : tie.Need-open-mask-requires
-open-mask-requires c κs = search needs
-
-open-mask-requires-2 : tie.Need-open-mask-requires-2
-open-mask-requires-2 c κs = search needs
-
-opened-requires : tie.Need-opened-requires
-opened-requires c κs = search needs
-
-with-new-requires : tie.Need-with-new-requires
-with-new-requires c κs = search needs
-
-accepts-requires : tie.Need-accepts-requires
-accepts-requires c κs = search needs
-
-nothing-requires : tie.Need-nothing-requires
-nothing-requires c κs = search needs
-
-judge-requires : tie.Need-judge-requires
-judge-requires c κs = search needs
-
-add-count : tie.Need-add-count
-add-count c = search needs
-
-mark-requires : tie.Need-mark-requires
-mark-requires c κs = search needs
-
-mark-requires-2 : tie.Need-mark-requires-2
-mark-requires-2 c κs = search needs
-
 returns : tie.Need-returns
 returns c m w g kept =
     let looped = c .before .before in
@@ -67,14 +37,14 @@ pub round-spec : {M : Type 1} → statement M
 round-spec =
     tie.close
     (tie.spec
-    open-mask-requires
-    open-mask-requires-2
-    opened-requires
-    with-new-requires
-    accepts-requires
-    nothing-requires
-    judge-requires
-    add-count
-    mark-requires
-    mark-requires-2
+    (λ c κs. search needs)
+    (λ c κs. search needs)
+    (λ c κs. search needs)
+    (λ c κs. search needs)
+    (λ c κs. search needs)
+    (λ c κs. search needs)
+    (λ c κs. search needs)
+    (λ c. search needs)
+    (λ c κs. search needs)
+    (λ c κs. search needs)
     returns)

@@ -29,24 +29,6 @@ Inv-loop graph initials finals n back force₀ new₀ to₀ from₀ seen₀ phas
 abbrev μ-loop : tie.MeasureT-loop
 μ-loop graph initials finals n back force₀ new₀ to₀ from₀ seen₀ phase₀ loop-rounds₀ mix-rounds₀ count₀ force new to from seen phase loop-rounds mix-rounds count = 129 - count
 
-turned-requires : tie.Need-turned-requires Inv-loop μ-loop
-turned-requires c κs = search needs
-
-all-ends-requires : tie.Need-all-ends-requires Inv-loop μ-loop
-all-ends-requires c κs = search needs
-
-all-ends-requires-2 : tie.Need-all-ends-requires-2 Inv-loop μ-loop
-all-ends-requires-2 c κs = search needs
-
-reached-requires : tie.Need-reached-requires Inv-loop μ-loop
-reached-requires c κs = search needs
-
-accepted-requires : tie.Need-accepted-requires Inv-loop μ-loop
-accepted-requires c κs = search needs
-
-judge-requires : tie.Need-judge-requires Inv-loop μ-loop
-judge-requires c κs = search needs
-
 abbrev start : (c : tie.At-loop Inv-loop μ-loop) → tie.Start Inv-loop μ-loop
 start c = c .before .before .before .before .before .before .before .before
 
@@ -76,9 +58,6 @@ loop-holds c =
           (stage-start rows g (tested .accepted .result) (tested .accepted .ensures (graph-of (a .graph .now)) none (first .reached .ensures))),
     )
 
-is-running-requires : tie.Need-is-running-requires Inv-loop μ-loop
-is-running-requires c κs = search needs
-
 add-ends-requires : tie.Need-add-ends-requires Inv-loop μ-loop
 add-ends-requires c κs = let at = c .before .before .before .before .before .before in (start at .pre, at .loop .inv .3)
 
@@ -101,30 +80,12 @@ open-next-requires : tie.Need-open-next-requires Inv-loop μ-loop
 open-next-requires c κs = let e = c .before .before .before in let at = at-turn e in
     record { few = start at .pre; turned = at .loop .inv .3; forward = forward e; backward = backward e }
 
-with-new-requires : tie.Need-with-new-requires Inv-loop μ-loop
-with-new-requires c κs = search needs
-
 reached-more-requires : tie.Need-reached-more-requires Inv-loop μ-loop
 reached-more-requires c κs = let at = at-turn (c .before .before .before .before .before) in
     record { old = at .loop .force; with-new = c .with-new .ensures; reached = at .loop .inv .5 }
 
-accepted-requires-2 : tie.Need-accepted-requires-2 Inv-loop μ-loop
-accepted-requires-2 c κs = search needs
-
-nothing-requires : tie.Need-nothing-requires Inv-loop μ-loop
-nothing-requires c κs = search needs
-
-judge-requires-2 : tie.Need-judge-requires-2 Inv-loop μ-loop
-judge-requires-2 c κs = search needs
-
 add-count : tie.Need-add-count Inv-loop μ-loop
 add-count c = omega (arith, c .before .before .before .before .before .before .before .before .before .before .before .before .before .before .before .loop-test .taken)
-
-mark-requires : tie.Need-mark-requires Inv-loop μ-loop
-mark-requires c κs = search needs
-
-mark-requires-2 : tie.Need-mark-requires-2 Inv-loop μ-loop
-mark-requires-2 c κs = search needs
 
 loop-less : tie.Need-loop-less Inv-loop μ-loop
 loop-less c = omega (arith, c .before .before .before .before .before .before .before .before .before .before .before .before .before .before .before .before .before .before .before .loop-test .taken)
@@ -180,24 +141,24 @@ settle-spec =
     (tie.spec
     Inv-loop
     μ-loop
-    turned-requires
-    all-ends-requires
-    all-ends-requires-2
-    reached-requires
-    accepted-requires
-    judge-requires
+    (λ c κs. search needs)
+    (λ c κs. search needs)
+    (λ c κs. search needs)
+    (λ c κs. search needs)
+    (λ c κs. search needs)
+    (λ c κs. search needs)
     loop-holds
-    is-running-requires
+    (λ c κs. search needs)
     add-ends-requires
     open-next-requires
-    with-new-requires
+    (λ c κs. search needs)
     reached-more-requires
-    accepted-requires-2
-    nothing-requires
-    judge-requires-2
+    (λ c κs. search needs)
+    (λ c κs. search needs)
+    (λ c κs. search needs)
     add-count
-    mark-requires
-    mark-requires-2
+    (λ c κs. search needs)
+    (λ c κs. search needs)
     loop-less
     loop-again
     returns

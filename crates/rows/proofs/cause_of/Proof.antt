@@ -8,21 +8,6 @@ use Rattle.rows.proofs.Reading.{place-twice, unknown-cause}
 use Rattle.rows.proofs.cause_of.Statement.{statement}
 use Rattle.rows.proofs.cause_of.Tie as tie
 
-cut-or-high-requires : tie.Need-cut-or-high-requires
-cut-or-high-requires c κs = search needs
-
-cut-or-high-requires-2 : tie.Need-cut-or-high-requires-2
-cut-or-high-requires-2 c κs = search needs
-
-cut-or-high-requires-3 : tie.Need-cut-or-high-requires-3
-cut-or-high-requires-3 c κs = search needs
-
-limit-cause-requires : tie.Need-limit-cause-requires
-limit-cause-requires c κs = search needs
-
-limit-cause-requires-2 : tie.Need-limit-cause-requires-2
-limit-cause-requires-2 c κs = search needs
-
 returns : tie.Need-returns
 unfolding row-cause
 returns c = c .cut-or-high .ensures ∙ (place-twice 2 (c .before .before .before .args .rest .now) 1 0 ∙ sym (simp (c .before .match .keys1)))
@@ -56,11 +41,11 @@ pub cause-of-spec : {M : Type 1} → statement M
 cause-of-spec =
     tie.close
     (tie.spec
-    cut-or-high-requires
-    cut-or-high-requires-2
-    cut-or-high-requires-3
-    limit-cause-requires
-    limit-cause-requires-2
+    (λ c κs. search needs)
+    (λ c κs. search needs)
+    (λ c κs. search needs)
+    (λ c κs. search needs)
+    (λ c κs. search needs)
     returns
     returns-2
     returns-3

@@ -13,9 +13,6 @@ use Rattle.rows.proofs.limit_cause.Tie as tie
 first : (c : tie.After-cut-or-high) → let a = c .before .before .args in c .cut-or-high .result ≡ cut-or-high 10 (a .state ∷ []) (a .rest .now) 0
 first c = let a = c .before .before .args in c .cut-or-high .ensures ∙ place-twice 10 (a .rest .now) (a .state) 0
 
-cut-or-high-requires : tie.Need-cut-or-high-requires
-cut-or-high-requires c κs = search needs
-
 returns : tie.Need-returns
 returns c = let a = c .before .before .before .args in first (c .before) ∙ sym (cut-first 10 (a .rest .now) (a .state ∷ []) _ (λ z. c .if1 .taken (first (c .before) ∙ z)))
 
@@ -38,4 +35,4 @@ returns-3 c =
 
 pub limit-cause-spec : {M : Type 1} → statement M
 limit-cause-spec =
-    tie.close (tie.spec cut-or-high-requires returns set-at-requires returns-2 returns-3)
+    tie.close (tie.spec (λ c κs. search needs) returns set-at-requires returns-2 returns-3)

@@ -13,12 +13,6 @@ use Rattle.rows.proofs.read_row.Tie as tie
 returns : tie.Need-returns
 returns c = sym (read-none _ (c .if1 .taken))
 
-shared-slice-read-kind : tie.Need-shared-slice-read-kind
-shared-slice-read-kind c = search needs
-
-cause-of-requires : tie.Need-cause-of-requires
-cause-of-requires c κs = search needs
-
 returns-2 : tie.Need-returns-2
 returns-2 c =
     let start = c .before .before .before in
@@ -30,9 +24,6 @@ fine c = none-caused (c .before .before .before .before .before .args .rest .now
 
 row-at-requires : tie.Need-row-at-requires
 row-at-requires c κs = fine c
-
-row-len-requires : tie.Need-row-len-requires
-row-len-requires c κs = search needs
 
 returns-3 : tie.Need-returns-3
 returns-3 c =
@@ -46,9 +37,9 @@ read-row-spec =
     tie.close
     (tie.spec
     returns
-    shared-slice-read-kind
-    cause-of-requires
+    (λ c. search needs)
+    (λ c κs. search needs)
     returns-2
     row-at-requires
-    row-len-requires
+    (λ c κs. search needs)
     returns-3)

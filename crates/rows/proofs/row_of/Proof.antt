@@ -5,30 +5,6 @@ use borrow.Author.Needs.{needs}
 use Rattle.rows.proofs.row_of.Statement.{statement}
 use Rattle.rows.proofs.row_of.Tie as tie
 
-cast-first : tie.Need-cast-first
-cast-first c = search needs
-
-cast-t10 : tie.Need-cast-t10
-cast-t10 c = search needs
-
-cast-t13 : tie.Need-cast-t13
-cast-t13 c = search needs
-
-mul-t15 : tie.Need-mul-t15
-mul-t15 c = search needs
-
-add-t18 : tie.Need-add-t18
-add-t18 c = search needs
-
-cast-t20 : tie.Need-cast-t20
-cast-t20 c = search needs
-
-mul-t22 : tie.Need-mul-t22
-mul-t22 c = search needs
-
-add-t24 : tie.Need-add-t24
-add-t24 c = search needs
-
 returns : tie.Need-returns
 unfolding row-from
 returns c = simp (c .match .keys1)
@@ -53,14 +29,14 @@ pub row-of-spec : {M : Type 1} → statement M
 row-of-spec =
     tie.close
     (tie.spec
-    cast-first
-    cast-t10
-    cast-t13
-    mul-t15
-    add-t18
-    cast-t20
-    mul-t22
-    add-t24
+    (λ c. search needs)
+    (λ c. search needs)
+    (λ c. search needs)
+    (λ c. search needs)
+    (λ c. search needs)
+    (λ c. search needs)
+    (λ c. search needs)
+    (λ c. search needs)
     returns
     returns-2
     returns-3

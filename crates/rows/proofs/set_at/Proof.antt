@@ -21,12 +21,6 @@ loop-holds c = (omega arith, refl, λ h. omega arith)
 mul-set : tie.Need-mul-set Inv-loop μ-loop
 mul-set c = omega (arith, c .before .loop .inv .2 (c .loop-test .taken))
 
-add-set : tie.Need-add-set Inv-loop μ-loop
-add-set c = search needs
-
-shared-slice-read-set : tie.Need-shared-slice-read-set Inv-loop μ-loop
-shared-slice-read-set c = search needs
-
 cast-set : tie.Need-cast-set Inv-loop μ-loop
 cast-set c = let a = c .before .before .before .args in omega (arith, c .shared-slice-known .given (a .at + c .before .before .loop .i))
 
@@ -34,12 +28,6 @@ add-set-2 : tie.Need-add-set-2 Inv-loop μ-loop
 add-set-2 c =
     let a = c .before .before .before .args in
     omega (arith, c .before .before .loop .inv .2 (c .before .loop-test .taken), c .shared-slice-known .given (a .at + c .before .before .loop .i))
-
-add-i : tie.Need-add-i Inv-loop μ-loop
-add-i c = search needs
-
-loop-less : tie.Need-loop-less Inv-loop μ-loop
-loop-less c = search needs
 
 loop-again : tie.Need-loop-again Inv-loop μ-loop
 loop-again c =
@@ -66,11 +54,11 @@ set-at-spec =
     μ-loop
     loop-holds
     mul-set
-    add-set
-    shared-slice-read-set
+    (λ c. search needs)
+    (λ c. search needs)
     cast-set
     add-set-2
-    add-i
-    loop-less
+    (λ c. search needs)
+    (λ c. search needs)
     loop-again
     returns)

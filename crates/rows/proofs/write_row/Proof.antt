@@ -7,9 +7,6 @@ use borrow.Author.Needs.{needs}
 use Rattle.rows.proofs.write_row.Statement.{statement}
 use Rattle.rows.proofs.write_row.Tie as tie
 
-enum-known-row : tie.Need-enum-known-row
-enum-known-row c = search needs
-
 slice-write-buf : tie.Need-slice-write-buf
 unfolding row-bytes
 slice-write-buf c = omega (arith, rw (c .before .row .given .1) at (c .before .before .before .before .pre))
@@ -18,9 +15,6 @@ slice-write-buf-2 : tie.Need-slice-write-buf-2
 unfolding row-bytes
 slice-write-buf-2 c = simp length-set (omega (arith, rw (c .before .row .given .1) at (c .before .before .before .before .pre)))
 
-enum-known-row-2 : tie.Need-enum-known-row-2
-enum-known-row-2 c = search needs
-
 slice-write-buf-3 : tie.Need-slice-write-buf-3
 unfolding row-bytes
 slice-write-buf-3 c = omega (arith, rw (c .before .row2 .given .1) at (c .before .before .before .before .pre))
@@ -28,9 +22,6 @@ slice-write-buf-3 c = omega (arith, rw (c .before .row2 .given .1) at (c .before
 slice-write-buf-4 : tie.Need-slice-write-buf-4
 unfolding row-bytes
 slice-write-buf-4 c = simp length-set (omega (arith, rw (c .before .row2 .given .1) at (c .before .before .before .before .pre)))
-
-enum-known-row-3 : tie.Need-enum-known-row-3
-enum-known-row-3 c = search needs
 
 slice-write-buf-5 : tie.Need-slice-write-buf-5
 unfolding row-bytes
@@ -48,9 +39,6 @@ slice-write-buf-8 : tie.Need-slice-write-buf-8
 unfolding row-bytes
 slice-write-buf-8 c = simp length-set (omega (arith, rw (c .before .row3 .given .1) at (c .before .before .before .before .pre)))
 
-enum-known-row-4 : tie.Need-enum-known-row-4
-enum-known-row-4 c = search needs
-
 slice-write-buf-9 : tie.Need-slice-write-buf-9
 unfolding row-bytes
 slice-write-buf-9 c = omega (arith, rw (c .before .row4 .given .1) at (c .before .before .before .before .pre))
@@ -62,9 +50,6 @@ put-set-requires c κs = simp length-set (omega (arith, rw (c .before .before .r
 slice-write-buf-10 : tie.Need-slice-write-buf-10
 unfolding row-bytes
 slice-write-buf-10 c = simp (c .before .before .put-set .ensures, length-set) (omega (arith, rw (c .before .before .before .before .before .row4 .given .1) at (c .before .before .before .before .before .before .before .before .pre)))
-
-enum-known-row-5 : tie.Need-enum-known-row-5
-enum-known-row-5 c = search needs
 
 slice-write-buf-11 : tie.Need-slice-write-buf-11
 unfolding row-bytes
@@ -78,22 +63,13 @@ put-set-requires-2 : tie.Need-put-set-requires-2
 unfolding row-bytes
 put-set-requires-2 c κs = simp length-set (omega (arith, rw (c .before .before .row5 .given .1) at (c .before .before .before .before .before .pre)))
 
-same-length : tie.Need-same-length
-same-length c = search needs
-
 returns : tie.Need-returns
 unfolding row-bytes
 returns c = rw (c .before .row .given .1) (wrote-all _ _ (rw (c .before .row .given .1) at (c .before .before .before .before .pre)))
 
-same-length-2 : tie.Need-same-length-2
-same-length-2 c = search needs
-
 returns-2 : tie.Need-returns-2
 unfolding row-bytes
 returns-2 c = rw (c .before .row2 .given .1) (wrote-all _ _ (rw (c .before .row2 .given .1) at (c .before .before .before .before .pre)))
-
-same-length-3 : tie.Need-same-length-3
-same-length-3 c = search needs
 
 returns-3 : tie.Need-returns-3
 unfolding row-bytes
@@ -117,30 +93,30 @@ pub write-row-spec : {M : Type 1} → statement M
 write-row-spec =
     tie.close
     (tie.spec
-    enum-known-row
+    (λ c. search needs)
     slice-write-buf
     slice-write-buf-2
-    enum-known-row-2
+    (λ c. search needs)
     slice-write-buf-3
     slice-write-buf-4
-    enum-known-row-3
+    (λ c. search needs)
     slice-write-buf-5
     slice-write-buf-6
     slice-write-buf-7
     slice-write-buf-8
-    enum-known-row-4
+    (λ c. search needs)
     slice-write-buf-9
     put-set-requires
     slice-write-buf-10
-    enum-known-row-5
+    (λ c. search needs)
     slice-write-buf-11
     slice-write-buf-12
     put-set-requires-2
-    same-length
+    (λ c. search needs)
     returns
-    same-length-2
+    (λ c. search needs)
     returns-2
-    same-length-3
+    (λ c. search needs)
     returns-3
     same-length-4
     returns-4

@@ -18,27 +18,15 @@ Inv-loop buffer₀ at₀ buffer at = (at ≤ length buffer) × (length buffer �
 abbrev μ-loop : tie.MeasureT-loop
 μ-loop buffer₀ at₀ buffer at = length buffer₀ - at
 
--- src/main.rt:29:5
 loop-holds : tie.Need-loop-holds Inv-loop μ-loop
 loop-holds c = (omega arith, refl)
 
--- src/main.rt:30:15
-read-at-requires : tie.Need-read-at-requires Inv-loop μ-loop
-read-at-requires c κs = search needs
-
--- src/main.rt:31:26
-enum-known-n : tie.Need-enum-known-n Inv-loop μ-loop
-enum-known-n c = search needs
-
--- src/main.rt:33:21
 same-length : tie.Need-same-length Inv-loop μ-loop
 same-length c = let r = c .before .before .before .before .before .before in r .read-at .kept .0 ∙ r .before .before .before .loop .inv .1
 
--- src/main.rt:33:21
 returns : tie.Need-returns Inv-loop μ-loop
 returns c = let r = c .before .before .before .before .before .before in let h = r .before .before .before .loop in counts (h .at) (r .read-at .last .0) (omega (arith, h .inv .0, r .read-at .kept .0))
 
--- src/main.rt:35:17
 add-at : tie.Need-add-at Inv-loop μ-loop
 add-at c =
     let o = c .before .before in
@@ -49,7 +37,6 @@ add-at c =
     let l : length (r .read-at .last .0) ≡ length (h .buffer) = r .read-at .kept .0 in
     omega (arith, k, l, h .inv .1)
 
--- src/main.rt:29:5
 loop-less : tie.Need-loop-less Inv-loop μ-loop
 loop-less c =
     let o = c .before .before in
@@ -60,7 +47,6 @@ loop-less c =
     let l : length (r .read-at .last .0) ≡ length (h .buffer) = r .read-at .kept .0 in
     omega (arith, k, l, h .inv .1)
 
--- src/main.rt:29:5
 loop-again : tie.Need-loop-again Inv-loop μ-loop
 loop-again c =
     let o = c .before .before in
@@ -71,23 +57,15 @@ loop-again c =
     let l : length (r .read-at .last .0) ≡ length (h .buffer) = r .read-at .kept .0 in
     (k, l ∙ h .inv .1)
 
--- src/main.rt:37:30
-enum-told : tie.Need-enum-told Inv-loop μ-loop
-enum-told c = search needs
-
--- src/main.rt:37:30
 same-length-2 : tie.Need-same-length-2 Inv-loop μ-loop
 same-length-2 c = let r = c .before .before .before .before in r .read-at .kept .0 ∙ r .before .before .before .loop .inv .1
 
--- src/main.rt:37:30
 returns-2 : tie.Need-returns-2 Inv-loop μ-loop
 returns-2 c = tt
 
--- src/main.rt:25:1
 same-length-3 : tie.Need-same-length-3 Inv-loop μ-loop
 same-length-3 c = c .before .loop .inv .1
 
--- src/main.rt:25:1
 returns-3 : tie.Need-returns-3 Inv-loop μ-loop
 returns-3 c = counts (c .before .loop .at) (c .before .loop .buffer) (c .before .loop .inv .0)
 
@@ -98,14 +76,14 @@ read-input-spec =
     Inv-loop
     μ-loop
     loop-holds
-    read-at-requires
-    enum-known-n
+    (λ c κs. search needs)
+    (λ c. search needs)
     same-length
     returns
     add-at
     loop-less
     loop-again
-    enum-told
+    (λ c. search needs)
     same-length-2
     returns-2
     same-length-3

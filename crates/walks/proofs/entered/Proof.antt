@@ -8,12 +8,6 @@ use borrow.Author.Needs.{needs}
 use Rattle.walks.proofs.entered.Statement.{statement}
 use Rattle.walks.proofs.entered.Tie as tie
 
-has-requires : tie.Need-has-requires
-has-requires c κs = search needs
-
-intersection-requires : tie.Need-intersection-requires
-intersection-requires c κs = search needs
-
 returns : tie.Need-returns
 returns c =
     let a = c .before .before .before .args in
@@ -28,4 +22,4 @@ returns-2 : tie.Need-returns-2
 returns-2 c = λ t. ((λ h. absurd (in-none t h)), λ h. absurd (not-both (c .before .has .ensures ∙ h .0) (c .if1 .left)))
 
 pub entered-spec : {M : Type 1} → statement M
-entered-spec = tie.close (tie.spec has-requires intersection-requires returns returns-2)
+entered-spec = tie.close (tie.spec (λ c κs. search needs) (λ c κs. search needs) returns returns-2)

@@ -18,28 +18,13 @@ Inv-loop high low n a layer least i₀ i = Passed high low n a layer i
 abbrev μ-loop : tie.MeasureT-loop
 μ-loop high low n a layer least i₀ i = n - i
 
-high-of-requires : tie.Need-high-of-requires Inv-loop μ-loop
-high-of-requires c κs = search needs
-
-rows-from-requires : tie.Need-rows-from-requires Inv-loop μ-loop
-rows-from-requires c κs = search needs
-
 loop-holds : tie.Need-loop-holds Inv-loop μ-loop
 loop-holds c =
     let a = c .before .before .args in
     passed-start (now (a .high)) (now (a .low)) (a .n) (a .a) (a .layer) (c .rows-from .result) (rw (c .before .high-of .ensures) at (c .rows-from .ensures))
 
-mul-row-of : tie.Need-mul-row-of Inv-loop μ-loop
-mul-row-of c = search needs
-
 element-copy-out-row-of : tie.Need-element-copy-out-row-of Inv-loop μ-loop
 element-copy-out-row-of c = omega (arith, c .before .before .before .before .pre)
-
-row-of-requires : tie.Need-row-of-requires Inv-loop μ-loop
-row-of-requires c κs = search needs
-
-enum-known-from : tie.Need-enum-known-from Inv-loop μ-loop
-enum-known-from c = search needs
 
 -- the row is of another kind
 returns : tie.Need-returns Inv-loop μ-loop
@@ -66,12 +51,6 @@ returns-2 c =
           (λ x t r. let e : row .result ≡ Successor (a .a) x t = row .ensures ∙ r in let k = known .from .given .1 in c .if1 .taken (cc));
     }
 
-in-layer-requires : tie.Need-in-layer-requires Inv-loop μ-loop
-in-layer-requires c κs = search needs
-
-cast-t19 : tie.Need-cast-t19 Inv-loop μ-loop
-cast-t19 c = search needs
-
 -- it is a letter row of the state
 here : (c : tie.Else1 Inv-loop μ-loop) → let known = c .before .before in let p = known .before .before .before .before .before in
     LetterRow (now (p .before .before .before .args .high)) (p .before .before .before .args .a) (p .loop .i) (known .from .given .0 .1 .0) (known .from .given .0 .1 .1 .0)
@@ -90,12 +69,6 @@ returns-3 c =
       is = (refl, (p .loop .i, within, row), sym (c .before .in-layer .ensures) ∙ c .if2 .taken);
       first = λ asc. letter-first (now (a .high)) (now (a .low)) (a .n) (a .a) (a .layer) (p .loop .i) _ _ (p .loop .inv) within row asc 0;
     }
-
-add-i : tie.Need-add-i Inv-loop μ-loop
-add-i c = search needs
-
-loop-less : tie.Need-loop-less Inv-loop μ-loop
-loop-less c = search needs
 
 loop-again : tie.Need-loop-again Inv-loop μ-loop
 loop-again c =
@@ -117,19 +90,19 @@ first-letter-spec =
     (tie.spec
     Inv-loop
     μ-loop
-    high-of-requires
-    rows-from-requires
+    (λ c κs. search needs)
+    (λ c κs. search needs)
     loop-holds
-    mul-row-of
+    (λ c. search needs)
     element-copy-out-row-of
-    row-of-requires
-    enum-known-from
+    (λ c κs. search needs)
+    (λ c. search needs)
     returns
     returns-2
-    in-layer-requires
-    cast-t19
+    (λ c κs. search needs)
+    (λ c. search needs)
     returns-3
-    add-i
-    loop-less
+    (λ c. search needs)
+    (λ c. search needs)
     loop-again
     returns-4)

@@ -20,27 +20,6 @@ abbrev μ-loop : tie.MeasureT-loop
 loop-holds : tie.Need-loop-holds Inv-loop μ-loop
 loop-holds c = gather-start
 
-take-lowest-requires : tie.Need-take-lowest-requires Inv-loop μ-loop
-take-lowest-requires c κs = search needs
-
-cast-at : tie.Need-cast-at Inv-loop μ-loop
-cast-at c = search needs
-
-mask-at-requires : tie.Need-mask-at-requires Inv-loop μ-loop
-mask-at-requires c κs = search needs
-
-mask-at-requires-2 : tie.Need-mask-at-requires-2 Inv-loop μ-loop
-mask-at-requires-2 c κs = search needs
-
-entered-requires : tie.Need-entered-requires Inv-loop μ-loop
-entered-requires c κs = search needs
-
-set-at-requires : tie.Need-set-at-requires Inv-loop μ-loop
-set-at-requires c κs = search needs
-
-lowest-requires : tie.Need-lowest-requires Inv-loop μ-loop
-lowest-requires c κs = search needs
-
 returns : tie.Need-returns Inv-loop μ-loop
 unfolding graph-of
 returns c =
@@ -82,13 +61,13 @@ first-pass-spec =
     Inv-loop
     μ-loop
     loop-holds
-    take-lowest-requires
-    cast-at
-    mask-at-requires
-    mask-at-requires-2
-    entered-requires
-    set-at-requires
-    lowest-requires
+    (λ c κs. search needs)
+    (λ c. search needs)
+    (λ c κs. search needs)
+    (λ c κs. search needs)
+    (λ c κs. search needs)
+    (λ c κs. search needs)
+    (λ c κs. search needs)
     returns
     loop-less
     loop-again

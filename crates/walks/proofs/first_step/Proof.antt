@@ -19,34 +19,16 @@ ordered s = let a = s .args in InOrder (now (a .high)) (now (a .low)) (a .n) (gr
 abbrev lacking : (s : tie.Start) → ℕ → Type 0
 lacking s k = ordered s → Lacks (s .args .layer) (ways s) (ordered s) k
 
-first-letter-requires : tie.Need-first-letter-requires
-first-letter-requires c κs = search needs
-
-enum-told : tie.Need-enum-told
-enum-told c = search needs
-
 no-letter : (c : tie.After-enum-told) → lacking (c .before .before .before) 0
 no-letter c o = let s = c .before .before .before in lacks (s .args .layer) (ways s) (ordered s) 0 (c .enum-told .given .1) (c .before .before .first-letter .ensures) (o .0)
-
-enum-told-2 : tie.Need-enum-told-2
-enum-told-2 c = search needs
 
 returns : tie.Need-returns
 returns c = let s = c .before .before .before in
     choose-letter (s .args .layer) (ways s) (ordered s) (c .before .before .first-letter .result) (not-nothing (c .enum-told2 .given .1)) (λ o. o .0) (c .before .before .first-letter .ensures)
 
-first-pass-requires : tie.Need-first-pass-requires
-first-pass-requires c κs = search needs
-
-enum-told-3 : tie.Need-enum-told-3
-enum-told-3 c = search needs
-
 no-omega : (c : tie.After-enum-told3) → lacking (c .before .before .before .before .before .before) 1
 unfolding graph-of
 no-omega c o = let s = c .before .before .before .before .before .before in lacks (s .args .layer) (ways s) (ordered s) 1 (c .enum-told3 .given .1) (c .before .before .first-pass .ensures) (o .1)
-
-enum-told-4 : tie.Need-enum-told-4
-enum-told-4 c = search needs
 
 returns-2 : tie.Need-returns-2
 unfolding graph-of
@@ -54,27 +36,15 @@ returns-2 c = let s = c .before .before .before .before .before .before in
     choose-omega (s .args .layer) (ways s) (ordered s) (no-letter (c .before .before .before)) (c .before .before .first-pass .result) (not-nothing (c .enum-told4 .given .1)) (λ o. o .1)
     (c .before .before .first-pass .ensures)
 
-first-pass-requires-2 : tie.Need-first-pass-requires-2
-first-pass-requires-2 c κs = search needs
-
-enum-told-5 : tie.Need-enum-told-5
-enum-told-5 c = search needs
-
 no-back : (c : tie.After-enum-told5) → lacking (c .before .before .before .before .before .before .before .before .before) 2
 unfolding graph-of
 no-back c o = let s = c .before .before .before .before .before .before .before .before .before in lacks (s .args .layer) (ways s) (ordered s) 2 (c .enum-told5 .given .1) (c .before .before .first-pass2 .ensures) (o .1)
-
-enum-told-6 : tie.Need-enum-told-6
-enum-told-6 c = search needs
 
 returns-3 : tie.Need-returns-3
 unfolding graph-of
 returns-3 c = let s = c .before .before .before .before .before .before .before .before .before in
     choose-back (s .args .layer) (ways s) (ordered s) (no-letter (c .before .before .before .before .before .before)) (no-omega (c .before .before .before)) (c .before .before .first-pass2 .result) (not-nothing (c .enum-told6 .given .1)) (λ o. o .1)
     (c .before .before .first-pass2 .ensures)
-
-first-pass-requires-3 : tie.Need-first-pass-requires-3
-first-pass-requires-3 c κs = search needs
 
 returns-4 : tie.Need-returns-4
 unfolding graph-of
@@ -85,17 +55,17 @@ pub first-step-spec : {M : Type 1} → statement M
 first-step-spec =
     tie.close
     (tie.spec
-    first-letter-requires
-    enum-told
-    enum-told-2
+    (λ c κs. search needs)
+    (λ c. search needs)
+    (λ c. search needs)
     returns
-    first-pass-requires
-    enum-told-3
-    enum-told-4
+    (λ c κs. search needs)
+    (λ c. search needs)
+    (λ c. search needs)
     returns-2
-    first-pass-requires-2
-    enum-told-5
-    enum-told-6
+    (λ c κs. search needs)
+    (λ c. search needs)
+    (λ c. search needs)
     returns-3
-    first-pass-requires-3
+    (λ c κs. search needs)
     returns-4)

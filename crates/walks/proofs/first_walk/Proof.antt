@@ -17,12 +17,6 @@ use Rattle.walks.proofs.Answers.{answer-none, answer-best}
 use Rattle.walks.proofs.first_walk.Statement.{statement}
 use Rattle.walks.proofs.first_walk.Tie as tie
 
-spread-requires : tie.Need-spread-requires
-spread-requires c κs = search needs
-
-enum-known-d : tie.Need-enum-known-d
-enum-known-d c = search needs
-
 -- the layers that `spread` leaves
 abbrev left-by : tie.After-known-told → List ℕ
 left-by c = c .before .before .before .spread .last .1 .1 .1 .1 .0
@@ -37,9 +31,6 @@ mul-intersection c = omega (arith, laid c .0)
 array-read-intersection : tie.Need-array-read-intersection
 array-read-intersection c = laid c .0
 
-intersection-requires : tie.Need-intersection-requires
-intersection-requires c κs = search needs
-
 lowest-requires : tie.Need-lowest-requires
 lowest-requires c κs =
     let a = c .before .before .before .before .before .before .args in
@@ -52,12 +43,6 @@ lowest-requires c κs =
 
 follow-requires : tie.Need-follow-requires
 follow-requires c κs = (search needs, member-lt (c .before .lowest .result) (c .before .before .intersection .result) (c .before .lowest .ensures .0), omega (arith, laid (c .before .before .before) .0))
-
-enum-told : tie.Need-enum-told
-enum-told c = search needs
-
-no-walk-requires : tie.Need-no-walk-requires
-no-walk-requires c κs = search needs
 
 returns : tie.Need-returns
 returns c =
@@ -95,14 +80,14 @@ pub first-walk-spec : {M : Type 1} → statement M
 first-walk-spec =
     tie.close
     (tie.spec
-    spread-requires
-    enum-known-d
+    (λ c κs. search needs)
+    (λ c. search needs)
     mul-intersection
     array-read-intersection
-    intersection-requires
+    (λ c κs. search needs)
     lowest-requires
     follow-requires
-    enum-told
-    no-walk-requires
+    (λ c. search needs)
+    (λ c κs. search needs)
     returns
     returns-2)

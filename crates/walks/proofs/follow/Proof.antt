@@ -30,45 +30,6 @@ loop-holds c = record {
   chosen = λ j h. absurd (omega arith);
 }
 
-sub-layer : tie.Need-sub-layer Inv-loop μ-loop
-sub-layer c = search needs
-
-sub-layer-2 : tie.Need-sub-layer-2 Inv-loop μ-loop
-sub-layer-2 c = search needs
-
-mul-layer : tie.Need-mul-layer Inv-loop μ-loop
-mul-layer c = search needs
-
-element-copy-out-layer : tie.Need-element-copy-out-layer Inv-loop μ-loop
-element-copy-out-layer c = search needs
-
-first-step-requires : tie.Need-first-step-requires Inv-loop μ-loop
-first-step-requires c κs = search needs
-
-enum-known-step : tie.Need-enum-known-step Inv-loop μ-loop
-enum-known-step c = search needs
-
-enum-told : tie.Need-enum-told Inv-loop μ-loop
-enum-told c = search needs
-
-array-write-kinds : tie.Need-array-write-kinds Inv-loop μ-loop
-array-write-kinds c = search needs
-
-mul-values : tie.Need-mul-values Inv-loop μ-loop
-mul-values c = search needs
-
-array-write-values : tie.Need-array-write-values Inv-loop μ-loop
-array-write-values c = search needs
-
-array-write-targets : tie.Need-array-write-targets Inv-loop μ-loop
-array-write-targets c = search needs
-
-add-i : tie.Need-add-i Inv-loop μ-loop
-add-i c = search needs
-
-loop-less : tie.Need-loop-less Inv-loop μ-loop
-loop-less c = search needs
-
 loop-again : tie.Need-loop-again Inv-loop μ-loop
 loop-again c =
     let p = c .before .before .before .before .before .before in
@@ -101,19 +62,19 @@ follow-spec =
     Inv-loop
     μ-loop
     loop-holds
-    sub-layer
-    sub-layer-2
-    mul-layer
-    element-copy-out-layer
-    first-step-requires
-    enum-known-step
-    enum-told
-    array-write-kinds
-    mul-values
-    array-write-values
-    array-write-targets
-    add-i
-    loop-less
+    (λ c. search needs)
+    (λ c. search needs)
+    (λ c. search needs)
+    (λ c. search needs)
+    (λ c κs. search needs)
+    (λ c. search needs)
+    (λ c. search needs)
+    (λ c. search needs)
+    (λ c. search needs)
+    (λ c. search needs)
+    (λ c. search needs)
+    (λ c. search needs)
+    (λ c. search needs)
     loop-again
     returns
     returns-2)

@@ -8,14 +8,8 @@ use Rattle.masks.proofs.Member.{true-or-false, member-lt}
 use Rattle.walks.proofs.in_layer.Statement.{statement}
 use Rattle.walks.proofs.in_layer.Tie as tie
 
-has-requires : tie.Need-has-requires
-has-requires c κs = search needs
-
-returns : tie.Need-returns
-returns c = search needs
-
 returns-2 : tie.Need-returns-2
 returns-2 c = sym (⊎-elim (λ h. absurd (omega (arith, member-lt (c .before .args .t) (c .before .args .layer) h))) (λ e. e) (true-or-false (member (c .before .args .t) (c .before .args .layer))))
 
 pub in-layer-spec : {M : Type 1} → statement M
-in-layer-spec = tie.close (tie.spec has-requires returns returns-2)
+in-layer-spec = tie.close (tie.spec (λ c κs. search needs) (λ c. search needs) returns-2)

@@ -7,15 +7,6 @@ use borrow.Author.Needs.{needs}
 use Rattle.walks.proofs.rows_from.Statement.{statement}
 use Rattle.walks.proofs.rows_from.Tie as tie
 
-find-key-requires : tie.Need-find-key-requires
-find-key-requires c κs = search needs
-
-enum-known-i : tie.Need-enum-known-i
-enum-known-i c = search needs
-
-enum-known-i-2 : tie.Need-enum-known-i-2
-enum-known-i-2 c = search needs
-
 returns : tie.Need-returns
 returns c =
     let a = c .before .before .before .before .before .before .args in
@@ -28,4 +19,4 @@ returns-2 c =
 
 pub rows-from-spec : {M : Type 1} → statement M
 rows-from-spec =
-    tie.close (tie.spec find-key-requires enum-known-i enum-known-i-2 returns returns-2)
+    tie.close (tie.spec (λ c κs. search needs) (λ c. search needs) (λ c. search needs) returns returns-2)

@@ -28,9 +28,6 @@ abbrev μ-loop : tie.MeasureT-loop
 returns : tie.Need-returns Inv-loop μ-loop
 returns c = (0, (λ s h. subst (λ (x : ℕ). s ∈ x) (c .if1 .taken) h), (λ s t e h. absurd (in-none t h)), λ s h. absurd (in-none s h))
 
-element-write-layers : tie.Need-element-write-layers Inv-loop μ-loop
-element-write-layers c = search needs
-
 loop-holds : tie.Need-loop-holds Inv-loop μ-loop
 loop-holds c =
     let finals = c .before .args .finals in
@@ -39,9 +36,6 @@ loop-holds c =
     let here : getD (set layers 0 finals) 0 0 ≡ finals = getD-set-same layers 0 finals 0 (rw size (lit< tt)) in
     let some : ones 0 < ones finals = ones-grows 0 finals (lit< tt) (c .before .fits .finals .fits) (λ t h. absurd (in-none t h)) (λ e. c .if1 .left (sym e)) in
     (length-set layers 0 finals ∙ size, sym here, c .before .fits .finals .fits, omega arith, spread-start (set layers 0 finals) here)
-
-intersection-requires : tie.Need-intersection-requires Inv-loop μ-loop
-intersection-requires c κs = search needs
 
 -- the last layer and the initials have no state in common
 unmet : (c : tie.Else2 Inv-loop μ-loop) → (s : ℕ) → s ∈ getD (c .before .before .loop .layers) (c .before .before .loop .k) 0 → s ∈ c .before .before .before .before .args .initials → ⊥
@@ -63,16 +57,10 @@ returns-2 c =
       at .inv .4 .apart,
     )
 
-targets-requires : tie.Need-targets-requires Inv-loop μ-loop
-targets-requires c κs = search needs
-
 -- the states with a step to the last layer
 onward : (c : tie.After-targets Inv-loop μ-loop) → let a = c .before .before .before .before .before .args in let at = c .before .before .before .loop in
     Onward (λ t s. Ahead (graph-of (a .back .now)) (a .force) s t) (getD (at .layers) (at .k) 0) (c .targets .result)
 onward c = rw (sym (c .before .before .before .loop .inv .1)) (c .targets .ensures)
-
-difference-requires : tie.Need-difference-requires Inv-loop μ-loop
-difference-requires c κs = search needs
 
 returns-3 : tie.Need-returns-3 Inv-loop μ-loop
 returns-3 c =
@@ -80,9 +68,6 @@ returns-3 c =
     let at = d .before .before .before .before .loop in
     spread-end (at .layers) (at .k) (at .seen) (d .before .targets .result) (d .difference .result) (at .inv .4) (onward (d .before)) (d .difference .ensures)
     (unmet (d .before .before)) (at .layers) (c .if3 .taken)
-
-union-requires : tie.Need-union-requires Inv-loop μ-loop
-union-requires c κs = search needs
 
 -- a layer more is a state more
 grows : (c : tie.After-union Inv-loop μ-loop) → c .before .before .before .before .before .before .loop .k + 1 < ones (c .union .result)
@@ -134,14 +119,14 @@ spread-spec =
     Inv-loop
     μ-loop
     returns
-    element-write-layers
+    (λ c. search needs)
     loop-holds
-    intersection-requires
+    (λ c κs. search needs)
     returns-2
-    targets-requires
-    difference-requires
+    (λ c κs. search needs)
+    (λ c κs. search needs)
     returns-3
-    union-requires
+    (λ c κs. search needs)
     add-k
     mul-layers
     element-write-layers-2

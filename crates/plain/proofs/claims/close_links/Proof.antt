@@ -13,9 +13,6 @@ Inv-loop links₀ k₀ links k = (k ≤ 144) × (length links ≡ length links�
 abbrev μ-loop : tie.MeasureT-loop
 μ-loop links₀ k₀ links k = 144 - k
 
-loop-holds : tie.Need-loop-holds Inv-loop μ-loop
-loop-holds c = search needs
-
 middle-added-requires : tie.Need-middle-added-requires Inv-loop μ-loop
 middle-added-requires c κs = tt
 
@@ -28,12 +25,6 @@ add-k c = omega arith
 loop-less : tie.Need-loop-less Inv-loop μ-loop
 loop-less c = omega arith
 
-loop-again : tie.Need-loop-again Inv-loop μ-loop
-loop-again c = search needs
-
-same-length : tie.Need-same-length Inv-loop μ-loop
-same-length c = search needs
-
 returns : tie.Need-returns Inv-loop μ-loop
 returns c = tt
 
@@ -43,11 +34,11 @@ close-links-spec =
     (tie.spec
     Inv-loop
     μ-loop
-    loop-holds
+    (λ c. search needs)
     middle-added-requires
     put-requires
     add-k
     loop-less
-    loop-again
-    same-length
+    (λ c. search needs)
+    (λ c. search needs)
     returns)

@@ -13,9 +13,6 @@ Inv-loop table₀ n₀ table n = (n ≤ 40) × (length table ≡ length table₀
 abbrev μ-loop : tie.MeasureT-loop
 μ-loop table₀ n₀ table n = 40 - n
 
-loop-holds : tie.Need-loop-holds Inv-loop μ-loop
-loop-holds c = search needs
-
 row-set-requires : tie.Need-row-set-requires Inv-loop μ-loop
 row-set-requires c κs = tt
 
@@ -28,12 +25,6 @@ add-n c = omega arith
 loop-less : tie.Need-loop-less Inv-loop μ-loop
 loop-less c = omega arith
 
-loop-again : tie.Need-loop-again Inv-loop μ-loop
-loop-again c = search needs
-
-same-length : tie.Need-same-length Inv-loop μ-loop
-same-length c = search needs
-
 returns : tie.Need-returns Inv-loop μ-loop
 returns c = tt
 
@@ -43,11 +34,11 @@ collect-sets-spec =
     (tie.spec
     Inv-loop
     μ-loop
-    loop-holds
+    (λ c. search needs)
     row-set-requires
     keep-set-requires
     add-n
     loop-less
-    loop-again
-    same-length
+    (λ c. search needs)
+    (λ c. search needs)
     returns)

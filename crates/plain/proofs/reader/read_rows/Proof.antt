@@ -13,9 +13,6 @@ Inv-loop batch table₀ place₀ n₀ table place n = (n ≤ 40) × (length tabl
 abbrev μ-loop : tie.MeasureT-loop
 μ-loop batch table₀ place₀ n₀ table place n = 40 - n
 
-loop-holds : tie.Need-loop-holds Inv-loop μ-loop
-loop-holds c = search needs
-
 byte-requires : tie.Need-byte-requires Inv-loop μ-loop
 byte-requires c κs = tt
 
@@ -37,12 +34,6 @@ add-n c = omega arith
 loop-less : tie.Need-loop-less Inv-loop μ-loop
 loop-less c = omega arith
 
-loop-again : tie.Need-loop-again Inv-loop μ-loop
-loop-again c = search needs
-
-same-length : tie.Need-same-length Inv-loop μ-loop
-same-length c = search needs
-
 returns : tie.Need-returns Inv-loop μ-loop
 returns c = tt
 
@@ -52,7 +43,7 @@ read-rows-spec =
     (tie.spec
     Inv-loop
     μ-loop
-    loop-holds
+    (λ c. search needs)
     byte-requires
     row-at-requires
     put-line-requires
@@ -60,6 +51,6 @@ read-rows-spec =
     wrapping-add-usize-requires
     add-n
     loop-less
-    loop-again
-    same-length
+    (λ c. search needs)
+    (λ c. search needs)
     returns)

@@ -13,9 +13,6 @@ Inv-loop table₀ k any₀ i₀ table any i = (i ≤ 16) × (length table ≡ le
 abbrev μ-loop : tie.MeasureT-loop
 μ-loop table₀ k any₀ i₀ table any i = 16 - i
 
-loop-holds : tie.Need-loop-holds Inv-loop μ-loop
-loop-holds c = search needs
-
 test-set-requires : tie.Need-test-set-requires Inv-loop μ-loop
 test-set-requires c κs = tt
 
@@ -24,12 +21,6 @@ add-i c = omega arith
 
 loop-less : tie.Need-loop-less Inv-loop μ-loop
 loop-less c = omega arith
-
-loop-again : tie.Need-loop-again Inv-loop μ-loop
-loop-again c = search needs
-
-same-length : tie.Need-same-length Inv-loop μ-loop
-same-length c = search needs
 
 returns : tie.Need-returns Inv-loop μ-loop
 returns c = tt
@@ -40,10 +31,10 @@ round-spec =
     (tie.spec
     Inv-loop
     μ-loop
-    loop-holds
+    (λ c. search needs)
     test-set-requires
     add-i
     loop-less
-    loop-again
-    same-length
+    (λ c. search needs)
+    (λ c. search needs)
     returns)

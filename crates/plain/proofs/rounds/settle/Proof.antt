@@ -13,17 +13,11 @@ Inv-loop table₀ k₀ table k = (k ≤ 34) × (length table ≡ length table₀
 abbrev μ-loop : tie.MeasureT-loop
 μ-loop table₀ k₀ table k = 34 - k
 
-loop-holds : tie.Need-loop-holds Inv-loop μ-loop
-loop-holds c = search needs
-
 make-steps-requires : tie.Need-make-steps-requires Inv-loop μ-loop
 make-steps-requires c κs = tt
 
 is-accepted-requires : tie.Need-is-accepted-requires Inv-loop μ-loop
 is-accepted-requires c κs = tt
-
-same-length : tie.Need-same-length Inv-loop μ-loop
-same-length c = search needs
 
 returns : tie.Need-returns Inv-loop μ-loop
 returns c = tt
@@ -37,17 +31,8 @@ round-requires c κs = tt
 loop-less : tie.Need-loop-less Inv-loop μ-loop
 loop-less c = omega arith
 
-loop-again : tie.Need-loop-again Inv-loop μ-loop
-loop-again c = search needs
-
-same-length-2 : tie.Need-same-length-2 Inv-loop μ-loop
-same-length-2 c = search needs
-
 returns-2 : tie.Need-returns-2 Inv-loop μ-loop
 returns-2 c = tt
-
-same-length-3 : tie.Need-same-length-3 Inv-loop μ-loop
-same-length-3 c = search needs
 
 returns-3 : tie.Need-returns-3 Inv-loop μ-loop
 returns-3 c = tt
@@ -58,16 +43,16 @@ settle-spec =
     (tie.spec
     Inv-loop
     μ-loop
-    loop-holds
+    (λ c. search needs)
     make-steps-requires
     is-accepted-requires
-    same-length
+    (λ c. search needs)
     returns
     add-k
     round-requires
     loop-less
-    loop-again
-    same-length-2
+    (λ c. search needs)
+    (λ c. search needs)
     returns-2
-    same-length-3
+    (λ c. search needs)
     returns-3)

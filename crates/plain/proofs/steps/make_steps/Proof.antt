@@ -13,9 +13,6 @@ Inv-loop table₀ n₀ k₀ table n k = (k ≤ 2080) × (length table ≡ length
 abbrev μ-loop : tie.MeasureT-loop
 μ-loop table₀ n₀ k₀ table n k = 2080 - k
 
-loop-holds : tie.Need-loop-holds Inv-loop μ-loop
-loop-holds c = search needs
-
 step-of-requires : tie.Need-step-of-requires Inv-loop μ-loop
 step-of-requires c κs = tt
 
@@ -28,12 +25,6 @@ add-k c = omega arith
 loop-less : tie.Need-loop-less Inv-loop μ-loop
 loop-less c = omega arith
 
-loop-again : tie.Need-loop-again Inv-loop μ-loop
-loop-again c = search needs
-
-same-length : tie.Need-same-length Inv-loop μ-loop
-same-length c = search needs
-
 returns : tie.Need-returns Inv-loop μ-loop
 returns c = tt
 
@@ -43,11 +34,11 @@ make-steps-spec =
     (tie.spec
     Inv-loop
     μ-loop
-    loop-holds
+    (λ c. search needs)
     step-of-requires
     add-step-requires
     add-k
     loop-less
-    loop-again
-    same-length
+    (λ c. search needs)
+    (λ c. search needs)
     returns)

@@ -13,9 +13,6 @@ Inv-loop out₀ place table end₀ n₀ out end n = (n ≤ 544) × (length out �
 abbrev μ-loop : tie.MeasureT-loop
 μ-loop out₀ place table end₀ n₀ out end n = 544 - n
 
-loop-holds : tie.Need-loop-holds Inv-loop μ-loop
-loop-holds c = search needs
-
 add-put-opening : tie.Need-add-put-opening Inv-loop μ-loop
 add-put-opening c = omega arith
 
@@ -34,12 +31,6 @@ add-n c = omega arith
 loop-less : tie.Need-loop-less Inv-loop μ-loop
 loop-less c = omega arith
 
-loop-again : tie.Need-loop-again Inv-loop μ-loop
-loop-again c = search needs
-
-same-length : tie.Need-same-length Inv-loop μ-loop
-same-length c = search needs
-
 returns : tie.Need-returns Inv-loop μ-loop
 returns c = tt
 
@@ -49,13 +40,13 @@ put-openings-spec =
     (tie.spec
     Inv-loop
     μ-loop
-    loop-holds
+    (λ c. search needs)
     add-put-opening
     put-opening-requires
     add-put-opening-2
     put-opening-requires-2
     add-n
     loop-less
-    loop-again
-    same-length
+    (λ c. search needs)
+    (λ c. search needs)
     returns)

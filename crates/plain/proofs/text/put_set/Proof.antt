@@ -16,14 +16,8 @@ abbrev μ-loop : tie.MeasureT-loop
 put-word-requires : tie.Need-put-word-requires Inv-loop μ-loop
 put-word-requires c κs = tt
 
-loop-holds : tie.Need-loop-holds Inv-loop μ-loop
-loop-holds c = search needs
-
 sub-left : tie.Need-sub-left Inv-loop μ-loop
 sub-left c = omega arith
-
-shr-digit : tie.Need-shr-digit Inv-loop μ-loop
-shr-digit c = search needs
 
 digit-requires : tie.Need-digit-requires Inv-loop μ-loop
 digit-requires c κs = tt
@@ -33,12 +27,6 @@ put-byte-requires c κs = tt
 
 loop-less : tie.Need-loop-less Inv-loop μ-loop
 loop-less c = omega arith
-
-loop-again : tie.Need-loop-again Inv-loop μ-loop
-loop-again c = search needs
-
-same-length : tie.Need-same-length Inv-loop μ-loop
-same-length c = search needs
 
 returns : tie.Need-returns Inv-loop μ-loop
 returns c = tt
@@ -50,12 +38,12 @@ put-set-spec =
     Inv-loop
     μ-loop
     put-word-requires
-    loop-holds
+    (λ c. search needs)
     sub-left
-    shr-digit
+    (λ c. search needs)
     digit-requires
     put-byte-requires
     loop-less
-    loop-again
-    same-length
+    (λ c. search needs)
+    (λ c. search needs)
     returns)

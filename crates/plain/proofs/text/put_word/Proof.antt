@@ -13,17 +13,11 @@ Inv-loop out₀ place word end₀ i₀ out end i = (i ≤ 24) × (length out ≡
 abbrev μ-loop : tie.MeasureT-loop
 μ-loop out₀ place word end₀ i₀ out end i = 24 - i
 
-loop-holds : tie.Need-loop-holds Inv-loop μ-loop
-loop-holds c = search needs
-
 wrapping-add-usize-requires : tie.Need-wrapping-add-usize-requires Inv-loop μ-loop
 wrapping-add-usize-requires c κs = tt
 
 word-byte-requires : tie.Need-word-byte-requires Inv-loop μ-loop
 word-byte-requires c κs = tt
-
-same-length : tie.Need-same-length Inv-loop μ-loop
-same-length c = search needs
 
 returns : tie.Need-returns Inv-loop μ-loop
 returns c = tt
@@ -37,12 +31,6 @@ add-i c = omega arith
 loop-less : tie.Need-loop-less Inv-loop μ-loop
 loop-less c = omega arith
 
-loop-again : tie.Need-loop-again Inv-loop μ-loop
-loop-again c = search needs
-
-same-length-2 : tie.Need-same-length-2 Inv-loop μ-loop
-same-length-2 c = search needs
-
 returns-2 : tie.Need-returns-2 Inv-loop μ-loop
 returns-2 c = tt
 
@@ -52,14 +40,14 @@ put-word-spec =
     (tie.spec
     Inv-loop
     μ-loop
-    loop-holds
+    (λ c. search needs)
     wrapping-add-usize-requires
     word-byte-requires
-    same-length
+    (λ c. search needs)
     returns
     put-byte-requires
     add-i
     loop-less
-    loop-again
-    same-length-2
+    (λ c. search needs)
+    (λ c. search needs)
     returns-2)

@@ -12,9 +12,6 @@ Inv-loop out₀ place table start count end₀ s₀ left₀ out end s left = len
 abbrev μ-loop : tie.MeasureT-loop
 μ-loop out₀ place table start count end₀ s₀ left₀ out end s left = left
 
-loop-holds : tie.Need-loop-holds Inv-loop μ-loop
-loop-holds c = search needs
-
 sub-left : tie.Need-sub-left Inv-loop μ-loop
 sub-left c = omega arith
 
@@ -39,12 +36,6 @@ put-step-requires c κs = tt
 loop-less : tie.Need-loop-less Inv-loop μ-loop
 loop-less c = omega arith
 
-loop-again : tie.Need-loop-again Inv-loop μ-loop
-loop-again c = search needs
-
-same-length : tie.Need-same-length Inv-loop μ-loop
-same-length c = search needs
-
 returns : tie.Need-returns Inv-loop μ-loop
 returns c = tt
 
@@ -54,7 +45,7 @@ put-steps-spec =
     (tie.spec
     Inv-loop
     μ-loop
-    loop-holds
+    (λ c. search needs)
     sub-left
     near-requires
     first-step-requires
@@ -63,6 +54,6 @@ put-steps-spec =
     cell-requires-3
     put-step-requires
     loop-less
-    loop-again
-    same-length
+    (λ c. search needs)
+    (λ c. search needs)
     returns)

@@ -35,9 +35,6 @@ mul-row-of-2 c = omega arith
 element-copy-out-row-of-2 : tie.Need-element-copy-out-row-of-2 Inv-loop μ-loop
 element-copy-out-row-of-2 c = omega arith
 
-row-of-requires : tie.Need-row-of-requires Inv-loop μ-loop
-row-of-requires c κs = search needs
-
 row-at-requires : tie.Need-row-at-requires Inv-loop μ-loop
 row-at-requires c κs =
     let r = c .before in
@@ -81,7 +78,7 @@ put-rows-spec =
     element-copy-out-row-of
     mul-row-of-2
     element-copy-out-row-of-2
-    row-of-requires
+    (λ c κs. search needs)
     row-at-requires
     add-next
     loop-less

@@ -32,12 +32,6 @@ mul-row-of-2 c = omega arith
 element-copy-out-row-of-2 : tie.Need-element-copy-out-row-of-2 Inv-loop μ-loop
 element-copy-out-row-of-2 c = omega arith
 
-row-of-requires : tie.Need-row-of-requires Inv-loop μ-loop
-row-of-requires c κs = search needs
-
-row-len-requires : tie.Need-row-len-requires Inv-loop μ-loop
-row-len-requires c κs = search needs
-
 add-len : tie.Need-add-len Inv-loop μ-loop
 add-len c = omega (arith, c .before .before .before .before .before .before .pre, c .row-len .ensures, row-short (c .before .row-of .result))
 
@@ -72,8 +66,8 @@ rows-len-spec =
     element-copy-out-row-of
     mul-row-of-2
     element-copy-out-row-of-2
-    row-of-requires
-    row-len-requires
+    (λ c κs. search needs)
+    (λ c κs. search needs)
     add-len
     add-i
     loop-less

@@ -7,20 +7,11 @@ use borrow.Author.Needs.{needs}
 use Rattle.printing.proofs.saved.save.Statement.{statement}
 use Rattle.printing.proofs.saved.save.Tie as tie
 
-rows-len-requires : tie.Need-rows-len-requires
-rows-len-requires c κs = search needs
-
 returns : tie.Need-returns
 returns c =
     let t = c .before in
     let a = t .before .before .args in
     tells-short (batch-of (row-list (a .high .now) (a .low .now) (a .n))) (a .buffer .now) (omega (arith, t .rows-len .ensures, c .if1 .taken))
-
-put-rows-requires : tie.Need-put-rows-requires
-put-rows-requires c κs = search needs
-
-same-length : tie.Need-same-length
-same-length c = search needs
 
 returns-2 : tie.Need-returns-2
 returns-2 c =
@@ -31,4 +22,4 @@ returns-2 c =
     tells-text (batch-of (row-list (a .high .now) (a .low .now) (a .n))) (a .buffer .now) (omega (arith, t .rows-len .ensures, e .if1 .left)) (w .put-rows .ensures)
 
 pub save-spec : {M : Type 1} → statement M
-save-spec = tie.close (tie.spec rows-len-requires returns put-rows-requires same-length returns-2)
+save-spec = tie.close (tie.spec (λ c κs. search needs) returns (λ c κs. search needs) (λ c. search needs) returns-2)

@@ -21,9 +21,6 @@ Inv-loop batch₀ place start states first upwards steps end₀ word₀ s₀ lef
 abbrev μ-loop : tie.MeasureT-loop
 μ-loop batch₀ place start states first upwards steps end₀ word₀ s₀ left₀ batch end word s left = left
 
-loop-holds : tie.Need-loop-holds Inv-loop μ-loop
-loop-holds c = search needs
-
 up-requires : tie.Need-up-requires Inv-loop μ-loop
 up-requires c κs = tt
 
@@ -45,12 +42,6 @@ sub-left c = omega arith
 loop-less : tie.Need-loop-less Inv-loop μ-loop
 loop-less c = omega arith
 
-loop-again : tie.Need-loop-again Inv-loop μ-loop
-loop-again c = search needs
-
-same-length : tie.Need-same-length Inv-loop μ-loop
-same-length c = search needs
-
 returns : tie.Need-returns Inv-loop μ-loop
 returns c = tt
 
@@ -60,7 +51,7 @@ put-path-spec =
     (tie.spec
     Inv-loop
     μ-loop
-    loop-holds
+    (λ c. search needs)
     up-requires
     down-requires
     letter-requires
@@ -68,6 +59,6 @@ put-path-spec =
     next-requires
     sub-left
     loop-less
-    loop-again
-    same-length
+    (λ c. search needs)
+    (λ c. search needs)
     returns)

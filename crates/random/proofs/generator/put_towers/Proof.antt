@@ -21,9 +21,6 @@ abbrev μ-loop : tie.MeasureT-loop
 with-requires : tie.Need-with-requires Inv-loop μ-loop
 with-requires c κs = tt
 
-loop-holds : tie.Need-loop-holds Inv-loop μ-loop
-loop-holds c = search needs
-
 put-return-requires : tie.Need-put-return-requires Inv-loop μ-loop
 put-return-requires c κs = tt
 
@@ -51,12 +48,6 @@ sub-left c = omega arith
 loop-less : tie.Need-loop-less Inv-loop μ-loop
 loop-less c = omega arith
 
-loop-again : tie.Need-loop-again Inv-loop μ-loop
-loop-again c = search needs
-
-same-length : tie.Need-same-length Inv-loop μ-loop
-same-length c = search needs
-
 returns : tie.Need-returns Inv-loop μ-loop
 returns c = tt
 
@@ -67,7 +58,7 @@ put-towers-spec =
     Inv-loop
     μ-loop
     with-requires
-    loop-holds
+    (λ c. search needs)
     put-return-requires
     put-gates-requires
     new-state-requires
@@ -77,6 +68,6 @@ put-towers-spec =
     grown-requires
     sub-left
     loop-less
-    loop-again
-    same-length
+    (λ c. search needs)
+    (λ c. search needs)
     returns)

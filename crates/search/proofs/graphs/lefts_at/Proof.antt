@@ -4,12 +4,9 @@ use Rattle.search.specs.Graph.{graph-of}
 use Rattle.search.proofs.graphs.lefts_at.Statement.{statement}
 use Rattle.search.proofs.graphs.lefts_at.Tie as tie
 
-mask-at-requires : tie.Need-mask-at-requires
-mask-at-requires c κs = search needs
-
 returns : tie.Need-returns
 unfolding graph-of
 returns c = c .mask-at .ensures
 
 pub lefts-at-spec : {M : Type 1} → statement M
-lefts-at-spec = tie.close (tie.spec mask-at-requires returns)
+lefts-at-spec = tie.close (tie.spec (λ c κs. search needs) returns)

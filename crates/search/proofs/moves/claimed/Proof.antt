@@ -4,17 +4,8 @@ use borrow.Author.Needs.{needs}
 use Rattle.search.proofs.moves.claimed.Statement.{statement}
 use Rattle.search.proofs.moves.claimed.Tie as tie
 
-looping-requires : tie.Need-looping-requires
-looping-requires c κs = search needs
-
-mixing-requires : tie.Need-mixing-requires
-mixing-requires c κs = search needs
-
-union-requires : tie.Need-union-requires
-union-requires c κs = search needs
-
 returns : tie.Need-returns
 returns c = onward-or (c .before .before .before .args .m) _ _ (c .union .result) (c .before .before .looping .ensures) (c .before .mixing .ensures) (c .union .ensures)
 
 pub claimed-spec : {M : Type 1} → statement M
-claimed-spec = tie.close (tie.spec looping-requires mixing-requires union-requires returns)
+claimed-spec = tie.close (tie.spec (λ c κs. search needs) (λ c κs. search needs) (λ c κs. search needs) returns)

@@ -21,23 +21,11 @@ abbrev μ-loop : tie.MeasureT-loop
 loop-holds : tie.Need-loop-holds Inv-loop μ-loop
 loop-holds c = gather-start
 
-take-lowest-requires : tie.Need-take-lowest-requires Inv-loop μ-loop
-take-lowest-requires c κs = search needs
-
-cast-set-at : tie.Need-cast-set-at Inv-loop μ-loop
-cast-set-at c = search needs
-
 set-at-requires : tie.Need-set-at-requires Inv-loop μ-loop
 set-at-requires c κs = c .before .take-lowest .ensures .small
 
-is-subset-requires : tie.Need-is-subset-requires Inv-loop μ-loop
-is-subset-requires c κs = search needs
-
 marked-requires : tie.Need-marked-requires Inv-loop μ-loop
 marked-requires c κs = c .before .before .before .take-lowest .ensures .small
-
-union-requires : tie.Need-union-requires Inv-loop μ-loop
-union-requires c κs = search needs
 
 loop-less : tie.Need-loop-less Inv-loop μ-loop
 loop-less c = c .before .before .before .before .before .take-lowest .ensures .fewer
@@ -69,12 +57,12 @@ inside-spec =
     Inv-loop
     μ-loop
     loop-holds
-    take-lowest-requires
-    cast-set-at
+    (λ c κs. search needs)
+    (λ c. search needs)
     set-at-requires
-    is-subset-requires
+    (λ c κs. search needs)
     marked-requires
-    union-requires
+    (λ c κs. search needs)
     loop-less
     loop-again
     returns)

@@ -22,32 +22,14 @@ abbrev μ-loop : tie.MeasureT-loop
 loop-holds : tie.Need-loop-holds Inv-loop μ-loop
 loop-holds c = gather-start
 
-take-lowest-requires : tie.Need-take-lowest-requires Inv-loop μ-loop
-take-lowest-requires c κs = search needs
-
-cast-at : tie.Need-cast-at Inv-loop μ-loop
-cast-at c = search needs
-
 set-at-requires : tie.Need-set-at-requires Inv-loop μ-loop
 set-at-requires c κs = c .before .take-lowest .ensures .small
 
 lefts-at-requires : tie.Need-lefts-at-requires Inv-loop μ-loop
 lefts-at-requires c κs = c .before .before .take-lowest .ensures .small
 
-passed-requires : tie.Need-passed-requires Inv-loop μ-loop
-passed-requires c κs = search needs
-
 rights-at-requires : tie.Need-rights-at-requires Inv-loop μ-loop
 rights-at-requires c κs = c .before .before .before .before .take-lowest .ensures .small
-
-passed-requires-2 : tie.Need-passed-requires-2 Inv-loop μ-loop
-passed-requires-2 c κs = search needs
-
-union-requires : tie.Need-union-requires Inv-loop μ-loop
-union-requires c κs = search needs
-
-union-requires-2 : tie.Need-union-requires-2 Inv-loop μ-loop
-union-requires-2 c κs = search needs
 
 loop-less : tie.Need-loop-less Inv-loop μ-loop
 loop-less c = c .before .before .before .before .before .before .before .before .take-lowest .ensures .fewer
@@ -83,15 +65,15 @@ looping-spec =
     Inv-loop
     μ-loop
     loop-holds
-    take-lowest-requires
-    cast-at
+    (λ c κs. search needs)
+    (λ c. search needs)
     set-at-requires
     lefts-at-requires
-    passed-requires
+    (λ c κs. search needs)
     rights-at-requires
-    passed-requires-2
-    union-requires
-    union-requires-2
+    (λ c κs. search needs)
+    (λ c κs. search needs)
+    (λ c κs. search needs)
     loop-less
     loop-again
     returns)

@@ -7,9 +7,6 @@ use Rattle.masks.proofs.Member.{in-none, not-both, with-same, with-none}
 use Rattle.search.proofs.moves.marked.Statement.{statement}
 use Rattle.search.proofs.moves.marked.Tie as tie
 
-with-requires : tie.Need-with-requires
-with-requires c κs = search needs
-
 returns : tie.Need-returns
 returns c t =
     let i = c .before .before .args .i in
@@ -21,4 +18,4 @@ returns-2 : tie.Need-returns-2
 returns-2 c t = ((λ h. absurd (in-none t h)), λ h. absurd (not-both (h .1) (c .if1 .left)))
 
 pub marked-spec : {M : Type 1} → statement M
-marked-spec = tie.close (tie.spec with-requires returns returns-2)
+marked-spec = tie.close (tie.spec (λ c κs. search needs) returns returns-2)

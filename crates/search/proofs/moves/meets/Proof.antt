@@ -11,9 +11,6 @@ use Rattle.masks.proofs.Member.{in-none, intersection-left, intersection-right,
 use Rattle.search.proofs.moves.meets.Statement.{statement}
 use Rattle.search.proofs.moves.meets.Tie as tie
 
-intersection-requires : tie.Need-intersection-requires
-intersection-requires c κs = search needs
-
 returns : tie.Need-returns
 returns c =
     let a = c .before .args .a in
@@ -30,4 +27,4 @@ returns c =
     pos r n = omega arith
 
 pub meets-spec : {M : Type 1} → statement M
-meets-spec = tie.close (tie.spec intersection-requires returns)
+meets-spec = tie.close (tie.spec (λ c κs. search needs) returns)

@@ -4,21 +4,6 @@ use borrow.Author.Needs.{needs}
 use Rattle.search.proofs.moves.targets.Statement.{statement}
 use Rattle.search.proofs.moves.targets.Tie as tie
 
-intersection-requires : tie.Need-intersection-requires
-intersection-requires c κs = search needs
-
-lettered-requires : tie.Need-lettered-requires
-lettered-requires c κs = search needs
-
-claimed-requires : tie.Need-claimed-requires
-claimed-requires c κs = search needs
-
-union-requires : tie.Need-union-requires
-union-requires c κs = search needs
-
-intersection-requires-2 : tie.Need-intersection-requires-2
-intersection-requires-2 c κs = search needs
-
 returns : tie.Need-returns
 returns c =
     let u = c .before .union in
@@ -33,9 +18,9 @@ pub targets-spec : {M : Type 1} → statement M
 targets-spec =
     tie.close
     (tie.spec
-    intersection-requires
-    lettered-requires
-    claimed-requires
-    union-requires
-    intersection-requires-2
+    (λ c κs. search needs)
+    (λ c κs. search needs)
+    (λ c κs. search needs)
+    (λ c κs. search needs)
+    (λ c κs. search needs)
     returns)

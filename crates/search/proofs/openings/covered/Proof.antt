@@ -6,27 +6,6 @@ use Rattle.search.proofs.Joining.{covered-iff}
 use Rattle.search.proofs.openings.covered.Statement.{statement}
 use Rattle.search.proofs.openings.covered.Tie as tie
 
-reach-requires : tie.Need-reach-requires
-reach-requires c κs = search needs
-
-reach-requires-2 : tie.Need-reach-requires-2
-reach-requires-2 c κs = search needs
-
-intersection-requires : tie.Need-intersection-requires
-intersection-requires c κs = search needs
-
-union-requires : tie.Need-union-requires
-union-requires c κs = search needs
-
-intersection-requires-2 : tie.Need-intersection-requires-2
-intersection-requires-2 c κs = search needs
-
-union-requires-2 : tie.Need-union-requires-2
-union-requires-2 c κs = search needs
-
-is-subset-requires : tie.Need-is-subset-requires
-is-subset-requires c κs = search needs
-
 returns : tie.Need-returns
 returns c =
     let u = c .before .union2 in
@@ -45,11 +24,11 @@ pub covered-spec : {M : Type 1} → statement M
 covered-spec =
     tie.close
     (tie.spec
-    reach-requires
-    reach-requires-2
-    intersection-requires
-    union-requires
-    intersection-requires-2
-    union-requires-2
-    is-subset-requires
+    (λ c κs. search needs)
+    (λ c κs. search needs)
+    (λ c κs. search needs)
+    (λ c κs. search needs)
+    (λ c κs. search needs)
+    (λ c κs. search needs)
+    (λ c κs. search needs)
     returns)

@@ -3,12 +3,6 @@ use borrow.Author.Needs.{needs}
 use Rattle.search.proofs.openings.ends.Statement.{statement}
 use Rattle.search.proofs.openings.ends.Tie as tie
 
-inner-requires : tie.Need-inner-requires
-inner-requires c κs = search needs
-
-targets-requires : tie.Need-targets-requires
-targets-requires c κs = search needs
-
 returns : tie.Need-returns
 returns c = record {
   inner = c .before .inner .result;
@@ -17,4 +11,4 @@ returns c = record {
 }
 
 pub ends-spec : {M : Type 1} → statement M
-ends-spec = tie.close (tie.spec inner-requires targets-requires returns)
+ends-spec = tie.close (tie.spec (λ c κs. search needs) (λ c κs. search needs) returns)

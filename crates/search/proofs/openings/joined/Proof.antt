@@ -13,14 +13,8 @@ use Rattle.search.proofs.openings.joined.Tie as tie
 returns : tie.Need-returns
 returns c = record { to = λ e a b ha hb. absurd (in-none a (rw (c .if1 .taken) at ha)); of = λ h. refl }
 
-lowest-requires : tie.Need-lowest-requires
-lowest-requires c κs = search needs
-
 with-requires : tie.Need-with-requires
 with-requires c κs = member-lt _ _ (c .lowest .ensures .0)
-
-reach-requires : tie.Need-reach-requires
-reach-requires c κs = search needs
 
 returns-2 : tie.Need-returns-2
 returns-2 c =
@@ -33,9 +27,6 @@ returns-2 c =
       of = λ h. absurd (c .if2 .taken (reaches-all (start .args .p) (low .result) (w .result) (r .result) (w .ensures) (r .ensures)
           (λ a b e. e .end) (start .fits .p .fits) (r .ok) (λ t. h _ t (low .ensures .0))));
     }
-
-reach-requires-2 : tie.Need-reach-requires-2
-reach-requires-2 c κs = search needs
 
 returns-3 : tie.Need-returns-3
 returns-3 c =
@@ -58,9 +49,9 @@ joined-spec =
     tie.close
     (tie.spec
     returns
-    lowest-requires
+    (λ c κs. search needs)
     with-requires
-    reach-requires
+    (λ c κs. search needs)
     returns-2
-    reach-requires-2
+    (λ c κs. search needs)
     returns-3)

@@ -6,9 +6,6 @@ use Rattle.masks.proofs.Member.{not-both}
 use Rattle.search.proofs.openings.loop_opens.Statement.{statement}
 use Rattle.search.proofs.openings.loop_opens.Tie as tie
 
-joined-requires : tie.Need-joined-requires
-joined-requires c κs = search needs
-
 returns : tie.Need-returns
 returns c = iff· (λ h. (c .before .if1 .taken, h)) (λ h. h .1) (c .joined .ensures)
 
@@ -16,4 +13,4 @@ returns-2 : tie.Need-returns-2
 returns-2 c = record { to = λ e. absurd (false≢true e); of = λ h. absurd (not-both (h .0) (c .if1 .left)) }
 
 pub loop-opens-spec : {M : Type 1} → statement M
-loop-opens-spec = tie.close (tie.spec joined-requires returns returns-2)
+loop-opens-spec = tie.close (tie.spec (λ c κs. search needs) returns returns-2)

@@ -9,12 +9,6 @@ use Rattle.search.proofs.openings.may_loop.Tie as tie
 returns : tie.Need-returns
 returns c = record { to = λ e. absurd (false≢true e); of = λ h. absurd (not-both (c .if1 .taken) (h .0)) }
 
-intersection-requires : tie.Need-intersection-requires
-intersection-requires c κs = search needs
-
-is-subset-requires : tie.Need-is-subset-requires
-is-subset-requires c κs = search needs
-
 returns-2 : tie.Need-returns-2
 returns-2 c =
     let args = c .before .before .before .args in
@@ -27,4 +21,4 @@ returns-2 c =
     (λ f s h. intersection-both a b r is s (f .1 .0 s h) (f .1 .1 s h)) (c .is-subset .ensures)
 
 pub may-loop-spec : {M : Type 1} → statement M
-may-loop-spec = tie.close (tie.spec returns intersection-requires is-subset-requires returns-2)
+may-loop-spec = tie.close (tie.spec returns (λ c κs. search needs) (λ c κs. search needs) returns-2)

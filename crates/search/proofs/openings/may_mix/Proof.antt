@@ -21,18 +21,6 @@ returns-3 c =
     let a = c .before .before .before .args in
     iff· (λ h. (c .before .before .if1 .left, h)) (λ h. h .1) (unthreaded (a .p) (a .m) (a .n) (a .to) (a .from) (search needs) (inr (c .if3 .taken)))
 
-union-requires : tie.Need-union-requires
-union-requires c κs = search needs
-
-union-requires-2 : tie.Need-union-requires-2
-union-requires-2 c κs = search needs
-
-intersection-requires : tie.Need-intersection-requires
-intersection-requires c κs = search needs
-
-is-subset-requires : tie.Need-is-subset-requires
-is-subset-requires c κs = search needs
-
 returns-4 : tie.Need-returns-4
 returns-4 c =
     let both = c .before .intersection in
@@ -53,8 +41,8 @@ may-mix-spec =
     returns
     returns-2
     returns-3
-    union-requires
-    union-requires-2
-    intersection-requires
-    is-subset-requires
+    (λ c κs. search needs)
+    (λ c κs. search needs)
+    (λ c κs. search needs)
+    (λ c κs. search needs)
     returns-4)

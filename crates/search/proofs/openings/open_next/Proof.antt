@@ -26,21 +26,6 @@ loop-holds c = (
   },
 )
 
-mul-opened-at : tie.Need-mul-opened-at Inv-loop μ-loop
-mul-opened-at c = search needs
-
-element-copy-out-opened-at : tie.Need-element-copy-out-opened-at Inv-loop μ-loop
-element-copy-out-opened-at c = search needs
-
-mul-opened-at-2 : tie.Need-mul-opened-at-2 Inv-loop μ-loop
-mul-opened-at-2 c = search needs
-
-element-copy-out-opened-at-2 : tie.Need-element-copy-out-opened-at-2 Inv-loop μ-loop
-element-copy-out-opened-at-2 c = search needs
-
-cast-opened-at : tie.Need-cast-opened-at Inv-loop μ-loop
-cast-opened-at c = search needs
-
 opened-at-requires : tie.Need-opened-at-requires Inv-loop μ-loop
 opened-at-requires c κs =
     let in-loop = c .before .before in
@@ -52,18 +37,6 @@ opened-at-requires c κs =
       forward = ends .forward (at .loop .i) (in-loop .loop-test .taken);
       backward = ends .backward (at .loop .i) (in-loop .loop-test .taken);
     }
-
-union-requires : tie.Need-union-requires Inv-loop μ-loop
-union-requires c κs = search needs
-
-union-requires-2 : tie.Need-union-requires-2 Inv-loop μ-loop
-union-requires-2 c κs = search needs
-
-add-i : tie.Need-add-i Inv-loop μ-loop
-add-i c = search needs
-
-loop-less : tie.Need-loop-less Inv-loop μ-loop
-loop-less c = search needs
 
 loop-again : tie.Need-loop-again Inv-loop μ-loop
 loop-again c =
@@ -93,15 +66,15 @@ open-next-spec =
     Inv-loop
     μ-loop
     loop-holds
-    mul-opened-at
-    element-copy-out-opened-at
-    mul-opened-at-2
-    element-copy-out-opened-at-2
-    cast-opened-at
+    (λ c. search needs)
+    (λ c. search needs)
+    (λ c. search needs)
+    (λ c. search needs)
+    (λ c. search needs)
     opened-at-requires
-    union-requires
-    union-requires-2
-    add-i
-    loop-less
+    (λ c κs. search needs)
+    (λ c κs. search needs)
+    (λ c. search needs)
+    (λ c. search needs)
     loop-again
     returns)

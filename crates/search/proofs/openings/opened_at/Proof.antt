@@ -16,29 +16,14 @@ set-at-requires c κs = c .pre .low
 lefts-at-requires : tie.Need-lefts-at-requires
 lefts-at-requires c κs = c .before .pre .low
 
-intersection-requires : tie.Need-intersection-requires
-intersection-requires c κs = search needs
-
 rights-at-requires : tie.Need-rights-at-requires
 rights-at-requires c κs = c .before .before .before .pre .low
-
-intersection-requires-2 : tie.Need-intersection-requires-2
-intersection-requires-2 c κs = search needs
 
 has-requires : tie.Need-has-requires
 has-requires c κs = c .before .before .before .before .before .pre .low
 
-may-loop-requires : tie.Need-may-loop-requires
-may-loop-requires c κs = search needs
-
 has-requires-2 : tie.Need-has-requires-2
 has-requires-2 c κs = c .before .before .before .before .before .before .before .pre .low
-
-may-mix-requires : tie.Need-may-mix-requires
-may-mix-requires c κs = search needs
-
-neither-requires : tie.Need-neither-requires
-neither-requires c κs = search needs
 
 returns : tie.Need-returns
 returns c rows claims n is count l =
@@ -67,9 +52,6 @@ returns c rows claims n is count l =
       opens-not {F = Threaded P m k (args .to) (args .from)} i (args .force .mixes) l (is .forced .mix-iff i)
           (mix-test .before .has2 .ensures) mix-tried (λ h. mix-shows (h .1)) (none .1),
     )
-
-inner-requires : tie.Need-inner-requires
-inner-requires c κs = search needs
 
 loop-opens-requires : tie.Need-loop-opens-requires
 loop-opens-requires c κs = c .before .before .before .before .before .before .before .before .before .before .before .before .pre .turned
@@ -125,16 +107,16 @@ opened-at-spec =
     (tie.spec
     set-at-requires
     lefts-at-requires
-    intersection-requires
+    (λ c κs. search needs)
     rights-at-requires
-    intersection-requires-2
+    (λ c κs. search needs)
     has-requires
-    may-loop-requires
+    (λ c κs. search needs)
     has-requires-2
-    may-mix-requires
-    neither-requires
+    (λ c κs. search needs)
+    (λ c κs. search needs)
     returns
-    inner-requires
+    (λ c κs. search needs)
     loop-opens-requires
     mix-opens-requires
     marked-requires

@@ -52,21 +52,6 @@ returns c =
     explored-full (Links at) (Letters at) (Claims at) (letter at) (claim at) (cases at) (a .found) (a .last) (at .before .pre) (at .loop .inv .1)
     (c .before .spread .result) (c .before .spread .ensures) (a .p) (λ x y e. e .end) (c .if1 .taken)
 
-difference-requires : tie.Need-difference-requires Inv-loop μ-loop
-difference-requires c κs = search needs
-
-union-requires : tie.Need-union-requires Inv-loop μ-loop
-union-requires c κs = search needs
-
-intersection-requires : tie.Need-intersection-requires Inv-loop μ-loop
-intersection-requires c κs = search needs
-
-claimed-requires : tie.Need-claimed-requires Inv-loop μ-loop
-claimed-requires c κs = search needs
-
-intersection-requires-2 : tie.Need-intersection-requires-2 Inv-loop μ-loop
-intersection-requires-2 c κs = search needs
-
 -- the claims from what was found
 steps : (c : tie.After-intersection2 Inv-loop μ-loop) → Onward (Claims (c .before .before .before .before .before .before .before)) (c .before .before .before .union .result) (c .intersection2 .result)
 steps c =
@@ -74,9 +59,6 @@ steps c =
     let a = n .before .before .before .before .before .before .args in
     onward-inside (a .p) (n .before .union .result) (n .intersection .result) (c .before .claimed .result) (c .intersection2 .result)
     (n .intersection .ensures) (c .before .claimed .ensures) (c .intersection2 .ensures)
-
-difference-requires-2 : tie.Need-difference-requires-2 Inv-loop μ-loop
-difference-requires-2 c κs = search needs
 
 returns-2 : tie.Need-returns-2 Inv-loop μ-loop
 returns-2 c =
@@ -89,9 +71,6 @@ returns-2 c =
     explored-end (Links at) (Letters at) (Claims at) (letter at) (claim at) (cases at) (a .found) (a .last) (at .before .pre) (at .loop .inv .1)
     (sp .spread .result) (sp .spread .ensures) (u .before .difference .result) (u .union .result) (near .intersection2 .result) (d .difference2 .result)
     (u .before .difference .ensures) (u .union .ensures) (steps near) (d .difference2 .ensures) (c .if2 .taken)
-
-union-requires-2 : tie.Need-union-requires-2 Inv-loop μ-loop
-union-requires-2 c κs = search needs
 
 loop-less : tie.Need-loop-less Inv-loop μ-loop
 loop-less c =
@@ -129,13 +108,13 @@ explore-spec =
     loop-holds
     spread-requires
     returns
-    difference-requires
-    union-requires
-    intersection-requires
-    claimed-requires
-    intersection-requires-2
-    difference-requires-2
+    (λ c κs. search needs)
+    (λ c κs. search needs)
+    (λ c κs. search needs)
+    (λ c κs. search needs)
+    (λ c κs. search needs)
+    (λ c κs. search needs)
     returns-2
-    union-requires-2
+    (λ c κs. search needs)
     loop-less
     loop-again)

@@ -8,18 +8,6 @@ use Rattle.search.proofs.Reaching.{followed-now, reached-now}
 use Rattle.search.proofs.searches.reached_more.Statement.{statement}
 use Rattle.search.proofs.searches.reached_more.Tie as tie
 
-union-requires : tie.Need-union-requires
-union-requires c κs = search needs
-
-claimed-requires : tie.Need-claimed-requires
-claimed-requires c κs = search needs
-
-difference-requires : tie.Need-difference-requires
-difference-requires c κs = search needs
-
-union-requires-2 : tie.Need-union-requires-2
-union-requires-2 c κs = search needs
-
 -- what was seen and what is new
 module _ (c : tie.After-union2) where
   abbrev Steps : ℕ → ℕ → Type 0
@@ -46,9 +34,6 @@ returns : tie.Need-returns
 returns c = ended (c .before) (c .before .union2 .result)
     (explored-none (Steps (c .before)) (c .before .union2 .result) (c .before .before .difference .result) (followed (c .before)) (c .if1 .taken))
 
-all-states-requires : tie.Need-all-states-requires
-all-states-requires c κs = search needs
-
 explore-requires : tie.Need-explore-requires
 explore-requires c κs = rw (c .all-states .ensures) (followed (c .before .before))
 
@@ -59,11 +44,11 @@ pub reached-more-spec : {M : Type 1} → statement M
 reached-more-spec =
     tie.close
     (tie.spec
-    union-requires
-    claimed-requires
-    difference-requires
-    union-requires-2
+    (λ c κs. search needs)
+    (λ c κs. search needs)
+    (λ c κs. search needs)
+    (λ c κs. search needs)
     returns
-    all-states-requires
+    (λ c κs. search needs)
     explore-requires
     returns-2)

@@ -20,15 +20,6 @@ abbrev μ-loop : tie.MeasureT-loop
 loop-holds : tie.Need-loop-holds Inv-loop μ-loop
 loop-holds c = (c .fits .found .fits, search-start (LetterHop (graph-of (c .args .graph .now)) (c .args .p)) (c .args .found) (c .args .last) (c .pre))
 
-intersection-requires : tie.Need-intersection-requires Inv-loop μ-loop
-intersection-requires c κs = search needs
-
-lettered-requires : tie.Need-lettered-requires Inv-loop μ-loop
-lettered-requires c κs = search needs
-
-intersection-requires-2 : tie.Need-intersection-requires-2 Inv-loop μ-loop
-intersection-requires-2 c κs = search needs
-
 -- one pass
 steps : (c : tie.After-intersection2 Inv-loop μ-loop) → Onward (LetterHop (graph-of (c .before .before .before .before .args .graph .now)) (c .before .before .before .before .args .p))
     (c .before .before .before .loop .front) (c .intersection2 .result)
@@ -36,9 +27,6 @@ steps c =
     let n = c .before .before in
     onward-inside (n .before .before .args .p) (n .before .loop .front) (n .intersection .result) (c .before .lettered .result) (c .intersection2 .result)
     (n .intersection .ensures) (c .before .lettered .ensures) (c .intersection2 .ensures)
-
-difference-requires : tie.Need-difference-requires Inv-loop μ-loop
-difference-requires c κs = search needs
 
 returns : tie.Need-returns Inv-loop μ-loop
 returns c =
@@ -48,9 +36,6 @@ returns c =
     let a = at .before .args in
     search-end (LetterHop (graph-of (a .graph .now)) (a .p)) (a .found) (a .last) (at .before .pre) (near .intersection2 .result) (d .difference .result) (at .loop .inv .1)
     (steps near) (d .difference .ensures) (c .if1 .taken)
-
-union-requires : tie.Need-union-requires Inv-loop μ-loop
-union-requires c κs = search needs
 
 loop-less : tie.Need-loop-less Inv-loop μ-loop
 loop-less c =
@@ -81,11 +66,11 @@ spread-spec =
     Inv-loop
     μ-loop
     loop-holds
-    intersection-requires
-    lettered-requires
-    intersection-requires-2
-    difference-requires
+    (λ c κs. search needs)
+    (λ c κs. search needs)
+    (λ c κs. search needs)
+    (λ c κs. search needs)
     returns
-    union-requires
+    (λ c κs. search needs)
     loop-less
     loop-again)

@@ -4,12 +4,6 @@ use borrow.Author.Needs.{needs}
 use Rattle.session.proofs.Session.automaton.Statement.{statement}
 use Rattle.session.proofs.Session.automaton.Tie as tie
 
-keys-requires : tie.Need-keys-requires
-keys-requires c κs = search needs
-
-of-keys-requires : tie.Need-of-keys-requires
-of-keys-requires c κs = search needs
-
 returns : tie.Need-returns
 returns c =
     let k = c .before .before .before .before .before .before in
@@ -17,4 +11,4 @@ returns c =
     reads-of s (k .keys .result .high) (k .keys .result .low) (k .keys .ensures) (c .of-keys .result) (c .of-keys .ensures)
 
 pub automaton-spec : {M : Type 1} → statement M
-automaton-spec = tie.close (tie.spec keys-requires of-keys-requires returns)
+automaton-spec = tie.close (tie.spec (λ c κs. search needs) (λ c κs. search needs) returns)

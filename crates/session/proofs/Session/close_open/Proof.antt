@@ -4,15 +4,6 @@ use borrow.Author.Needs.{needs}
 use Rattle.session.proofs.Session.close_open.Statement.{statement}
 use Rattle.session.proofs.Session.close_open.Tie as tie
 
-automaton-requires : tie.Need-automaton-requires
-automaton-requires c κs = search needs
-
-close-requires : tie.Need-close-requires
-close-requires c κs = search needs
-
-done-with-requires : tie.Need-done-with-requires
-done-with-requires c κs = search needs
-
 returns : tie.Need-returns
 returns c =
     let d = c .before in
@@ -20,4 +11,4 @@ returns c =
     close-done (a .before .args .self) (a .automaton .result) (a .automaton .ensures) (d .close .result) (c .done-with .ensures) (d .close .ensures)
 
 pub close-open-spec : {M : Type 1} → statement M
-close-open-spec = tie.close (tie.spec automaton-requires close-requires done-with-requires returns)
+close-open-spec = tie.close (tie.spec (λ c κs. search needs) (λ c κs. search needs) (λ c κs. search needs) returns)

@@ -29,17 +29,11 @@ mul-slot c = omega arith
 element-copy-out-slot : tie.Need-element-copy-out-slot Inv-loop μ-loop
 element-copy-out-slot c = omega arith
 
-high-of-requires : tie.Need-high-of-requires Inv-loop μ-loop
-high-of-requires c κs = search needs
-
 mul-high : tie.Need-mul-high Inv-loop μ-loop
 mul-high c = omega arith
 
 array-write-high : tie.Need-array-write-high Inv-loop μ-loop
 array-write-high c = omega arith
-
-low-of-requires : tie.Need-low-of-requires Inv-loop μ-loop
-low-of-requires c κs = search needs
 
 mul-low : tie.Need-mul-low Inv-loop μ-loop
 mul-low c = omega arith
@@ -78,10 +72,10 @@ keys-spec =
     loop-holds
     mul-slot
     element-copy-out-slot
-    high-of-requires
+    (λ c κs. search needs)
     mul-high
     array-write-high
-    low-of-requires
+    (λ c κs. search needs)
     mul-low
     array-write-low
     add-i

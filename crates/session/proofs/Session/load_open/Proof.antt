@@ -9,15 +9,6 @@ use borrow.Author.Needs.{needs}
 use Rattle.session.proofs.Session.load_open.Statement.{statement}
 use Rattle.session.proofs.Session.load_open.Tie as tie
 
-keys-requires : tie.Need-keys-requires
-keys-requires c κs = search needs
-
-load-rows-requires : tie.Need-load-rows-requires
-load-rows-requires c κs = search needs
-
-take-table-requires : tie.Need-take-table-requires
-take-table-requires c κs = search needs
-
 returns : tie.Need-returns
 returns c =
     let l = c .before .before .before in
@@ -31,4 +22,4 @@ returns c =
     (λ rows t h. h) (c .take-table .ensures)
 
 pub load-open-spec : {M : Type 1} → statement M
-load-open-spec = tie.close (tie.spec keys-requires load-rows-requires take-table-requires returns)
+load-open-spec = tie.close (tie.spec (λ c κs. search needs) (λ c κs. search needs) (λ c κs. search needs) returns)

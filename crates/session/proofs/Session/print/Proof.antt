@@ -9,30 +9,6 @@ use borrow.Author.Needs.{needs}
 use Rattle.session.proofs.Session.print.Statement.{statement}
 use Rattle.session.proofs.Session.print.Tie as tie
 
-state-requires : tie.Need-state-requires
-state-requires c κs = search needs
-
-enum-told : tie.Need-enum-told
-enum-told c = search needs
-
-refuse-requires : tie.Need-refuse-requires
-refuse-requires c κs = search needs
-
-enum-told-2 : tie.Need-enum-told-2
-enum-told-2 c = search needs
-
-refuse-requires-2 : tie.Need-refuse-requires-2
-refuse-requires-2 c κs = search needs
-
-enum-told-3 : tie.Need-enum-told-3
-enum-told-3 c = search needs
-
-refuse-requires-3 : tie.Need-refuse-requires-3
-refuse-requires-3 c κs = search needs
-
-enum-known-v : tie.Need-enum-known-v
-enum-known-v c = search needs
-
 print-settled-requires : tie.Need-print-settled-requires
 print-settled-requires c κs =
     let v = c .before .before in
@@ -58,9 +34,6 @@ returns-3 c =
     let size = length (a .buffer .now) in
     refuses (a .self) Running (meets (a .self) (t .state .ensures) (c .before .enum-told3 .given .1)) (print size) 11 (running-refuses size) (a .buffer .now) (c .refuse3 .ensures)
 
-same-length : tie.Need-same-length
-same-length c = search needs
-
 returns-4 : tie.Need-returns-4
 returns-4 c =
     let w = c .before .before in
@@ -72,17 +45,17 @@ pub print-spec : {M : Type 1} → statement M
 print-spec =
     tie.close
     (tie.spec
-    state-requires
-    enum-told
-    refuse-requires
-    enum-told-2
-    refuse-requires-2
-    enum-told-3
-    refuse-requires-3
-    enum-known-v
+    (λ c κs. search needs)
+    (λ c. search needs)
+    (λ c κs. search needs)
+    (λ c. search needs)
+    (λ c κs. search needs)
+    (λ c. search needs)
+    (λ c κs. search needs)
+    (λ c. search needs)
     print-settled-requires
     returns
     returns-2
     returns-3
-    same-length
+    (λ c. search needs)
     returns-4)

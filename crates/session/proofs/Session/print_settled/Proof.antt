@@ -7,21 +7,6 @@ use borrow.Author.Needs.{needs}
 use Rattle.session.proofs.Session.print_settled.Statement.{statement}
 use Rattle.session.proofs.Session.print_settled.Tie as tie
 
-keys-requires : tie.Need-keys-requires
-keys-requires c κs = search needs
-
-automaton-requires : tie.Need-automaton-requires
-automaton-requires c κs = search needs
-
-kept-requires : tie.Need-kept-requires
-kept-requires c κs = search needs
-
-print-requires : tie.Need-print-requires
-print-requires c κs = search needs
-
-same-length : tie.Need-same-length
-same-length c = search needs
-
 returns : tie.Need-returns
 returns c =
     let p = c .before .before in
@@ -39,4 +24,4 @@ returns c =
 pub print-settled-spec : {M : Type 1} → statement M
 print-settled-spec =
     tie.close
-    (tie.spec keys-requires automaton-requires kept-requires print-requires same-length returns)
+    (tie.spec (λ c κs. search needs) (λ c κs. search needs) (λ c κs. search needs) (λ c κs. search needs) (λ c. search needs) returns)

@@ -10,33 +10,6 @@ use borrow.Author.Needs.{needs}
 use Rattle.session.proofs.Session.reopen.Statement.{statement}
 use Rattle.session.proofs.Session.reopen.Tie as tie
 
-state-requires : tie.Need-state-requires
-state-requires c κs = search needs
-
-enum-told : tie.Need-enum-told
-enum-told c = search needs
-
-refuse-requires : tie.Need-refuse-requires
-refuse-requires c κs = search needs
-
-enum-told-2 : tie.Need-enum-told-2
-enum-told-2 c = search needs
-
-refuse-requires-2 : tie.Need-refuse-requires-2
-refuse-requires-2 c κs = search needs
-
-enum-told-3 : tie.Need-enum-told-3
-enum-told-3 c = search needs
-
-reopen-closed-requires : tie.Need-reopen-closed-requires
-reopen-closed-requires c κs = search needs
-
-enum-told-4 : tie.Need-enum-told-4
-enum-told-4 c = search needs
-
-reopen-closed-requires-2 : tie.Need-reopen-closed-requires-2
-reopen-closed-requires-2 c κs = search needs
-
 returns : tie.Need-returns
 returns c =
     let t = c .before .before .before in
@@ -63,15 +36,15 @@ pub reopen-spec : {M : Type 1} → statement M
 reopen-spec =
     tie.close
     (tie.spec
-    state-requires
-    enum-told
-    refuse-requires
-    enum-told-2
-    refuse-requires-2
-    enum-told-3
-    reopen-closed-requires
-    enum-told-4
-    reopen-closed-requires-2
+    (λ c κs. search needs)
+    (λ c. search needs)
+    (λ c κs. search needs)
+    (λ c. search needs)
+    (λ c κs. search needs)
+    (λ c. search needs)
+    (λ c κs. search needs)
+    (λ c. search needs)
+    (λ c κs. search needs)
     returns
     returns-2
     returns-3

@@ -4,11 +4,8 @@ use borrow.Author.Needs.{needs}
 use Rattle.session.proofs.Session.reopen_closed.Statement.{statement}
 use Rattle.session.proofs.Session.reopen_closed.Tie as tie
 
-done-with-requires : tie.Need-done-with-requires
-done-with-requires c κs = search needs
-
 returns : tie.Need-returns
 returns c = reopen-done (c .before .args .self) (c .done-with .ensures)
 
 pub reopen-closed-spec : {M : Type 1} → statement M
-reopen-closed-spec = tie.close (tie.spec done-with-requires returns)
+reopen-closed-spec = tie.close (tie.spec (λ c κs. search needs) returns)

@@ -10,37 +10,10 @@ use borrow.Author.Needs.{needs}
 use Rattle.session.proofs.Session.round.Statement.{statement}
 use Rattle.session.proofs.Session.round.Tie as tie
 
-state-requires : tie.Need-state-requires
-state-requires c κs = search needs
-
-enum-told : tie.Need-enum-told
-enum-told c = search needs
-
-refuse-requires : tie.Need-refuse-requires
-refuse-requires c κs = search needs
-
-enum-told-2 : tie.Need-enum-told-2
-enum-told-2 c = search needs
-
-refuse-requires-2 : tie.Need-refuse-requires-2
-refuse-requires-2 c κs = search needs
-
-enum-told-3 : tie.Need-enum-told-3
-enum-told-3 c = search needs
-
 round-running-requires : tie.Need-round-running-requires
 round-running-requires c κs =
     let t = c .before .before .before in
     (in-range (t .before .args .self) (t .state .ensures) (c .before .enum-told3 .given .1), c .if1 .taken)
-
-refuse-requires-3 : tie.Need-refuse-requires-3
-refuse-requires-3 c κs = search needs
-
-enum-told-4 : tie.Need-enum-told-4
-enum-told-4 c = search needs
-
-refuse-requires-4 : tie.Need-refuse-requires-4
-refuse-requires-4 c κs = search needs
 
 returns : tie.Need-returns
 returns c =
@@ -75,16 +48,16 @@ pub round-spec : {M : Type 1} → statement M
 round-spec =
     tie.close
     (tie.spec
-    state-requires
-    enum-told
-    refuse-requires
-    enum-told-2
-    refuse-requires-2
-    enum-told-3
+    (λ c κs. search needs)
+    (λ c. search needs)
+    (λ c κs. search needs)
+    (λ c. search needs)
+    (λ c κs. search needs)
+    (λ c. search needs)
     round-running-requires
-    refuse-requires-3
-    enum-told-4
-    refuse-requires-4
+    (λ c κs. search needs)
+    (λ c. search needs)
+    (λ c κs. search needs)
     returns
     returns-2
     returns-3

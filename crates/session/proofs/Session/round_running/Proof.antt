@@ -9,20 +9,11 @@ use borrow.Author.Needs.{needs}
 use Rattle.session.proofs.Session.round_running.Statement.{statement}
 use Rattle.session.proofs.Session.round_running.Tie as tie
 
-kept-requires : tie.Need-kept-requires
-kept-requires c κs = search needs
-
-automaton-requires : tie.Need-automaton-requires
-automaton-requires c κs = search needs
-
 round-requires : tie.Need-round-requires
 round-requires c κs =
     let k = c .before .before .before in
     let start = k .before in
     (start .pre .0 .few-sets, subst (λ (r : Rounds). r .count < 129) (sym (k .kept .ensures)) (start .pre .1))
-
-done-with-requires : tie.Need-done-with-requires
-done-with-requires c κs = search needs
 
 returns : tie.Need-returns
 returns c =
@@ -36,4 +27,4 @@ returns c =
 
 pub round-running-spec : {M : Type 1} → statement M
 round-running-spec =
-    tie.close (tie.spec kept-requires automaton-requires round-requires done-with-requires returns)
+    tie.close (tie.spec (λ c κs. search needs) (λ c κs. search needs) round-requires (λ c κs. search needs) returns)

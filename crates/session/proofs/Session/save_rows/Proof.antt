@@ -4,15 +4,6 @@ use borrow.Author.Needs.{needs}
 use Rattle.session.proofs.Session.save_rows.Statement.{statement}
 use Rattle.session.proofs.Session.save_rows.Tie as tie
 
-keys-requires : tie.Need-keys-requires
-keys-requires c κs = search needs
-
-save-requires : tie.Need-save-requires
-save-requires c κs = search needs
-
-same-length : tie.Need-same-length
-same-length c = search needs
-
 returns : tie.Need-returns
 returns c =
     let p = c .before .before in
@@ -21,4 +12,4 @@ returns c =
     saves-rows (s .self) (y .keys .result .high) (y .keys .result .low) (y .keys .ensures) (s .buffer .now) (p .save .last .0) (p .save .result) (p .save .ensures)
 
 pub save-rows-spec : {M : Type 1} → statement M
-save-rows-spec = tie.close (tie.spec keys-requires save-requires same-length returns)
+save-rows-spec = tie.close (tie.spec (λ c κs. search needs) (λ c κs. search needs) (λ c. search needs) returns)

@@ -13,15 +13,6 @@ returns c = many-rows (c .before .args .self) (c .if1 .taken)
 returns-2 : tie.Need-returns-2
 returns-2 c = many-sets (c .before .before .args .self) (c .if2 .taken)
 
-enum-told : tie.Need-enum-told
-enum-told c = search needs
-
-enum-told-2 : tie.Need-enum-told-2
-enum-told-2 c = search needs
-
-enum-known-phase : tie.Need-enum-known-phase
-enum-known-phase c = search needs
-
 returns-3 : tie.Need-returns-3
 returns-3 c =
     let e = c .before .before in
@@ -46,9 +37,9 @@ state-spec =
     (tie.spec
     returns
     returns-2
-    enum-told
-    enum-told-2
-    enum-known-phase
+    (λ c. search needs)
+    (λ c. search needs)
+    (λ c. search needs)
     returns-3
     returns-4
     returns-5)

@@ -8,18 +8,6 @@ use borrow.Author.Needs.{needs}
 use Rattle.session.proofs.Session.take_table.Statement.{statement}
 use Rattle.session.proofs.Session.take_table.Tie as tie
 
-enum-told : tie.Need-enum-told
-enum-told c = search needs
-
-slots-requires : tie.Need-slots-requires
-slots-requires c κs = search needs
-
-enum-told-2 : tie.Need-enum-told-2
-enum-told-2 c = search needs
-
-enum-told-3 : tie.Need-enum-told-3
-enum-told-3 c = search needs
-
 returns : tie.Need-returns
 returns c =
     let t = c .before .before in
@@ -40,4 +28,4 @@ returns-3 c =
 pub take-table-spec : {M : Type 1} → statement M
 take-table-spec =
     tie.close
-    (tie.spec enum-told slots-requires enum-told-2 enum-told-3 returns returns-2 returns-3)
+    (tie.spec (λ c. search needs) (λ c κs. search needs) (λ c. search needs) (λ c. search needs) returns returns-2 returns-3)

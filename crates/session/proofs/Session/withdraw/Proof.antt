@@ -9,34 +9,10 @@ use borrow.Author.Needs.{needs}
 use Rattle.session.proofs.Session.withdraw.Statement.{statement}
 use Rattle.session.proofs.Session.withdraw.Tie as tie
 
-state-requires : tie.Need-state-requires
-state-requires c κs = search needs
-
-enum-told : tie.Need-enum-told
-enum-told c = search needs
-
-refuse-requires : tie.Need-refuse-requires
-refuse-requires c κs = search needs
-
-enum-told-2 : tie.Need-enum-told-2
-enum-told-2 c = search needs
-
 withdraw-open-requires : tie.Need-withdraw-open-requires
 withdraw-open-requires c κs =
     let t = c .before .before in
     in-range (t .before .before .args .self) (t .state .ensures) (c .enum-told2 .given .1)
-
-enum-told-3 : tie.Need-enum-told-3
-enum-told-3 c = search needs
-
-refuse-requires-2 : tie.Need-refuse-requires-2
-refuse-requires-2 c κs = search needs
-
-enum-told-4 : tie.Need-enum-told-4
-enum-told-4 c = search needs
-
-refuse-requires-3 : tie.Need-refuse-requires-3
-refuse-requires-3 c κs = search needs
 
 returns : tie.Need-returns
 returns c =
@@ -65,15 +41,15 @@ pub withdraw-spec : {M : Type 1} → statement M
 withdraw-spec =
     tie.close
     (tie.spec
-    state-requires
-    enum-told
-    refuse-requires
-    enum-told-2
+    (λ c κs. search needs)
+    (λ c. search needs)
+    (λ c κs. search needs)
+    (λ c. search needs)
     withdraw-open-requires
-    enum-told-3
-    refuse-requires-2
-    enum-told-4
-    refuse-requires-3
+    (λ c. search needs)
+    (λ c κs. search needs)
+    (λ c. search needs)
+    (λ c κs. search needs)
     returns
     returns-2
     returns-3

@@ -7,18 +7,6 @@ use borrow.Author.Needs.{needs}
 use Rattle.session.proofs.Session.withdraw_open.Statement.{statement}
 use Rattle.session.proofs.Session.withdraw_open.Tie as tie
 
-keys-requires : tie.Need-keys-requires
-keys-requires c κs = search needs
-
-withdraw-rows-requires : tie.Need-withdraw-rows-requires
-withdraw-rows-requires c κs = search needs
-
-collect-sets-requires : tie.Need-collect-sets-requires
-collect-sets-requires c κs = search needs
-
-take-table-requires : tie.Need-take-table-requires
-take-table-requires c κs = search needs
-
 returns : tie.Need-returns
 returns c =
     let f = c .before .before .before .before in
@@ -37,8 +25,8 @@ pub withdraw-open-spec : {M : Type 1} → statement M
 withdraw-open-spec =
     tie.close
     (tie.spec
-    keys-requires
-    withdraw-rows-requires
-    collect-sets-requires
-    take-table-requires
+    (λ c κs. search needs)
+    (λ c κs. search needs)
+    (λ c κs. search needs)
+    (λ c κs. search needs)
     returns)

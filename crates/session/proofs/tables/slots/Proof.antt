@@ -36,9 +36,6 @@ mul-row-of-2 c = omega arith
 element-copy-out-row-of-2 : tie.Need-element-copy-out-row-of-2 Inv-loop μ-loop
 element-copy-out-row-of-2 c = omega arith
 
-row-of-requires : tie.Need-row-of-requires Inv-loop μ-loop
-row-of-requires c κs = search needs
-
 mul-rows : tie.Need-mul-rows Inv-loop μ-loop
 mul-rows c = omega arith
 
@@ -76,7 +73,7 @@ slots-spec =
     element-copy-out-row-of
     mul-row-of-2
     element-copy-out-row-of-2
-    row-of-requires
+    (λ c κs. search needs)
     mul-rows
     array-set-from-rows
     add-i
