@@ -13,7 +13,7 @@ use Rattle.masks.specs.Mask.{member, _∈_}
 use Rattle.masks.proofs.Member.{with-same, with-cases, lt-or-le}
 use Rattle.sorted.specs.declared.Place.the-variants.{At, Gap}
 use Rattle.sorted.specs.Keys.{SearchesWord}
-use Rattle.automaton.specs.Promise.{Adds, Puts, HasSets, Places}
+use Rattle.automaton.specs.Promise.{Adds, AddsAt, HasSets, Places}
 
 pub added : (m s w : ℕ) → s < 64 → ((t : ℕ) → member t w ≡ (member t m || eqb t s)) → Adds m s w
 added m s w h is t = (
@@ -25,7 +25,7 @@ added m s w h is t = (
 pub not-added : (m s : ℕ) → 64 ≤ s → Adds m s m
 not-added m s h t = (inl, ⊎-elim (λ i. i) (λ p. absurd (omega (arith, p .1))))
 
-pub put-at : (old : List ℕ) (base at s v : ℕ) → base ≤ 192 → at < 64 → Adds (getD old (base + at) 0) s v → Puts old base at s (set old (base + at) v)
+pub put-at : (old : List ℕ) (base at s v : ℕ) → base ≤ 192 → at < 64 → Adds (getD old (base + at) 0) s v → AddsAt old base at s (set old (base + at) v)
 put-at old base at s v low h is = record {
   length-is = length-set old (base + at) v;
   here = λ len g. subst (λ x. Adds (getD old (base + at) 0) s x) (sym (getD-set-same old (base + at) v 0 (omega arith))) is;
@@ -33,11 +33,11 @@ put-at old base at s v low h is = record {
 }
 
 -- no place, and nothing is put
-pub not-put : (old : List ℕ) (base at s : ℕ) → 64 ≤ at → Puts old base at s old
+pub not-put : (old : List ℕ) (base at s : ℕ) → 64 ≤ at → AddsAt old base at s old
 not-put old base at s h = record { length-is = refl; here = λ len g. absurd (omega arith); others = λ j n. refl }
 
 -- what a part has where something was put into it
-pub put-iff : (old : List ℕ) (base at s : ℕ) (new : List ℕ) → length old ≡ 256 → Puts old base at s new
+pub put-iff : (old : List ℕ) (base at s : ℕ) (new : List ℕ) → length old ≡ 256 → AddsAt old base at s new
     → (i t : ℕ) → (t ∈ getD new (base + i) 0) ↔ ((t ∈ getD old (base + i) 0) ⊎ ((i ≡ at) × (at < 64) × (t ≡ s) × (s < 64)))
 put-iff old base at s new len put i t = go (dec· (eqb· i at)) (dec· (ltb· at 64))
   where

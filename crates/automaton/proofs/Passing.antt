@@ -20,7 +20,7 @@ use Rattle.search.specs.Graph.{part, graph-of}
 use Rattle.search.proofs.Parts.{past-part, letters-at, sets-at, lefts-at, rights-at}
 use Rattle.table.specs.Arrays.{Worded}
 use Rattle.automaton.specs.declared.Automaton.{Automaton}
-use Rattle.automaton.specs.Promise.{Adds, Puts, HasSets, Places, Gives}
+use Rattle.automaton.specs.Promise.{Adds, AddsAt, HasSets, Places, Gives}
 use Rattle.automaton.proofs.Adding.{put-iff}
 
 -- some row of the list has P
@@ -97,7 +97,7 @@ state-own f only m s r e is t = (
   λ i. is t .1 (⊎-elim inl (λ p. let g = only s t (sym e ∙ p .0) in inr (sym g, omega (arith, p .1, g))) i),
 )
 
-step-own : {x : Row} (graph new : List ℕ) {p a q : ℕ} → x ≡ Successor p a q → length graph ≡ 256 → Puts graph 0 p q new
+step-own : {x : Row} (graph new : List ℕ) {p a q : ℕ} → x ≡ Successor p a q → length graph ≡ 256 → AddsAt graph 0 p q new
     → (i t : ℕ) → (t ∈ getD new i 0) ↔ ((t ∈ getD graph i 0) ⊎ Leads i t x)
 step-own graph new {p} {a} {q} e size put i t = let z : 0 + i ≡ i = omega arith in let is = rw z at (put-iff graph 0 p q new size put i t) in (
   (λ k. ⊎-elim inl (λ w. let g : Successor p a q ≡ Successor i a t = ap₂ (λ y z. Successor y a z) (sym (w .0)) (sym (w .2)) in
@@ -108,7 +108,7 @@ step-own graph new {p} {a} {q} e size put i t = let z : 0 + i ≡ i = omega arit
 
 -- a limit row, in the mask at the place of its set, in the part of its kind
 limit-own : (f : ℕ → ℕ → Row) → ((P s Q t : ℕ) → f P s ≡ f Q t → (P ≡ Q) × (s ≡ t)) → (sets : List ℕ) (n base : ℕ) → n ≤ 64 → {x : Row} (graph new : List ℕ) (P q at : ℕ)
-    → x ≡ f P q → Places sets n P at → length graph ≡ 256 → Puts graph base at q new
+    → x ≡ f P q → Places sets n P at → length graph ≡ 256 → AddsAt graph base at q new
     → Rising sets n → (i t : ℕ) → i < n → (t ∈ getD new (base + i) 0) ↔ ((t ∈ getD graph (base + i) 0) ⊎ ((x ≡ f (getD sets i 0) t) × (t < 64)))
 limit-own f only sets n base few graph new P q at e there size put o i t l = let is = put-iff graph base at q new size put i t in (
   (λ k. ⊎-elim inl (λ w. inr (e ∙ ap₂ f (sym (there o i l .0 (w .0))) (sym (w .2)), omega (arith, w .2, w .3))) (is .0 k)),
@@ -140,10 +140,10 @@ module _ (sets : List ℕ) (n : ℕ) (few : n ≤ 64) {l : List Row} {graph : Li
   }
 
   -- the masks of the other parts
-  stays : {base at s : ℕ} {new : List ℕ} → Puts graph base at s new → (j : ℕ) → (at < 64 → j ≢ base + at) → {S : Type 0} (t : ℕ) → (t ∈ getD graph j 0) ↔ S → (t ∈ getD new j 0) ↔ S
+  stays : {base at s : ℕ} {new : List ℕ} → AddsAt graph base at s new → (j : ℕ) → (at < 64 → j ≢ base + at) → {S : Type 0} (t : ℕ) → (t ∈ getD graph j 0) ↔ S → (t ∈ getD new j 0) ↔ S
   stays is j apart t f = rw (is .others j apart) f
 
-  pub pass-step : {p a q : ℕ} {new : List ℕ} → x ≡ Successor p a q → Puts graph 0 p q new → Passed sets n (l ++ (x ∷ [])) new initials finals
+  pub pass-step : {p a q : ℕ} {new : List ℕ} → x ≡ Successor p a q → AddsAt graph 0 p q new → Passed sets n (l ++ (x ∷ [])) new initials finals
   pass-step {new = new} e is = record {
     size = is .length-is ∙ h .size;
     kept = λ i j. is .others (64 + i) (λ a b. omega arith) ∙ h .kept i j;
@@ -154,7 +154,7 @@ module _ (sets : List ℕ) (n : ℕ) (few : n ≤ 64) {l : List Row} {graph : Li
     leaves = λ o i t k. stays is (192 + i) (λ a b. omega arith) t (other (Leaves (getD sets i 0) t) l x (λ p. never (cc (p .0))) (h .leaves o i t k));
   }
 
-  pub pass-left : {P q : ℕ} (at : ℕ) {new : List ℕ} → x ≡ LeftLimit P q → Places sets n P at → Puts graph 128 at q new → Passed sets n (l ++ (x ∷ [])) new initials finals
+  pub pass-left : {P q : ℕ} (at : ℕ) {new : List ℕ} → x ≡ LeftLimit P q → Places sets n P at → AddsAt graph 128 at q new → Passed sets n (l ++ (x ∷ [])) new initials finals
   pass-left {P} {q} at {new} e there is = record {
     size = is .length-is ∙ h .size;
     kept = λ i j. is .others (64 + i) (λ a b. omega arith) ∙ h .kept i j;
@@ -165,7 +165,7 @@ module _ (sets : List ℕ) (n : ℕ) (few : n ≤ 64) {l : List Row} {graph : Li
     leaves = λ o i t k. stays is (192 + i) (λ a b. omega arith) t (other (Leaves (getD sets i 0) t) l x (λ p. never (cc (p .0))) (h .leaves o i t k));
   }
 
-  pub pass-right : {P q : ℕ} (at : ℕ) {new : List ℕ} → x ≡ RightLimit q P → Places sets n P at → Puts graph 192 at q new → Passed sets n (l ++ (x ∷ [])) new initials finals
+  pub pass-right : {P q : ℕ} (at : ℕ) {new : List ℕ} → x ≡ RightLimit q P → Places sets n P at → AddsAt graph 192 at q new → Passed sets n (l ++ (x ∷ [])) new initials finals
   pass-right {P} {q} at {new} e there is = record {
     size = is .length-is ∙ h .size;
     kept = λ i j. is .others (64 + i) (λ a b. omega arith) ∙ h .kept i j;

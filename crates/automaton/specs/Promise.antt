@@ -19,7 +19,7 @@ abbrev pub Adds : ℕ → ℕ → ℕ → Type 0
 Adds m s r = (t : ℕ) → (t ∈ r) ↔ ((t ∈ m) ⊎ ((t ≡ s) × (s < 64)))
 
 -- the same of one of 64 masks, the one at a place of the part that begins at base, if that is below 64; the other masks stay
-pub record Puts (old : List ℕ) (base at s : ℕ) (new : List ℕ) : Type 0 where
+pub record AddsAt (old : List ℕ) (base at s : ℕ) (new : List ℕ) : Type 0 where
   pub length-is : length new ≡ length old
   pub here : length old ≡ 256 → at < 64 → Adds (getD old (base + at) 0) s (getD new (base + at) 0)
   pub others : (j : ℕ) → (at < 64 → j ≢ base + at) → getD new j 0 ≡ getD old j 0

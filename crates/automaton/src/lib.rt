@@ -5,7 +5,7 @@ use search::graphs::RIGHTS;
 use search::graphs::SETS;
 use sorted::Place;
 ghost use Prim.Native.Nat.{_≤_};
-ghost use Rattle.automaton.specs.Promise.{Adds, Puts, HasSets, Places, GivesKeyed};
+ghost use Rattle.automaton.specs.Promise.{Adds, AddsAt, HasSets, Places, GivesKeyed};
 
 // The graph of some rows as one array of masks; their initial and their final states.
 pub struct Automaton {
@@ -27,7 +27,7 @@ fn add(m: u64, s: u8) -> u64
 // Adds `s` to the mask at the place `at` of the part that begins at `base`, if there is one.
 fn put(graph: &mut [u64; 256], base: usize, at: usize, s: u8)
     requires { ⌜ base ≤ 192 ⌝ }
-    ensures { λ _. ⌜ Puts (now (graph .entry)) base at s (now (graph .exit)) ⌝ }
+    ensures { λ _. ⌜ AddsAt (now (graph .entry)) base at s (now (graph .exit)) ⌝ }
 {
     if at < 64 {
         let i = base + at;

@@ -20,7 +20,7 @@ use Rattle.search.specs.Graph.{graph-of}
 use Rattle.automaton.specs.declared.Automaton.{Automaton}
 use Rattle.automaton.specs.Promise.{Gives, GivesKeyed}
 use Rattle.rounds.specs.declared.Rounds.{Rounds}
-use Rattle.rounds.specs.Promises.{Kept, Settles as SettlesRows}
+use Rattle.rounds.specs.Promises.{Mirrors, Settles as SettlesRows}
 use Rattle.table.specs.Arrays.{Filed}
 use Rattle.printing.specs.Promise.{PrintsSheet}
 use Rattle.printing.proofs.Automata.{gives-filed, given-rows}
@@ -36,7 +36,7 @@ module _ (rows : List Row) (t : Table rows) (highs lows words : List ℕ) (n k :
   gives : Gives rows words k a
   gives = gives-filed t f g
 
-  kept : Kept m (d .«loop_rounds») (d .«mix_rounds») (d .phase) (d .count)
+  kept : Mirrors m (d .«loop_rounds») (d .«mix_rounds») (d .phase) (d .count)
   kept = s rows (given-rows t (f .1) gives)
 
   -- a machine that is not settled refuses

@@ -9,15 +9,15 @@ use native.Mathlib.Decide.{decLt}
 use borrow.Author.Tests.{lt-ltb, le-ltb}
 use Rattle.machine.specs.Text.{digit}
 use Rattle.commands.specs.declared.Change.{Change}
-use Rattle.commands.specs.Digits.{value, digits, bytes, encoded}
+use Rattle.commands.specs.Digits.{digit-value, digits, bytes, encoded}
 use Rattle.commands.specs.Meaning.{change, batch}
 use Rattle.commands.proofs.Values.{value-decimal, value-lower}
 use Rattle.commands.proofs.Texts.{batch-bytes}
 
-value-digit : (d : ℕ) → d < 16 → value (digit d) ≡ d
+value-digit : (d : ℕ) → d < 16 → digit-value (digit d) ≡ d
 value-digit d h = go (decLt d 10)
   where
-    go : Dec (d < 10) → value (digit d) ≡ d
+    go : Dec (d < 10) → digit-value (digit d) ≡ d
     go (yes g) = rw (lt-ltb d 10 g) (let e = value-decimal (48 + d) (omega arith) (omega arith) in omega arith)
     go (no g) = rw (le-ltb d 10 (omega arith)) (let e = value-lower (87 + d) (omega arith) (omega arith) in omega arith)
 
@@ -42,7 +42,7 @@ bytes-encoded (x ∷ l) b =
     let h : x < 256 = b 0 in
     let e = value-digit (x / 16) (omega arith) in
     let f = value-digit (x % 16) (omega arith) in
-    let k : value (digit (x / 16)) * 16 + value (digit (x % 16)) ≡ x = omega arith in
+    let k : digit-value (digit (x / 16)) * 16 + digit-value (digit (x % 16)) ≡ x = omega arith in
     rw (k, bytes-encoded l (λ i. b (suc i)))
 
 -- the batch of the digits of bytes is those bytes, where there is room

@@ -19,9 +19,9 @@ use Rattle.commands.specs.declared.Command.{Command}
 use Rattle.commands.proofs.Command.{the-type}
 use Rattle.commands.specs.declared.Command.the-variants.{Changes, Reports, Moves, Nothing, BadHex, TooLong, Unknown}
 use Rattle.commands.specs.declared.Found.{Found}
-use Rattle.commands.specs.Meaning.{Meaning, change, report, move, nothing, bad-hex, too-long, unknown, Word, says, words, batch, lent, with-text, starts, after, called}
+use Rattle.commands.specs.Meaning.{Meaning, change, report, move, nothing, bad-hex, too-long, unknown, Word, says, words, batch, lends, with-text, starts, behind, called}
 use Rattle.commands.specs.Table.{table, alone-at, command-of, ends, further, seek}
-use Rattle.commands.specs.Promise.{Means, Asks, Tells, Extends}
+use Rattle.commands.specs.Promise.{Means, Asks, TellsWord, Extends}
 use Rattle.commands.proofs.Values.{drop-all}
 use Rattle.commands.proofs.Texts.{nothing-held}
 
@@ -123,7 +123,7 @@ both false b e = never e
 
 -- what seeking from word k on finds among words
 Finds : List ℕ → List Word → ℕ → Found → Type 0
-Finds l ws k r = (j : ℕ) × (r .place ≡ k + j) × (r .end ≤ length l) × ((room : ℕ) → called ws room l ≡ after (alone-at ws j) room (drop (r .end) l))
+Finds l ws k r = (j : ℕ) × (r .place ≡ k + j) × (r .end ≤ length l) × ((room : ℕ) → called ws room l ≡ behind (alone-at ws j) room (drop (r .end) l))
 
 frees : List Word → Bool
 frees [] = true
@@ -140,12 +140,12 @@ finds l (says w m ∷ ws) k f = by-test (starts w l) refl (reaches l w 0 (omega 
     by-test true e p q = rw (seek-word l w (table ws) k 0 (both (free w) (frees ws) f .0), p .0, e) (0, omega arith, ends-within l (along l w 0) (p .0 ∙ e), let q : along l w 0 ≡ length w = omega (arith, p .1 e) in λ room. rw q)
     by-test false e p q = let r = q (both (free w) (frees ws) f .1) in rw (seek-word l w (table ws) k 0 (both (free w) (frees ws) f .0), p .0, e) (suc (r .0), omega arith, r .2, r .3)
 
-pub tells : (l : List ℕ) (r : Found) → r ≡ seek l (table words) 0 0 → Tells l r
+pub tells : (l : List ℕ) (r : Found) → r ≡ seek l (table words) 0 0 → TellsWord l r
 unfolding Finds frees free words
 tells l r e =
     let p = finds l words 0 refl in
     let q : p .0 ≡ seek l (table words) 0 0 .place = omega (arith, p .1) in
-    rw e (record { within = p .2; told = λ room. p .3 room ∙ ap (λ n. after (alone-at words n) room (drop (seek l (table words) 0 0 .end) l)) q })
+    rw e (record { within = p .2; told = λ room. p .3 room ∙ ap (λ n. behind (alone-at words n) room (drop (seek l (table words) 0 0 .end) l)) q })
 
 -- none of the numbers below n
 unfoldable pub Past : ℕ → ℕ → Type 0
@@ -199,13 +199,13 @@ unfolding sounds sound words
 asks k word e = subst (λ x. Asks (alone-at words k) x) (sym e) (asks-at words refl k)
 
 -- a word alone, and one with a text behind a space
-pub called-alone : (l : List ℕ) (r : Found) (room : ℕ) (word : Command) (buffer : List ℕ) → Tells l r → r .end ≡ length l → word ≡ command-of (alone-at words (r .place))
+pub called-alone : (l : List ℕ) (r : Found) (room : ℕ) (word : Command) (buffer : List ℕ) → TellsWord l r → r .end ≡ length l → word ≡ command-of (alone-at words (r .place))
     → Means (called words room l) buffer word
 called-alone l r room word buffer t h e =
     let f : called words room l ≡ alone-at words (r .place) = t .told room ∙ rw (drop-all l (r .end) (omega arith)) in
     subst (λ x. Means x buffer word) (sym f) (asks (r .place) word e buffer)
 
-pub called-text : (l text : List ℕ) (r : Found) (room : ℕ) (word : Command) (buffer : List ℕ) (answer : Command) → Tells l r → ¬ (r .end ≡ length l)
+pub called-text : (l text : List ℕ) (r : Found) (room : ℕ) (word : Command) (buffer : List ℕ) (answer : Command) → TellsWord l r → ¬ (r .end ≡ length l)
     → word ≡ command-of (alone-at words (r .place)) → text ≡ drop (r .end + 1) l → Extends word room text buffer answer → Means (called words room l) buffer answer
 called-text l text r room word buffer answer t h e d x =
     let i = t .within in
@@ -220,7 +220,7 @@ module _ (meant : Meaning) (room : ℕ) (text : List ℕ) where
   extends-change word call n buffer answer e a p = rw (subst (λ x. Asks meant x) e a [] .1) p
 
   pub extends-report : (word : Command) (call : Report) (n : ℕ) (buffer : List ℕ) (answer : Command) → word ≡ Reports call n → Asks meant word
-      → Means (lent call text) buffer answer → Means (with-text meant room text) buffer answer
+      → Means (lends call text) buffer answer → Means (with-text meant room text) buffer answer
   extends-report word call n buffer answer e a p = rw (subst (λ x. Asks meant x) e a [] .1) p
 
   pub extends-other : (word : Command) → OneOf (2 ∷ 3 ∷ 4 ∷ 5 ∷ 6 ∷ []) (tagOf the-type word) → Asks meant word → with-text meant room text ≡ unknown

@@ -12,8 +12,8 @@ use Rattle.machine.specs.Text.{text}
 use Rattle.commands.specs.declared.Change.{Change}
 use Rattle.commands.specs.declared.Report.{Report}
 use Rattle.commands.specs.Digits.{digits, pairs, bytes, number-from, at-most}
-use Rattle.commands.specs.Meaning.{change, report, unknown, bad-hex, too-long, passed-over, batch, lent}
-use Rattle.commands.specs.Promise.{Holds}
+use Rattle.commands.specs.Meaning.{change, report, unknown, bad-hex, too-long, passed-over, batch, lends}
+use Rattle.commands.specs.Promise.{FitsIn}
 
 pub passed-empty : (l : List ℕ) → length l ≡ 0 → passed-over l ≡ true
 unfolding passed-over
@@ -45,23 +45,23 @@ pub batch-bytes : (call : Change) (room : ℕ) (l : List ℕ) → length l % 2 �
 unfolding batch pairs
 batch-bytes call room l h e g = simp (eq-eqb (length l % 2) 0 h, e, le-leb (length l) (room + room) (omega arith))
 
-pub lent-empty : (call : Report) (l : List ℕ) → length l ≡ 0 → lent call l ≡ unknown
-unfolding lent
+pub lent-empty : (call : Report) (l : List ℕ) → length l ≡ 0 → lends call l ≡ unknown
+unfolding lends
 lent-empty call [] h = refl
 lent-empty call (c ∷ l) h = absurd (omega arith)
 
-pub lent-other : (call : Report) (l : List ℕ) → digits 10 l ≡ false → lent call l ≡ unknown
-unfolding lent
+pub lent-other : (call : Report) (l : List ℕ) → digits 10 l ≡ false → lends call l ≡ unknown
+unfolding lends
 lent-other call [] e = refl
 lent-other call (c ∷ l) e = simp e
 
-pub lent-number : (call : Report) (l : List ℕ) → 0 < length l → digits 10 l ≡ true → lent call l ≡ report call (at-most (number-from 0 l))
-unfolding lent
+pub lent-number : (call : Report) (l : List ℕ) → 0 < length l → digits 10 l ≡ true → lends call l ≡ report call (at-most (number-from 0 l))
+unfolding lends
 lent-number call [] h e = absurd (omega arith)
 lent-number call (c ∷ l) h e = simp e
 
-pub nothing-held : (buffer : List ℕ) → Holds 0 buffer
+pub nothing-held : (buffer : List ℕ) → FitsIn 0 buffer
 nothing-held buffer = record { fits = omega arith; counted = refl }
 
-pub held : (n : ℕ) (buffer : List ℕ) → n ≤ length buffer → Holds n buffer
+pub held : (n : ℕ) (buffer : List ℕ) → n ≤ length buffer → FitsIn n buffer
 held n buffer h = record { fits = h; counted = sym (length-take-le n buffer h) }

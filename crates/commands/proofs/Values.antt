@@ -11,7 +11,7 @@ use native.Mathlib.Numerals.{add-one}
 use native.Mathlib.Omega.{arith}
 use borrow.Author.Tests.{le-leb, lt-leb, lt-ltb, le-ltb, ltb-true, ltb-false}
 use Rattle.machine.specs.Text.{digit}
-use Rattle.commands.specs.Digits.{between, value, digits, bytes, encoded, number-from, at-most}
+use Rattle.commands.specs.Digits.{between, digit-value, digits, bytes, encoded, number-from, at-most}
 
 within : (a e c : ℕ) → a ≤ c → c ≤ e → between a e c ≡ true
 unfolding between
@@ -25,32 +25,32 @@ over : (a e c : ℕ) → a ≤ c → e < c → between a e c ≡ false
 unfolding between
 over a e c h g = simp (le-leb a c h, lt-leb c e g)
 
-pub value-decimal : (c : ℕ) → 48 ≤ c → c ≤ 57 → value c ≡ c - 48
-unfolding value
+pub value-decimal : (c : ℕ) → 48 ≤ c → c ≤ 57 → digit-value c ≡ c - 48
+unfolding digit-value
 value-decimal c h g = simp (within 48 57 c h g)
 
-pub value-lower : (c : ℕ) → 97 ≤ c → c ≤ 102 → value c ≡ c - 87
-unfolding value
+pub value-lower : (c : ℕ) → 97 ≤ c → c ≤ 102 → digit-value c ≡ c - 87
+unfolding digit-value
 value-lower c h g = simp (over 48 57 c (omega arith) (omega arith), within 97 102 c h g)
 
-pub value-upper : (c : ℕ) → 65 ≤ c → c ≤ 70 → value c ≡ c - 55
-unfolding value
+pub value-upper : (c : ℕ) → 65 ≤ c → c ≤ 70 → digit-value c ≡ c - 55
+unfolding digit-value
 value-upper c h g = simp (over 48 57 c (omega arith) (omega arith), under 97 102 c (omega arith), within 65 70 c h g)
 
-pub value-low : (c : ℕ) → c < 48 → value c ≡ 16
-unfolding value
+pub value-low : (c : ℕ) → c < 48 → digit-value c ≡ 16
+unfolding digit-value
 value-low c h = simp (under 48 57 c h, under 97 102 c (omega arith), under 65 70 c (omega arith))
 
-pub value-middle : (c : ℕ) → 57 < c → c < 65 → value c ≡ 16
-unfolding value
+pub value-middle : (c : ℕ) → 57 < c → c < 65 → digit-value c ≡ 16
+unfolding digit-value
 value-middle c h g = simp (over 48 57 c (omega arith) h, under 97 102 c (omega arith), under 65 70 c g)
 
-pub value-between : (c : ℕ) → 70 < c → c < 97 → value c ≡ 16
-unfolding value
+pub value-between : (c : ℕ) → 70 < c → c < 97 → digit-value c ≡ 16
+unfolding digit-value
 value-between c h g = simp (over 48 57 c (omega arith) (omega arith), under 97 102 c g, over 65 70 c (omega arith) h)
 
-pub value-high : (c : ℕ) → 102 < c → value c ≡ 16
-unfolding value
+pub value-high : (c : ℕ) → 102 < c → digit-value c ≡ 16
+unfolding digit-value
 value-high c h = simp (over 48 57 c (omega arith) (omega arith), over 97 102 c (omega arith) h, over 65 70 c (omega arith) (omega arith))
 
 pub at-most-over : (n : ℕ) → 6400 < n → at-most n ≡ 6400
@@ -78,28 +78,28 @@ drop-all (x ∷ l) zero h = absurd (omega arith)
 drop-all (x ∷ l) (suc i) h = drop-all l i (omega arith)
 
 -- digits up to a place and from it on
-pub digits-more : (base : ℕ) (l : List ℕ) (i : ℕ) → i < length l → value (getD l i 0) < base → digits base (drop i l) ≡ digits base (drop (suc i) l)
+pub digits-more : (base : ℕ) (l : List ℕ) (i : ℕ) → i < length l → digit-value (getD l i 0) < base → digits base (drop i l) ≡ digits base (drop (suc i) l)
 unfolding digits
-digits-more base l i h g = rw (drop-cons l i 0 h, lt-ltb (value (getD l i 0)) base g)
+digits-more base l i h g = rw (drop-cons l i 0 h, lt-ltb (digit-value (getD l i 0)) base g)
 
-pub digits-fail : (base : ℕ) (l : List ℕ) (i : ℕ) → i < length l → base ≤ value (getD l i 0) → digits base (drop i l) ≡ false
+pub digits-fail : (base : ℕ) (l : List ℕ) (i : ℕ) → i < length l → base ≤ digit-value (getD l i 0) → digits base (drop i l) ≡ false
 unfolding digits
-digits-fail base l i h g = rw (drop-cons l i 0 h, le-ltb (value (getD l i 0)) base g)
+digits-fail base l i h g = rw (drop-cons l i 0 h, le-ltb (digit-value (getD l i 0)) base g)
 
 pub digits-end : (base : ℕ) (l : List ℕ) (i : ℕ) → length l ≤ i → digits base (drop i l) ≡ true
 unfolding digits
 digits-end base l i h = rw (drop-all l i h)
 
 -- each of them is one
-pub digits-at : (base : ℕ) (l : List ℕ) (i : ℕ) → digits base l ≡ true → i < length l → value (getD l i 0) < base
+pub digits-at : (base : ℕ) (l : List ℕ) (i : ℕ) → digits base l ≡ true → i < length l → digit-value (getD l i 0) < base
 unfolding digits
 digits-at base [] i e h = absurd (omega arith)
-digits-at base (x ∷ l) zero e h = ltb-true (value x) base (first (ltb (value x) base) _ e)
+digits-at base (x ∷ l) zero e h = ltb-true (digit-value x) base (first (ltb (digit-value x) base) _ e)
   where
     first : (a b : Bool) → a && b ≡ true → a ≡ true
     first true b e = refl
     first false b e = e
-digits-at base (x ∷ l) (suc i) e h = digits-at base l i (second (ltb (value x) base) _ e) (omega arith)
+digits-at base (x ∷ l) (suc i) e h = digits-at base l i (second (ltb (digit-value x) base) _ e) (omega arith)
   where
     second : (a b : Bool) → a && b ≡ true → b ≡ true
     second true b e = e
@@ -118,19 +118,19 @@ at-most-step n v = ⊎-elim more less (sides n)
 number-cut : (n : ℕ) (l : List ℕ) → at-most (number-from n l) ≡ at-most (number-from (at-most n) l)
 unfolding number-from
 number-cut n [] = sym (at-most-under (at-most n) (at-most-small n))
-number-cut n (c ∷ l) = number-cut (n * 10 + value c) l ∙ ap (λ k. at-most (number-from k l)) (at-most-step n (value c)) ∙ sym (number-cut (at-most n * 10 + value c) l)
+number-cut n (c ∷ l) = number-cut (n * 10 + digit-value c) l ∙ ap (λ k. at-most (number-from k l)) (at-most-step n (digit-value c)) ∙ sym (number-cut (at-most n * 10 + digit-value c) l)
 
 pub number-more : (n : ℕ) (l : List ℕ) (i : ℕ) → i < length l
-    → at-most (number-from n (drop i l)) ≡ at-most (number-from (at-most (n * 10 + value (getD l i 0))) (drop (suc i) l))
+    → at-most (number-from n (drop i l)) ≡ at-most (number-from (at-most (n * 10 + digit-value (getD l i 0))) (drop (suc i) l))
 unfolding number-from
-number-more n l i h = rw (drop-cons l i 0 h) (number-cut (n * 10 + value (getD l i 0)) (drop (suc i) l))
+number-more n l i h = rw (drop-cons l i 0 h) (number-cut (n * 10 + digit-value (getD l i 0)) (drop (suc i) l))
 
 pub number-end : (n : ℕ) (l : List ℕ) (i : ℕ) → length l ≤ i → n ≤ 6400 → at-most (number-from n (drop i l)) ≡ n
 unfolding number-from
 number-end n l i h g = rw (drop-all l i h) (at-most-under n g)
 
 -- the bytes from a place on
-pub bytes-more : (l : List ℕ) (i : ℕ) → suc i < length l → bytes (drop i l) ≡ (value (getD l i 0) * 16 + value (getD l (suc i) 0)) ∷ bytes (drop (suc (suc i)) l)
+pub bytes-more : (l : List ℕ) (i : ℕ) → suc i < length l → bytes (drop i l) ≡ (digit-value (getD l i 0) * 16 + digit-value (getD l (suc i) 0)) ∷ bytes (drop (suc (suc i)) l)
 unfolding bytes
 bytes-more l i h =
     let g : i < length l = omega arith in
@@ -142,13 +142,13 @@ bytes-end l i h = rw (drop-all l i h)
 
 -- one pair more, at the place behind the bytes
 pub bytes-put : (l b : List ℕ) (i at : ℕ) → at + 1 < length l → i < length b → bytes l ≡ take i b ++ bytes (drop at l)
-    → bytes l ≡ take (i + 1) (set b i (value (getD l at 0) * 16 + value (getD l (at + 1) 0))) ++ bytes (drop (at + 2) l)
+    → bytes l ≡ take (i + 1) (set b i (digit-value (getD l at 0) * 16 + digit-value (getD l (at + 1) 0))) ++ bytes (drop (at + 2) l)
 bytes-put l b i at h g e =
-    let v = value (getD l at 0) * 16 + value (getD l (at + 1) 0) in
+    let v = digit-value (getD l at 0) * 16 + digit-value (getD l (at + 1) 0) in
     let one : suc at ≡ at + 1 = omega arith in
     let two : suc (suc at) ≡ at + 2 = omega arith in
     let more : bytes (drop at l) ≡ v ∷ bytes (drop (at + 2) l) =
-    bytes-more l at (omega arith) ∙ ap (λ k. (value (getD l at 0) * 16 + value (getD l k 0)) ∷ bytes (drop (suc (suc at)) l)) one ∙ ap (λ k. v ∷ bytes (drop k l)) two in
+    bytes-more l at (omega arith) ∙ ap (λ k. (digit-value (getD l at 0) * 16 + digit-value (getD l k 0)) ∷ bytes (drop (suc (suc at)) l)) one ∙ ap (λ k. v ∷ bytes (drop k l)) two in
     let put : take (i + 1) (set b i v) ≡ take i b ++ (v ∷ []) = ap (λ k. take k (set b i v)) (add-one i) ∙ take-suc-set b i v g in
     e ∙ ap (λ (m : List ℕ). take i b ++ m) more ∙ sym (append-assoc (take i b) (v ∷ []) (bytes (drop (at + 2) l))) ∙ ap (λ (m : List ℕ). m ++ bytes (drop (at + 2) l)) (sym put)
 

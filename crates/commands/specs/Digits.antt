@@ -11,12 +11,12 @@ unfoldable pub between : ℕ → ℕ → ℕ → Bool
 between a e c = leb a c && leb c e
 
 -- the value of a digit, 0 to 9, a to f or A to F; 16 for any other byte
-unfoldable pub value : ℕ → ℕ
-value c = cond (between 48 57 c) (c - 48) (cond (between 97 102 c) (c - 87) (cond (between 65 70 c) (c - 55) 16))
+unfoldable pub digit-value : ℕ → ℕ
+digit-value c = cond (between 48 57 c) (c - 48) (cond (between 97 102 c) (c - 87) (cond (between 65 70 c) (c - 55) 16))
 
 -- every byte is a digit to the base
 unfoldable pub digits : ℕ → List ℕ → Bool
-digits base l = all (λ c. ltb (value c) base) l
+digits base l = all (λ c. ltb (digit-value c) base) l
 
 -- hex digits, two for each byte
 unfoldable pub pairs : List ℕ → Bool
@@ -26,7 +26,7 @@ pairs l = eqb (length l % 2) 0 && digits 16 l
 unfoldable pub bytes : List ℕ → List ℕ
 bytes [] = []
 bytes (a ∷ []) = []
-bytes (a ∷ b ∷ l) = (value a * 16 + value b) ∷ bytes l
+bytes (a ∷ b ∷ l) = (digit-value a * 16 + digit-value b) ∷ bytes l
 
 -- each byte as a pair of digits
 unfoldable pub encoded : List ℕ → List ℕ
@@ -36,7 +36,7 @@ encoded (x ∷ l) = digit (x / 16) ∷ digit (x % 16) ∷ encoded l
 -- the decimal number that goes on from n
 unfoldable pub number-from : ℕ → List ℕ → ℕ
 number-from n [] = n
-number-from n (c ∷ l) = number-from (n * 10 + value c) l
+number-from n (c ∷ l) = number-from (n * 10 + digit-value c) l
 
 -- at most 6,400: no sheet and no save is longer
 unfoldable pub at-most : ℕ → ℕ

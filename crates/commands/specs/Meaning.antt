@@ -49,14 +49,14 @@ unfoldable pub batch : Change → ℕ → List ℕ → Meaning
 batch call room l = cond (pairs l) (cond (leb (length l) (room + room)) (change call (bytes l)) too-long) bad-hex
 
 -- the call with a length in decimal digits, one at least
-unfoldable pub lent : Report → List ℕ → Meaning
-lent call [] = unknown
-lent call (c ∷ l) = cond (digits 10 (c ∷ l)) (report call (at-most (number-from 0 (c ∷ l)))) unknown
+unfoldable pub lends : Report → List ℕ → Meaning
+lends call [] = unknown
+lends call (c ∷ l) = cond (digits 10 (c ∷ l)) (report call (at-most (number-from 0 (c ∷ l)))) unknown
 
 -- the word with a text: a batch or a length, where the call takes one
 abbrev pub with-text : Meaning → ℕ → List ℕ → Meaning
 with-text (change call l) room t = batch call room t
-with-text (report call n) room t = lent call t
+with-text (report call n) room t = lends call t
 with-text (move call) room t = unknown
 with-text nothing room t = unknown
 with-text bad-hex room t = unknown
@@ -64,9 +64,9 @@ with-text too-long room t = unknown
 with-text unknown room t = unknown
 
 -- the word with what stands behind it: nothing, or one space and a text
-abbrev pub after : Meaning → ℕ → List ℕ → Meaning
-after m room [] = m
-after m room (c ∷ t) = with-text m room t
+abbrev pub behind : Meaning → ℕ → List ℕ → Meaning
+behind m room [] = m
+behind m room (c ∷ t) = with-text m room t
 
 -- the line starts with the word, and there it ends or goes on with a space
 unfoldable pub starts : List ℕ → List ℕ → Bool
@@ -78,7 +78,7 @@ starts (c ∷ w) (x ∷ l) = eqb x c && starts w l
 -- the first of the words that the line starts with tells
 unfoldable pub called : List Word → ℕ → List ℕ → Meaning
 called [] room l = unknown
-called (says w m ∷ ws) room l = cond (starts w l) (after m room (drop (length w) l)) (called ws room l)
+called (says w m ∷ ws) room l = cond (starts w l) (behind m room (drop (length w) l)) (called ws room l)
 
 -- the line, with so much room for a batch
 unfoldable pub meaning : ℕ → List ℕ → Meaning

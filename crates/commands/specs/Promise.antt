@@ -7,17 +7,17 @@ use Rattle.commands.specs.declared.Command.{Command}
 use Rattle.commands.specs.declared.Command.the-variants.{Changes, Reports, Moves, Nothing, BadHex, TooLong, Unknown}
 use Rattle.commands.specs.declared.Found.{Found}
 use Rattle.commands.specs.Digits.{encoded}
-use Rattle.commands.specs.Meaning.{Meaning, change, report, move, nothing, bad-hex, too-long, unknown, words, with-text, after, called}
+use Rattle.commands.specs.Meaning.{Meaning, change, report, move, nothing, bad-hex, too-long, unknown, words, with-text, behind, called}
 use Rattle.commands.specs.Table.{alone-at}
 
 -- the first n bytes lie within the buffer, which is said twice, as a caller that lends them is asked both
-pub record Holds (n : ℕ) (buffer : List ℕ) : Type 0 where
+pub record FitsIn (n : ℕ) (buffer : List ℕ) : Type 0 where
   pub fits : n ≤ length buffer
   pub counted : n ≡ length (take n buffer)
 
 -- for a batch its bytes stand at the start of the buffer
 abbrev pub Means : Meaning → List ℕ → Command → Type 0
-Means meant buffer (Changes call n) = Holds n buffer × (meant ≡ change call (take n buffer))
+Means meant buffer (Changes call n) = FitsIn n buffer × (meant ≡ change call (take n buffer))
 Means meant buffer (Reports call n) = (n ≤ 6400) × (meant ≡ report call n)
 Means meant buffer (Moves call) = meant ≡ move call
 Means meant buffer Nothing = meant ≡ nothing
@@ -30,9 +30,9 @@ abbrev pub Asks : Meaning → Command → Type 0
 Asks meant r = (buffer : List ℕ) → Means meant buffer r
 
 -- the word at a place tells, with what stands in the line from the word's end on
-pub record Tells (l : List ℕ) (r : Found) : Type 0 where
+pub record TellsWord (l : List ℕ) (r : Found) : Type 0 where
   pub within : r .end ≤ length l
-  pub told : (room : ℕ) → called words room l ≡ after (alone-at words (r .place)) room (drop (r .end) l)
+  pub told : (room : ℕ) → called words room l ≡ behind (alone-at words (r .place)) room (drop (r .end) l)
 
 -- a word with a text behind it, whatever the word means
 abbrev pub Extends : Command → ℕ → List ℕ → List ℕ → Command → Type 0
@@ -40,5 +40,5 @@ Extends word room text buffer r = (meant : Meaning) → Asks meant word → Mean
 
 -- the digits of the bytes stand at the start of the text
 pub record Encodes (l new : List ℕ) (n : ℕ) : Type 0 where
-  pub holds : Holds n new
+  pub holds : FitsIn n new
   pub digits-are : take n new ≡ encoded l

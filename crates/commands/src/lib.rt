@@ -4,11 +4,11 @@ ghost use mathlib.Core.Bool.{true};
 ghost use Prim.Native.Nat.{_+_, _/_, _%_, _<_, _≤_};
 ghost use lib.ListN.{length, take, drop};
 ghost use Rattle.machine.specs.Text.{digit};
-ghost use Rattle.commands.specs.Digits.{value, digits, bytes, number-from, at-most};
+ghost use Rattle.commands.specs.Digits.{digit-value, digits, bytes, number-from, at-most};
 ghost use Rattle.commands.specs.Meaning as m;
 ghost use Rattle.commands.specs.Meaning.{words, passed-over, called, meaning};
 ghost use Rattle.commands.specs.Table.{alone-at, command-of, ends, further, seek};
-ghost use Rattle.commands.specs.Promise.{Means, Asks, Tells, Extends, Encodes};
+ghost use Rattle.commands.specs.Promise.{Means, Asks, TellsWord, Extends, Encodes};
 
 // The calls that a batch comes with.
 pub enum Change {
@@ -49,7 +49,7 @@ pub struct Found {
 
 // The value of a digit of either case; 16 for any other byte.
 fn value(c: u8) -> u8
-    ensures { λ r. ⌜ r ≡ value c ⌝ }
+    ensures { λ r. ⌜ r ≡ digit-value c ⌝ }
 {
     match c {
         48..=57 => c - 48,
@@ -150,7 +150,7 @@ fn number(text: &[u8]) -> usize
 
 // The call with a buffer of the length that decimal digits name, one at least.
 fn with_length(call: Report, text: &[u8]) -> Command
-    ensures { λ r. ⌜ Asks (m.lent call (now (text .entry))) r ⌝ }
+    ensures { λ r. ⌜ Asks (m.lends call (now (text .entry))) r ⌝ }
 {
     if text.len() == 0 {
         return Command::Unknown;
@@ -222,7 +222,7 @@ fn seek(line: &[u8], table: &[u8]) -> Found
 
 // The table of words, in the order of `alone`.
 fn find(line: &[u8]) -> Found
-    ensures { λ r. ⌜ Tells (now (line .entry)) r ⌝ }
+    ensures { λ r. ⌜ TellsWord (now (line .entry)) r ⌝ }
 {
     seek(line, b"load\nwithdraw\nprint\nsave\nclose\nround\nreopen\n")
 }

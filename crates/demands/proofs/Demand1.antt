@@ -11,7 +11,7 @@ use Rattle.session.specs.declared.Session.{Session}
 use Rattle.session.specs.declared.Reply.{Reply}
 use Rattle.session.specs.Record.{record-of}
 use Rattle.demands.specs.Trace.{Exchange, given, onward, plain-after}
-use Rattle.demands.specs.Statements.{Answered, Demand1}
+use Rattle.demands.specs.Demands.{Answered, Demand1}
 use Rattle.demands.proofs.Reached.{Stands, does, reached}
 
 answered : (m : Machine) (s : Session) (e : Exchange Call Reply) → Stands m s e → Answered m s e

@@ -11,7 +11,7 @@ use Rattle.lists.specs.Tests.{_among_, gather}
 use Rattle.rows.specs.declared.Row.{Row}
 use Rattle.orderings.specs.Steps.{Claim}
 use Rattle.orderings.specs.Rounds.{OpenBy}
-use Rattle.orderings.specs.Systems.{Derivation, Valid, AcceptedIn, NonEmpty}
+use Rattle.orderings.specs.Systems.{Derivation, Valid, AcceptedIn, Accepts}
 use Rattle.orderings.specs.Timelines.{timelines}
 use Rattle.orderings.proofs.Walks.{allowed-more}
 use Rattle.orderings.proofs.Depths.{accepted-iff-depth}
@@ -19,21 +19,21 @@ use Rattle.orderings.proofs.Timelines.{lawful}
 use Rattle.machine.specs.declared.Answer.{Answer}
 use Rattle.machine.specs.declared.Answer.the-variants.{Done, Wrote}
 use Rattle.machine.specs.declared.Verdict.{Verdict}
-use Rattle.machine.specs.declared.Verdict.the-variants.{NonEmpty as NonEmptyV, Empty as EmptyV}
+use Rattle.machine.specs.declared.Verdict.the-variants.{NonEmpty, Empty}
 use Rattle.machine.specs.declared.Phase.the-variants.{Settled}
 use Rattle.machine.specs.Machine.{Machine, fresh, open-with, open-claims}
 use Rattle.machine.specs.Order.{Found, Candidate}
 use Rattle.machine.specs.Sheet.{verdict-line, opening-line, walk-lines, sheet}
 use Rattle.machine.specs.Calls.{load, print, save, Outcome, wrote, answer-of, Next, accept, saved, call, buffer-after, Tells}
 use Rattle.machine.specs.WellFormed.{Worked, Made, WellFormed}
-use Rattle.machine.specs.Demands.{Number}
+use Rattle.machine.specs.Statements.{Number}
 use Rattle.machine.proofs.Answers.{wrote-by}
 use Rattle.machine.proofs.Settling.{after-after}
 use Rattle.machine.proofs.Loading.{loads-back, saves}
-use Rattle.machine.proofs.Demands.{settled-number, second-is, worked-listed, prints, printed-walk}
+use Rattle.machine.proofs.Statements.{settled-number, second-is, worked-listed, prints, printed-walk}
 use Rattle.session.specs.Record.{record-of}
 use Rattle.demands.specs.Trace.{plain-after}
-use Rattle.demands.specs.Statements.{Walked, TrueSheet, PrintsTrue, SavesRows, Demand2}
+use Rattle.demands.specs.Demands.{Walked, TrueSheet, PrintsTrue, SavesRows, Demand2}
 use Rattle.demands.proofs.Reached.{told, fresh-is, reached}
 
 -- the text in the buffer
@@ -41,9 +41,9 @@ written : (a : Outcome) (old new l text : List ℕ) (n : ℕ) → new ≡ buffer
 written a old new l text n j e i k = j ∙ ap (λ (x : Outcome). buffer-after x old) e ∙ cc
 
 -- the verdict of the number
-verdict-of : (rows : List Row) (v : Verdict) (k : ℕ) → Number rows v k → (v ≡ NonEmptyV) ↔ NonEmpty (timelines rows)
-verdict-of rows NonEmptyV k n = ((λ e. n .0), λ h. refl)
-verdict-of rows EmptyV k n = ((λ e. let z : _≡_ {A = ℕ} 0 1 = cc in absurd (omega arith)), λ h. absurd (n .0 h))
+verdict-of : (rows : List Row) (v : Verdict) (k : ℕ) → Number rows v k → (v ≡ NonEmpty) ↔ Accepts (timelines rows)
+verdict-of rows NonEmpty k n = ((λ e. n .0), λ h. refl)
+verdict-of rows Empty k n = ((λ e. let z : _≡_ {A = ℕ} 0 1 = cc in absurd (omega arith)), λ h. absurd (n .0 h))
 
 module _ (m : Machine) (w : WellFormed m) where
   worked : (v : Verdict) → m .phase ≡ Settled v → Worked m
@@ -58,14 +58,14 @@ module _ (m : Machine) (w : WellFormed m) where
       ((f .start, c .1 .0, c .0, c .1 .1, c .1 .2), allowed-more S opened (f .walk) (c .2)) in
       (d .0, d .1, d .2)
 
-  walked : m .phase ≡ Settled NonEmptyV → (f : Found) × Walked m f
+  walked : m .phase ≡ Settled NonEmpty → (f : Found) × Walked m f
   unfolding sheet
   walked e = let p = printed-walk m w e in (
     p .0,
     record {
       found = p .1;
-      lines = ap (λ (o : Option Found). verdict-line NonEmptyV (m .rounds) ++ (gather opening-line (m .openings) ++ walk-lines o)) (p .1);
-      derived = derived (worked NonEmptyV e) (p .0) (p .2 .is);
+      lines = ap (λ (o : Option Found). verdict-line NonEmpty (m .rounds) ++ (gather opening-line (m .openings) ++ walk-lines o)) (p .1);
+      derived = derived (worked NonEmpty e) (p .0) (p .2 .is);
       best = p .2;
     },
   )

@@ -12,9 +12,9 @@ use Rattle.machine.specs.Sheet.{sheet}
 use Rattle.machine.specs.Calls.{print, Outcome, done, wrote, refused, answer-of, call, second, buffer-after}
 use Rattle.machine.specs.WellFormed.{WellFormed}
 use Rattle.machine.proofs.Outcomes.{Done, comes}
-use Rattle.machine.proofs.Demands.{second-is, print-accepts, prints}
+use Rattle.machine.proofs.Statements.{second-is, print-accepts, prints}
 use Rattle.demands.specs.Trace.{plain-after}
-use Rattle.demands.specs.Statements.{ExactPrint, Demand3}
+use Rattle.demands.specs.Demands.{ExactPrint, Demand3}
 use Rattle.demands.proofs.Reached.{told, reached}
 
 -- a print is never just done

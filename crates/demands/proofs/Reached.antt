@@ -12,7 +12,7 @@ use Rattle.session.specs.declared.Reply.{Reply}
 use Rattle.session.specs.Record.{Represents}
 use Rattle.session.specs.Promise.{Fresh, Does}
 use Rattle.demands.specs.Trace.{Exchange, Trace, given, lent, Served, onward, plain-after}
-use Rattle.demands.specs.Statements.{EveryCall}
+use Rattle.demands.specs.Demands.{EveryCall}
 
 -- a call at its place: it got the record of the machine m
 pub record Stands (m : Machine) (s : Session) (e : Exchange Call Reply) : Type 0 where

@@ -1,3 +1,3 @@
 -- The customer's three demands, of every list of calls on a session.
 pub mod Trace
-pub mod Statements
+pub mod Demands

@@ -13,7 +13,7 @@ ghost use Rattle.machine.specs.Program.{refusal-line};
 ghost use Rattle.lines.specs.Lines.{one-line, two-line, claim-of, label-of, step-to};
 
 // What a step reads: a letter, or a limit at a set.
-pub enum Label {
+pub enum StepLabel {
     Letter(u8),
     Omega(u64),
     Back(u64),
@@ -109,35 +109,35 @@ pub fn put_start_line(buf: &mut [u8], s: u64) -> usize
 }
 
 // How long a label's word and its letter or set are.
-fn label_len(label: Label) -> usize
+fn label_len(label: StepLabel) -> usize
     ensures { λ r. ⌜ (r ≡ length (label-text (label-of label))) × (r ≤ 27) ⌝ }
 {
     match label {
-        Label::Letter(a) => b"letter ".len() + number_len(a as u64),
-        Label::Omega(_) => b"omega ".len() + 16,
-        Label::Back(_) => b"back ".len() + 16,
-        Label::Mix(_) => b"mix ".len() + 16,
+        StepLabel::Letter(a) => b"letter ".len() + number_len(a as u64),
+        StepLabel::Omega(_) => b"omega ".len() + 16,
+        StepLabel::Back(_) => b"back ".len() + 16,
+        StepLabel::Mix(_) => b"mix ".len() + 16,
     }
 }
 
 // How long the line `step letter L to S`, or with `omega SET`, `back SET` or `mix SET`, is.
-pub fn step_line_len(label: Label, to: u64) -> usize
+pub fn step_line_len(label: StepLabel, to: u64) -> usize
     ensures { λ r. ⌜ r ≡ length (step-line (step-to label to)) ⌝ }
 {
     b"step  to \n".len() + label_len(label) + number_len(to)
 }
 
 // Writes the line of a step.
-pub fn put_step_line(buf: &mut [u8], label: Label, to: u64) -> usize
+pub fn put_step_line(buf: &mut [u8], label: StepLabel, to: u64) -> usize
     requires { ⌜ length (step-line (step-to label to)) ≤ length (now buf) ⌝ }
     ensures { λ r. ⌜ Wrote (step-line (step-to label to)) (now (buf .entry)) (now (buf .exit)) r ⌝ }
 {
     let end = Item::Number(to);
     match label {
-        Label::Letter(a) => put_two(buf, b"step letter ", Item::Number(a as u64), b" to ", end),
-        Label::Omega(set) => put_two(buf, b"step omega ", Item::Set(set), b" to ", end),
-        Label::Back(set) => put_two(buf, b"step back ", Item::Set(set), b" to ", end),
-        Label::Mix(set) => put_two(buf, b"step mix ", Item::Set(set), b" to ", end),
+        StepLabel::Letter(a) => put_two(buf, b"step letter ", Item::Number(a as u64), b" to ", end),
+        StepLabel::Omega(set) => put_two(buf, b"step omega ", Item::Set(set), b" to ", end),
+        StepLabel::Back(set) => put_two(buf, b"step back ", Item::Set(set), b" to ", end),
+        StepLabel::Mix(set) => put_two(buf, b"step mix ", Item::Set(set), b" to ", end),
     }
 }
 

@@ -16,6 +16,6 @@ pub mod Outcomes
 pub mod Loading
 pub mod Causes
 pub mod History
-pub mod Demands
+pub mod Statements
 pub mod Second
 pub mod Program

@@ -12,7 +12,7 @@ use Rattle.machine.specs.Machine.{Machine, open-with, fresh, load-row, w
 use Rattle.machine.specs.Calls.{load, withdraw, save, done, wrote, Next, accept, with-rows, saved, call-in, call}
 use Rattle.machine.specs.Causes.{Writes}
 use Rattle.machine.specs.WellFormed.{Table}
-use Rattle.machine.specs.Demands.{Loaded, Withdrawn, Saves}
+use Rattle.machine.specs.Statements.{Loaded, Withdrawn, Saves}
 use Rattle.machine.proofs.Tables.{load-same, load-keeps, withdraw-keeps, load-sets, withdraw-sets, same-table, sort-table, load-all}
 use Rattle.machine.proofs.Outcomes.{Done, load-done, withdraw-done, comes}
 

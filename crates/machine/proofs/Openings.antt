@@ -23,7 +23,7 @@ use Rattle.orderings.proofs.Timelines.{lawful}
 use Rattle.orderings.proofs.Claims.{both-out, claims-iff, claims-once, claims-length}
 use Rattle.machine.specs.Machine.{Opening, Machine, open-with, open-claims, opened-next, openings-of, next-round}
 use Rattle.machine.specs.WellFormed.{after}
-use Rattle.machine.specs.Demands.{loop-first, opening-key, Listed}
+use Rattle.machine.specs.Statements.{loop-first, opening-key, Listed}
 use Rattle.machine.proofs.Rounding.{close-closed, opened-next-iff}
 use Rattle.machine.proofs.Settling.{after-after}
 

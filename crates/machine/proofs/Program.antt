@@ -23,7 +23,7 @@ use Rattle.machine.proofs.Settling.{Settles, settles}
 use Rattle.machine.proofs.Tables.{no-rows}
 use Rattle.machine.proofs.Outcomes.{Done, load-done, Comes, comes}
 use Rattle.machine.proofs.History.{opened-formed, run-formed, call-formed, settle-runs}
-use Rattle.machine.proofs.Demands.{load-sorted, sheet-fits, print-accepts}
+use Rattle.machine.proofs.Statements.{load-sorted, sheet-fits, print-accepts}
 
 rounds-bring : (n : ℕ) (c : Call) → c among replicate n round → Brings c
 rounds-bring zero c m = absurd (List·Memᴰ·not-nil m)

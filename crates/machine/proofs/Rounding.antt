@@ -18,7 +18,7 @@ use Rattle.orderings.proofs.Claims.{claims-iff}
 use Rattle.machine.specs.declared.Verdict.the-variants.{NonEmpty, Empty}
 use Rattle.machine.specs.declared.Phase.the-variants.{Running, Settled}
 use Rattle.machine.specs.Machine.{Opening, Machine, fresh, judged, closed, open-claims, opened-next, nothing?, openings-of, next-round, reopened}
-use Rattle.machine.specs.Demands.{SomeWalk, FreshMachine, Reopened, Closed, Rounded}
+use Rattle.machine.specs.Statements.{SomeWalk, FreshMachine, Reopened, Closed, Rounded}
 
 -- which phase a judgement gives
 non-empty-when : (b v : Bool) → (judged b v ≡ Settled NonEmpty) ↔ (b ≡ true)

@@ -17,13 +17,13 @@ use Rattle.machine.specs.declared.Phase.the-variants.{Settled}
 use Rattle.machine.specs.Machine.{Opening, Machine, open-with}
 use Rattle.machine.specs.Calls.{run, settle, second}
 use Rattle.machine.specs.WellFormed.{Table, after}
-use Rattle.machine.specs.Demands.{loop-first, opening-key, Listed, Number, ByRounds, no-round, one-round, Works, SecondWorks}
+use Rattle.machine.specs.Statements.{loop-first, opening-key, Listed, Number, ByRounds, no-round, one-round, Works, SecondWorks}
 use Rattle.machine.proofs.Rounding.{close-closed, round-rounded}
 use Rattle.machine.proofs.Settling.{after-after, Settles, settles}
 use Rattle.machine.proofs.Openings.{after-listed}
 use Rattle.machine.proofs.Loading.{loads-back}
 use Rattle.machine.proofs.History.{settle-runs}
-use Rattle.machine.proofs.Demands.{load-sorted}
+use Rattle.machine.proofs.Statements.{load-sorted}
 
 -- one verdict and one round number
 pub number-unique : (rows : List Row) (v w : Verdict) (j k : ℕ) → Number rows v j → Number rows w k → (v ≡ w) × (j ≡ k)

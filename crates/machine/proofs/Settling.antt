@@ -24,12 +24,12 @@ use Rattle.orderings.proofs.Timelines.{lawful}
 use Rattle.orderings.proofs.Deciding.{accepts·}
 use Rattle.orderings.proofs.Claims.{claims-length, open-dec, at-most}
 use Rattle.machine.specs.declared.Verdict.{Verdict}
-use Rattle.machine.specs.declared.Verdict.the-variants.{NonEmpty as Non, Empty as Emp}
+use Rattle.machine.specs.declared.Verdict.the-variants.{NonEmpty, Empty}
 use Rattle.machine.specs.declared.Phase.{Phase}
 use Rattle.machine.specs.declared.Phase.the-variants.{Running, Settled}
 use Rattle.machine.specs.Machine.{Opening, Machine, open-with, open-claims, opened-next}
 use Rattle.machine.specs.WellFormed.{after}
-use Rattle.machine.specs.Demands.{SomeWalk, Closed, Rounded, Number}
+use Rattle.machine.specs.Statements.{SomeWalk, Closed, Rounded, Number}
 use Rattle.machine.proofs.Rounding.{close-closed, opened-next-iff, round-news, round-rounded}
 
 module _ (rows : List Row) where
@@ -114,8 +114,8 @@ module _ (rows : List Row) where
 
   -- what the phase after k rounds says
   data Told (k : ℕ) : Phase → Type 0 where
-    walks : Reached S k → Told k (Settled Non)
-    ends : ¬ Reached S k → (g : ℕ) → k ≡ suc g → Vain S g → Told k (Settled Emp)
+    walks : Reached S k → Told k (Settled NonEmpty)
+    ends : ¬ Reached S k → (g : ℕ) → k ≡ suc g → Vain S g → Told k (Settled Empty)
     goes-on : ¬ Reached S k → Opened S k → Told k Running
 
   no-walk : (k : ℕ) → ¬ SomeWalk rows (open-claims (after rows k)) → ¬ Reached S k
@@ -155,12 +155,12 @@ module _ (rows : List Row) where
           (goes-on (no-walk (suc k) n) (inr (p .0, o)))
 
   -- settled as non-empty, some walk leads from an initial to a final state
-  pub settled-walk : (k : ℕ) → after rows k .phase ≡ Settled Non → SomeWalk rows (open-claims (after rows k))
+  pub settled-walk : (k : ℕ) → after rows k .phase ≡ Settled NonEmpty → SomeWalk rows (open-claims (after rows k))
   settled-walk k e = go (after rows k .phase) e (told k)
     where
-      go : (p : Phase) → p ≡ Settled Non → Told k p → SomeWalk rows (open-claims (after rows k))
-      go (Settled Non) e (walks r) = reached-iff k .1 r
-      go (Settled Emp) e (ends n g i v) = let z : _≡_ {A = ℕ} 0 1 = cc in absurd (omega arith)
+      go : (p : Phase) → p ≡ Settled NonEmpty → Told k p → SomeWalk rows (open-claims (after rows k))
+      go (Settled NonEmpty) e (walks r) = reached-iff k .1 r
+      go (Settled Empty) e (ends n g i v) = let z : _≡_ {A = ℕ} 0 1 = cc in absurd (omega arith)
       go Running e (goes-on n o) = let z : _≡_ {A = ℕ} 0 1 = cc in absurd (omega arith)
 
   -- settled after K rounds, running before, and K is the number that the verdict asks for
@@ -197,17 +197,17 @@ module _ (rows : List Row) where
     one-more k t = go (after rows k .phase) refl (told k)
       where
         go : (p : Phase) → after rows k .phase ≡ p → Told k p → Settles ⊎ Running-to (suc k)
-        go (Settled Non) f (walks r) = inl (record {
+        go (Settled NonEmpty) f (walks r) = inl (record {
           rounds = k;
-          verdict = Non;
+          verdict = NonEmpty;
           most = t .most;
           phase = f;
           before = t .before;
           number = (nonempty-iff S (lawful rows) .1 (k, r), least-accepted S (lawful rows) k r (t .unreached));
         })
-        go (Settled Emp) f (ends m g i v) = inl (record {
+        go (Settled Empty) f (ends m g i v) = inl (record {
           rounds = k;
-          verdict = Emp;
+          verdict = Empty;
           most = t .most;
           phase = f;
           before = t .before;

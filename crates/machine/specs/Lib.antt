@@ -8,4 +8,4 @@ pub mod Calls
 pub mod Causes
 pub mod Program
 pub mod WellFormed
-pub mod Demands
+pub mod Statements

@@ -5,7 +5,7 @@ use mathlib.Core.Logic.{_⊎_, inl, inr, ⊎-elim, _↔_}
 use mathlib.Core.List.{List}
 use native.Mathlib.Omega.{arith}
 use native.Mathlib.Decide.{decLt}
-use Rattle.orderings.specs.Systems.{System, walk-depth, Derivation, depth, Valid, Derivable, LeastDepth, GreatestLeast, NonEmpty, LeastAccepted, AcceptedIn}
+use Rattle.orderings.specs.Systems.{System, walk-depth, Derivation, depth, Valid, Derivable, LeastDepth, GreatestLeast, Accepts, LeastAccepted, AcceptedIn}
 use Rattle.orderings.specs.Rounds.{OpenBy, Opens, AcceptedBy}
 use Rattle.orderings.proofs.Walks.{allowed-more}
 use Rattle.orderings.proofs.Depths.{Lawful, open-le, sound, open-iff-depth, opens-iff-least, accepted-iff-depth, fixpoint, derivable-iff-open}
@@ -53,7 +53,7 @@ module _ (S : System) where
     reached-stop k v j r = (r .0, (r .1 .0, allowed-more S (fixpoint S law k v j) (r .0) (r .1 .1)))
 
     -- some derivation gives a walk from an initial to a final state: some number of rounds does
-    pub nonempty-iff : NonEmpty S ↔ ((k : ℕ) × Reached k)
+    pub nonempty-iff : Accepts S ↔ ((k : ℕ) × Reached k)
     nonempty-iff = (
       (λ n. let k = walk-depth S (depth S (n .0)) (n .2 .0) in (k, (n .2 .0, accepted-iff-depth S law k (n .2 .0) .1 (n .0, n .1, n .2 .1, omega arith)))),
       λ r. let d = accepted-iff-depth S law (r .0) (r .1 .0) .0 (r .1 .1) in (d .0, d .1, (r .1 .0, d .2)),

@@ -103,8 +103,8 @@ abbrev pub AcceptedIn : (S : System) → Derivation S → List (S .Step) → Typ
 AcceptedIn S D w = S .Accepting w × Allowed S (Has S D) w
 
 -- some derivation gives a walk from an initial to a final state
-abbrev pub NonEmpty : System → Type 0
-NonEmpty S = (D : Derivation S) × Valid S D × ((w : List (S .Step)) × AcceptedIn S D w)
+abbrev pub Accepts : System → Type 0
+Accepts S = (D : Derivation S) × Valid S D × ((w : List (S .Step)) × AcceptedIn S D w)
 
 -- in some derivation a walk from an initial to a final state has depth k, and in none has such a walk less
 abbrev pub LeastAccepted : System → ℕ → Type 0

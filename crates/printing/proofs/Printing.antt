@@ -32,10 +32,10 @@ use Rattle.automaton.specs.declared.Automaton.{Automaton}
 use Rattle.automaton.proofs.Passing.{graph-worded}
 use Rattle.rounds.specs.declared.Rounds.{Rounds}
 use Rattle.rounds.specs.Arrays.{round-of, OpenPlaces}
-use Rattle.rounds.specs.Promises.{Kept}
+use Rattle.rounds.specs.Promises.{Mirrors}
 use Rattle.rounds.proofs.Settled.{forced-of}
-use Rattle.walks.specs.declared.Walk.{Walk}
-use Rattle.walks.specs.Walks.{walk-of, Answers, FirstWalk}
+use Rattle.walks.specs.declared.FoundWalk.{FoundWalk}
+use Rattle.walks.specs.Walks.{as-found, Answers, FirstWalk}
 use Rattle.sheets.specs.Openings.{opened, openings-in, Recorded}
 use Rattle.sheets.proofs.Sheet.{recorded, sheet-empty, sheet-nonempty}
 use Rattle.printing.specs.Text.{openings-text, head-text, walked-text}
@@ -43,7 +43,7 @@ use Rattle.printing.specs.Promise.{FindsWalk, PrintsSheet}
 
 -- ---- the walk
 
-pub finds : (highs lows : List ℕ) (n k : ℕ) (a : Automaton) (rounds : Rounds) (back : Graph) (force : Claims) (w : Walk) → TurnedGraph (graph-of (a .graph)) back
+pub finds : (highs lows : List ℕ) (n k : ℕ) (a : Automaton) (rounds : Rounds) (back : Graph) (force : Claims) (w : FoundWalk) → TurnedGraph (graph-of (a .graph)) back
     → OpenPlaces (rounds .«loop_rounds») k (force .loops) → OpenPlaces (rounds .«mix_rounds») k (force .mixes)
     → FirstWalk highs lows n back force (a .initials) (a .finals) w → FindsWalk highs lows n k a rounds w
 finds highs lows n k a rounds back force w turned h g f m words formed filed gives kept =
@@ -68,7 +68,7 @@ noted-in c (o ∷ l) = go (same-claim c (o .claim)) (same-claim· c (o .claim)) 
     go false d r = ⊎-elim (λ p. inl ((λ m. ⊎-elim (λ e. no· d e) (λ i. p .0 i) (List·Memᴰ·cases-cons m)), p .1)) (λ i. inr (List·Memᴰ·tail i)) r
 
 module _ (m : Machine) (formed : WellFormed m) (words : List ℕ) (k : ℕ) (worded : Worded (m .rows) words k)
-    (rounds : Rounds) (kept : Kept m (rounds .«loop_rounds») (rounds .«mix_rounds») (rounds .phase) (rounds .count)) where
+    (rounds : Rounds) (kept : Mirrors m (rounds .«loop_rounds») (rounds .«mix_rounds») (rounds .phase) (rounds .count)) where
   recorded-of : Recorded m (rounds .«loop_rounds») (rounds .«mix_rounds») words k
   recorded-of = rw (kept .loops-are, kept .mixes-are, worded .words-are, worded .count) (recorded m (round-of (m .openings)) (λ c. noted-in c (m .openings)) 64)
 
@@ -77,10 +77,10 @@ module _ (m : Machine) (formed : WellFormed m) (words : List ℕ) (k : ℕ) (wor
   empty-sheet e = sheet-empty m formed (rounds .«loop_rounds») (rounds .«mix_rounds») words k recorded-of e
       ∙ ap (λ (c : ℕ). verdict-line Empty c ++ gather opening-line (openings-in (rounds .«loop_rounds») (rounds .«mix_rounds») words k c)) (sym (kept .count-is))
 
-  pub nonempty-sheet : (w : Walk) → Answers (m .rows) (open-claims m) w → m .phase ≡ Settled NonEmpty → sheet NonEmpty m ≡ walked-text words k rounds w
+  pub nonempty-sheet : (w : FoundWalk) → Answers (m .rows) (open-claims m) w → m .phase ≡ Settled NonEmpty → sheet NonEmpty m ≡ walked-text words k rounds w
   unfolding head-text walked-text
   nonempty-sheet w f e =
-      let l = walk-lines (some (walk-of w)) in
+      let l = walk-lines (some (as-found w)) in
       sheet-nonempty m formed (rounds .«loop_rounds») (rounds .«mix_rounds») words k recorded-of e w f
       ∙ ap (λ (c : ℕ). verdict-line NonEmpty c ++ (gather opening-line (openings-in (rounds .«loop_rounds») (rounds .«mix_rounds») words k c) ++ l)) (sym (kept .count-is))
       ∙ sym (append-assoc (verdict-line NonEmpty (rounds .count)) (openings-text words k rounds) l)
@@ -95,16 +95,16 @@ module _ (words : List ℕ) (k : ℕ) (rounds : Rounds) where
   unfolding head-text
   head-length v = length-append (verdict-line v (rounds .count)) (openings-text words k rounds)
 
-  pub walked-length : (w : Walk) → length (walked-text words k rounds w) ≡ length (head-text NonEmpty words k rounds) + length (walk-lines (some (walk-of w)))
+  pub walked-length : (w : FoundWalk) → length (walked-text words k rounds w) ≡ length (head-text NonEmpty words k rounds) + length (walk-lines (some (as-found w)))
   unfolding walked-text
-  walked-length w = length-append (head-text NonEmpty words k rounds) (walk-lines (some (walk-of w)))
+  walked-length w = length-append (head-text NonEmpty words k rounds) (walk-lines (some (as-found w)))
 
   -- the openings after the verdict, and the walk after both
   pub head-wrote : (v : Verdict) (old new : List ℕ) {r : ℕ} → Writing.Wrote (verdict-line v (rounds .count) ++ openings-text words k rounds) old new r → Writing.Wrote (head-text v words k rounds) old new r
   unfolding head-text
   head-wrote v old new p = p
 
-  pub walked-wrote : (w : Walk) (old new : List ℕ) {r : ℕ} → Writing.Wrote (head-text NonEmpty words k rounds ++ walk-lines (some (walk-of w))) old new r → Writing.Wrote (walked-text words k rounds w) old new r
+  pub walked-wrote : (w : FoundWalk) (old new : List ℕ) {r : ℕ} → Writing.Wrote (head-text NonEmpty words k rounds ++ walk-lines (some (as-found w))) old new r → Writing.Wrote (walked-text words k rounds w) old new r
   unfolding walked-text
   walked-wrote w old new p = p
 
@@ -120,6 +120,6 @@ module _ (highs lows : List ℕ) (n : ℕ) (words : List ℕ) (k : ℕ) (a : Aut
   pub prints-empty : TellsText (head-text Empty words k rounds) old new r → PrintsSheet Empty highs lows n words k a rounds old new r
   prints-empty p m formed e filed gives kept = prints-text m Empty (head-text Empty words k rounds) old new r e (empty-sheet m formed words k (filed .1) rounds kept e) p
 
-  pub prints-nonempty : (w : Walk) → FindsWalk highs lows n k a rounds w → TellsText (walked-text words k rounds w) old new r → PrintsSheet NonEmpty highs lows n words k a rounds old new r
+  pub prints-nonempty : (w : FoundWalk) → FindsWalk highs lows n k a rounds w → TellsText (walked-text words k rounds w) old new r → PrintsSheet NonEmpty highs lows n words k a rounds old new r
   prints-nonempty w f p m formed e filed gives kept =
       prints-text m NonEmpty (walked-text words k rounds w) old new r e (nonempty-sheet m formed words k (filed .1) rounds kept w (f m words formed filed gives kept) e) p

@@ -7,8 +7,8 @@ use Rattle.machine.specs.declared.Verdict.{Verdict}
 use Rattle.machine.specs.declared.Verdict.the-variants.{NonEmpty}
 use Rattle.machine.specs.Sheet.{verdict-line, opening-line, walk-lines}
 use Rattle.rounds.specs.declared.Rounds.{Rounds}
-use Rattle.walks.specs.declared.Walk.{Walk}
-use Rattle.walks.specs.Walks.{walk-of}
+use Rattle.walks.specs.declared.FoundWalk.{FoundWalk}
+use Rattle.walks.specs.Walks.{as-found}
 use Rattle.sheets.specs.Openings.{openings-in}
 
 -- the lines of the openings
@@ -20,5 +20,5 @@ unfoldable pub head-text : Verdict → List ℕ → ℕ → Rounds → List ℕ
 head-text v words k rounds = verdict-line v (rounds .count) ++ openings-text words k rounds
 
 -- these lines with the verdict that there is a walk, and then those of the walk
-unfoldable pub walked-text : List ℕ → ℕ → Rounds → Walk → List ℕ
-walked-text words k rounds w = head-text NonEmpty words k rounds ++ walk-lines (some (walk-of w))
+unfoldable pub walked-text : List ℕ → ℕ → Rounds → FoundWalk → List ℕ
+walked-text words k rounds w = head-text NonEmpty words k rounds ++ walk-lines (some (as-found w))

@@ -9,7 +9,7 @@ use machine::Verdict;
 use rounds::Rounds;
 use search::Claims;
 use search::graphs;
-use walks::Walk;
+use walks::FoundWalk;
 ghost use mathlib.Core.Path.{_≡_};
 ghost use mathlib.Core.Option.{some};
 ghost use Prim.Native.Nat.{_≤_, _+_};
@@ -19,7 +19,7 @@ ghost use Rattle.lists.specs.Writing.{Wrote, WroteAt};
 ghost use Rattle.machine.specs.declared.Verdict.the-variants.{NonEmpty, Empty};
 ghost use Rattle.machine.specs.Sheet.{opening-line, walk-lines};
 ghost use Rattle.machine.specs.Calls.{TellsText};
-ghost use Rattle.walks.specs.Walks.{walk-of, Bounded};
+ghost use Rattle.walks.specs.Walks.{as-found, Bounded};
 ghost use Rattle.sheets.specs.Openings.{openings-in};
 ghost use Rattle.printing.specs.Text.{head-text, walked-text};
 ghost use Rattle.printing.specs.Promise.{FindsWalk, PrintsSheet};
@@ -44,9 +44,9 @@ fn openings_at(
 }
 
 // Writes the lines of a walk from `at` on, and returns the next place.
-fn walk_at(buf: &mut [u8], at: usize, walk: Walk) -> usize
-    requires { ⌜ Bounded walk × (at + length (walk-lines (some (walk-of walk))) ≤ length (now buf)) ⌝ }
-    ensures { λ r. ⌜ WroteAt (walk-lines (some (walk-of walk))) (now (buf .entry)) (now (buf .exit)) at r ⌝ }
+fn walk_at(buf: &mut [u8], at: usize, walk: FoundWalk) -> usize
+    requires { ⌜ Bounded walk × (at + length (walk-lines (some (as-found walk))) ≤ length (now buf)) ⌝ }
+    ensures { λ r. ⌜ WroteAt (walk-lines (some (as-found walk))) (now (buf .entry)) (now (buf .exit)) at r ⌝ }
 {
     at + sheets::put_walk(&mut buf[at..], walk)
 }
@@ -90,7 +90,7 @@ fn first_walk(
     k: usize,
     a: Automaton,
     rounds: Rounds,
-) -> Walk
+) -> FoundWalk
     requires { ⌜ (n ≤ 256) × (k ≤ 64) ⌝ }
     ensures bounded { λ r. ⌜ Bounded r ⌝ }
     ensures finds { λ r. ⌜ FindsWalk (now (high .entry)) (now (low .entry)) n k a rounds r ⌝ }
@@ -125,7 +125,7 @@ fn print_nonempty(
     words: &[u64; MOST_SETS],
     k: usize,
     rounds: Rounds,
-    walk: Walk,
+    walk: FoundWalk,
 ) -> Answer
     requires { ⌜ (k ≤ 64) × Bounded walk ⌝ }
     ensures { λ r. ⌜ TellsText (walked-text (now (words .entry)) k rounds walk)

@@ -25,7 +25,7 @@ use Rattle.search.specs.Masked.{Forced}
 use Rattle.search.specs.Promises.{AcceptsRight, OpensBelow}
 use Rattle.table.specs.Arrays.{Worded}
 use Rattle.rounds.specs.Arrays.{rounds-of, OpenPlaces, Marks}
-use Rattle.rounds.specs.Promises.{Given, Kept}
+use Rattle.rounds.specs.Promises.{Given, Mirrors}
 use Rattle.rounds.proofs.OpenClaims.{set-at, open-iff, no-rounds}
 use Rattle.rounds.proofs.Turn.{none, none-forced, walk-test, Turn, turn-kept, turn-forced}
 
@@ -35,7 +35,7 @@ not-running p q e h = record { to = λ f. let z : _≡_ {A = ℕ} 0 1 = cc in ab
 
 -- closed, with no claims in force
 pub closed-kept : (m : Machine) {g : Graph} {initials finals n : ℕ} → Given (m .rows) g initials finals n → (b : Bool) → AcceptsRight g none initials finals b
-    → Kept (closed m) (replicate 64 0) (replicate 64 0) (judged b false) 0
+    → Mirrors (closed m) (replicate 64 0) (replicate 64 0) (judged b false) 0
 unfolding closed
 closed-kept m {g} {n = n} given b r = record {
   loops-are = sym (no-rounds (m .rows) loops (given .table .few-sets));
@@ -70,7 +70,7 @@ pub record Round (g : Graph) (initials finals n : ℕ) (force new all : Claims) 
   pub mix-marked : Marks mix-rounds (new .mixes) (k + 1) mix-marks
 
 module _ (m : Machine) {g : Graph} {initials finals n : ℕ} (given : Given (m .rows) g initials finals n)
-    {force new all : Claims} {loop-rounds mix-rounds : List ℕ} {phase : Phase} {k : ℕ} (kept : Kept m loop-rounds mix-rounds phase k)
+    {force new all : Claims} {loop-rounds mix-rounds : List ℕ} {phase : Phase} {k : ℕ} (kept : Mirrors m loop-rounds mix-rounds phase k)
     (forced : Forced (λ c. c among open-claims m) g n force) {accepted vain : Bool} {loop-marks mix-marks : List ℕ}
     (r : Round g initials finals n force new all k loop-rounds mix-rounds accepted vain loop-marks mix-marks) where
   marks : (claim : ℕ → Claim) (old now : List ℕ) (places : ℕ) → old ≡ rounds-of m claim → Marks old places (k + 1) now → Marks (rounds-of m claim) places (m .rounds + 1) now
@@ -88,9 +88,9 @@ module _ (m : Machine) {g : Graph} {initials finals n : ℕ} (given : Given (m .
     mix-marked = marks mixes mix-rounds mix-marks (new .mixes) (kept .mixes-are) (r .mix-marked);
   }
 
-  pub next-kept : Kept (next-round m) loop-marks mix-marks (judged accepted vain) (k + 1)
+  pub next-kept : Mirrors (next-round m) loop-marks mix-marks (judged accepted vain) (k + 1)
   next-kept = let e : m .rounds + 1 ≡ k + 1 = omega (arith, kept .count-is) in
-      subst (Kept (next-round m) loop-marks mix-marks (judged accepted vain)) e (turn-kept m g initials finals n force new all accepted vain loop-marks mix-marks turn)
+      subst (Mirrors (next-round m) loop-marks mix-marks (judged accepted vain)) e (turn-kept m g initials finals n force new all accepted vain loop-marks mix-marks turn)
 
   pub next-forced : Forced (λ c. c among open-claims (next-round m)) g n all
   next-forced = turn-forced m g initials finals n force new all accepted vain loop-marks mix-marks turn
@@ -99,7 +99,7 @@ module _ (m : Machine) {g : Graph} {initials finals n : ℕ} (given : Given (m .
 
 -- k rounds are done, with the claims in force and the rounds of the claims that the machine has then
 pub record Stage (rows : List Row) (g : Graph) (n : ℕ) (force : Claims) (loop-rounds mix-rounds : List ℕ) (phase : Phase) (k : ℕ) : Type 0 where
-  pub kept : Kept (after rows k) loop-rounds mix-rounds phase k
+  pub kept : Mirrors (after rows k) loop-rounds mix-rounds phase k
   pub forced : Forced (λ c. c among open-claims (after rows k)) g n force
   pub before : (j : ℕ) → j < k → after rows j .phase ≡ Running
 
@@ -126,25 +126,25 @@ module _ (rows : List Row) {g : Graph} {initials finals n : ℕ} (given : Given 
       let e : suc k ≡ k + 1 = omega arith in
       let here = subst (λ (l : List Row). Given l g initials finals n) (sym (after-after rows k .same-rows)) given in
       subst (λ (j : ℕ). Stage rows g n all loop-marks mix-marks (judged accepted vain) j) e (record {
-        kept = subst (Kept (next-round (after rows k)) loop-marks mix-marks (judged accepted vain)) (sym e) (next-kept (after rows k) here (s .kept) (s .forced) r);
+        kept = subst (Mirrors (next-round (after rows k)) loop-marks mix-marks (judged accepted vain)) (sym e) (next-kept (after rows k) here (s .kept) (s .forced) r);
         forced = next-forced (after rows k) here (s .kept) (s .forced) r;
         before = λ j l. ⊎-elim (λ x. subst (λ (i : ℕ). after rows i .phase ≡ Running) (sym x) (sym (s .kept .phase-is) ∙ running)) (s .before j) (eq-or-lt-of-le (le-of-suc-le-suc l));
       })
 
 -- a round of a machine that calls made, whose claims in force are read from the arrays
 pub round-kept : (m : Machine) → WellFormed m → {g : Graph} {initials finals n : ℕ} → Given (m .rows) g initials finals n
-    → (force new all : Claims) {loop-rounds mix-rounds : List ℕ} {phase : Phase} {k : ℕ} → Kept m loop-rounds mix-rounds phase k
+    → (force new all : Claims) {loop-rounds mix-rounds : List ℕ} {phase : Phase} {k : ℕ} → Mirrors m loop-rounds mix-rounds phase k
     → OpenPlaces loop-rounds n (force .loops) → OpenPlaces mix-rounds n (force .mixes) → {accepted vain : Bool} {loop-marks mix-marks : List ℕ}
-    → Round g initials finals n force new all k loop-rounds mix-rounds accepted vain loop-marks mix-marks → Kept (next-round m) loop-marks mix-marks (judged accepted vain) (k + 1)
+    → Round g initials finals n force new all k loop-rounds mix-rounds accepted vain loop-marks mix-marks → Mirrors (next-round m) loop-marks mix-marks (judged accepted vain) (k + 1)
 round-kept m w {g} {n = n} given force new all {loop-rounds} {mix-rounds} kept is-l is-m r =
     next-kept m given kept (forced-of m w g n (given .worded) loop-rounds mix-rounds (kept .loops-are) (kept .mixes-are) force is-l is-m) r
 
 -- running before each of k rounds, and no more after them or 129 of them done
 pub kept-settled : (rows : List Row) → Table rows → (k : ℕ) (loop-rounds mix-rounds : List ℕ) (phase : Phase) (count : ℕ)
     → ((j : ℕ) → j < k → after rows j .phase ≡ Running) → (129 ≤ k) ⊎ (¬ (phase ≡ Running))
-    → Kept (after rows k) loop-rounds mix-rounds phase count → Kept (run (open-with rows) settle) loop-rounds mix-rounds phase count
+    → Mirrors (after rows k) loop-rounds mix-rounds phase count → Mirrors (run (open-with rows) settle) loop-rounds mix-rounds phase count
 kept-settled rows t k loop-rounds mix-rounds phase count before ended kept =
-    subst (λ (m : Machine). Kept m loop-rounds mix-rounds phase count) (ap (after rows) all-done ∙ sym (settle-runs rows s)) kept
+    subst (λ (m : Machine). Mirrors m loop-rounds mix-rounds phase count) (ap (after rows) all-done ∙ sym (settle-runs rows s)) kept
   where
     s : Settles rows
     s = settles rows (t .few-sets)

@@ -23,9 +23,9 @@ use Rattle.search.specs.declared.Claims.{Claims}
 use Rattle.search.specs.Graph.{Graph}
 use Rattle.search.specs.Hops.{WithNew}
 use Rattle.search.specs.Masked.{Forced}
-use Rattle.search.specs.Promises.{AcceptsRight, Opens, Opened}
+use Rattle.search.specs.Promises.{AcceptsRight, NewlyHolds, Opened}
 use Rattle.rounds.specs.Arrays.{rounds-of, Marks}
-use Rattle.rounds.specs.Promises.{Given, Kept}
+use Rattle.rounds.specs.Promises.{Given, Mirrors}
 use Rattle.rounds.proofs.OpenClaims.{set-at}
 use Rattle.rounds.proofs.Marking.{marked}
 
@@ -88,7 +88,7 @@ module _ (m : Machine) (g : Graph) (initials finals n : ℕ) (force new all : Cl
   P i = getD (g .sets) i 0
 
   -- the new places are those of the claims that the machine opens next
-  new-iff : (claim : ℕ → Claim) (mask : ℕ) → ((i : ℕ) → (i ∈ mask) ↔ ((i < n) × Opens (m .rows) (open-claims m) (claim (P i))))
+  new-iff : (claim : ℕ → Claim) (mask : ℕ) → ((i : ℕ) → (i ∈ mask) ↔ ((i < n) × NewlyHolds (m .rows) (open-claims m) (claim (P i))))
       → (i : ℕ) → (i ∈ mask) ↔ ((i < n) × claim (P i) among opened-next m)
   new-iff claim mask h i = let q = opened-next-iff m (claim (P i)) in ((λ k. let x = h i .0 k in (x .0, q .1 (x .1))), λ x. h i .1 (x .0, q .0 (x .1)))
 
@@ -148,7 +148,7 @@ module _ (m : Machine) (g : Graph) (initials finals n : ℕ) (force new all : Cl
       place : (i : ℕ) → (i ∈ mask) ↔ ((i < n) × claim (P i) among opened-next m) → (i ∈ mask) ↔ ((i < length (sets (m .rows))) × claim (set-at m i) among opened-next m)
       place i f = rw (d .given .worded .count, ap (λ (l : List ℕ). getD l i 0) (d .given .worded .words-are)) at f
 
-  pub turn-kept : Kept (next-round m) loop-marks mix-marks (judged accepted vain) (m .rounds + 1)
+  pub turn-kept : Mirrors (next-round m) loop-marks mix-marks (judged accepted vain) (m .rounds + 1)
   unfolding next-round
   turn-kept = record {
     loops-are = marks-next loops (new .loops) loop-marks new-loops (d .loop-marked);

@@ -23,7 +23,7 @@ pub record Given (rows : List Row) (g : Graph) (initials finals n : ℕ) : Type 
   pub final-iff : Finals rows finals
 
 -- the rounds of the claims, the phase and the count of rounds are those of the machine
-pub record Kept (m : Machine) (loop-rounds mix-rounds : List ℕ) (phase : Phase) (count : ℕ) : Type 0 where
+pub record Mirrors (m : Machine) (loop-rounds mix-rounds : List ℕ) (phase : Phase) (count : ℕ) : Type 0 where
   pub loops-are : loop-rounds ≡ rounds-of m loops
   pub mixes-are : mix-rounds ≡ rounds-of m mixes
   pub phase-is : phase ≡ m .phase
@@ -32,15 +32,15 @@ pub record Kept (m : Machine) (loop-rounds mix-rounds : List ℕ) (phase : Phase
 -- they are those of the machine, closed
 abbrev pub Closes : Graph → ℕ → ℕ → Rounds → Type 0
 Closes g initials finals r = (m : Machine) (n : ℕ) → Given (m .rows) g initials finals n
-    → Kept (closed m) (r .«loop_rounds») (r .«mix_rounds») (r .phase) (r .count)
+    → Mirrors (closed m) (r .«loop_rounds») (r .«mix_rounds») (r .phase) (r .count)
 
 -- where they were those of a machine, they are those of the machine after one round more
 abbrev pub DoesRound : Graph → ℕ → ℕ → ℕ → Rounds → Rounds → Type 0
 DoesRound g initials finals n old new = (m : Machine) → WellFormed m → Given (m .rows) g initials finals n
-    → Kept m (old .«loop_rounds») (old .«mix_rounds») (old .phase) (old .count)
-    → Kept (next-round m) (new .«loop_rounds») (new .«mix_rounds») (new .phase) (new .count)
+    → Mirrors m (old .«loop_rounds») (old .«mix_rounds») (old .phase) (old .count)
+    → Mirrors (next-round m) (new .«loop_rounds») (new .«mix_rounds») (new .phase) (new .count)
 
 -- they are those of the machine with these rows, closed and settled
 abbrev pub Settles : Graph → ℕ → ℕ → ℕ → Rounds → Type 0
 Settles g initials finals n r = (rows : List Row) → Given rows g initials finals n
-    → Kept (run (open-with rows) settle) (r .«loop_rounds») (r .«mix_rounds») (r .phase) (r .count)
+    → Mirrors (run (open-with rows) settle) (r .«loop_rounds») (r .«mix_rounds») (r .phase) (r .count)

@@ -59,12 +59,12 @@ pub record Explored (E : ℕ → ℕ → Type 0) (found last r : ℕ) : Type 0 w
   pub closed : (a b : ℕ) → (a ∈ last) ⊎ (a ∈ r) → E a b → b ∈ r
 
 -- the set of all states
-abbrev pub all : ℕ
-all = 2 ^ 64 - 1
+abbrev pub all-mask : ℕ
+all-mask = 2 ^ 64 - 1
 
 -- r is the set of the states to which chains lead from the states m
 abbrev pub Reached : Graph → Claims → ℕ → ℕ → Type 0
-Reached g force m r = Onward (Chain (Hop g force all)) m r
+Reached g force m r = Onward (Chain (Hop g force all-mask)) m r
 
 -- the places whose sets are parts of p
 abbrev pub Inner : List ℕ → ℕ → ℕ → ℕ → Type 0

@@ -63,19 +63,19 @@ pub record EndsBoth (g back : Graph) (force : Claims) (n : ℕ) (to from : List 
   pub backward : EndsBelow back force n from
 
 -- the claim holds with the claims in force, and is not in force yet
-abbrev pub Opens : List Row → List Claim → Claim → Type 0
-Opens rows claims c = Holds (timelines rows) (λ d. d among claims) c × ¬ (c among claims)
+abbrev pub NewlyHolds : List Row → List Claim → Claim → Type 0
+NewlyHolds rows claims c = Holds (timelines rows) (λ d. d among claims) c × ¬ (c among claims)
 
 -- new has the place i alone where its loop is opened next, or its mix
 abbrev pub OpensAt : Graph → Claims → ℕ → Claims → Type 0
 OpensAt g force i new = (rows : List Row) (claims : List Claim) (n : ℕ) → Stands g force rows claims n → length (sets rows) ≡ n → i < n
-    → ((t : ℕ) → (t ∈ new .loops) ↔ ((t ≡ i) × Opens rows claims (loops (getD (g .sets) i 0))))
-    × ((t : ℕ) → (t ∈ new .mixes) ↔ ((t ≡ i) × Opens rows claims (mixes (getD (g .sets) i 0))))
+    → ((t : ℕ) → (t ∈ new .loops) ↔ ((t ≡ i) × NewlyHolds rows claims (loops (getD (g .sets) i 0))))
+    × ((t : ℕ) → (t ∈ new .mixes) ↔ ((t ≡ i) × NewlyHolds rows claims (mixes (getD (g .sets) i 0))))
 
 -- new has the places below k whose loops are opened next, and those whose mixes are
 pub record Opened (g : Graph) (rows : List Row) (claims : List Claim) (k : ℕ) (new : Claims) : Type 0 where
-  pub loop-iff : (i : ℕ) → (i ∈ new .loops) ↔ ((i < k) × Opens rows claims (loops (getD (g .sets) i 0)))
-  pub mix-iff : (i : ℕ) → (i ∈ new .mixes) ↔ ((i < k) × Opens rows claims (mixes (getD (g .sets) i 0)))
+  pub loop-iff : (i : ℕ) → (i ∈ new .loops) ↔ ((i < k) × NewlyHolds rows claims (loops (getD (g .sets) i 0)))
+  pub mix-iff : (i : ℕ) → (i ∈ new .mixes) ↔ ((i < k) × NewlyHolds rows claims (mixes (getD (g .sets) i 0)))
 
 abbrev pub OpensBelow : Graph → Claims → ℕ → ℕ → Claims → Type 0
 OpensBelow g force n k new =

@@ -8,7 +8,7 @@ use masks::intersection;
 use masks::union;
 ghost use mathlib.Core.Path.{_≡_};
 ghost use Rattle.search.specs.Graph.{graph-of};
-ghost use Rattle.search.specs.Hops.{Hop, LetterHop, Chain, Onward, Followed, Explored, all, Reached};
+ghost use Rattle.search.specs.Hops.{Hop, LetterHop, Chain, Onward, Followed, Explored, all-mask, Reached};
 ghost use Rattle.search.specs.Promises.{AcceptsRight, AcceptsSeen, SeenBefore};
 
 // The states `found`, and all to which letters inside `p` lead from the states `last`. Steps from the others are followed already.
@@ -64,7 +64,7 @@ pub fn reach(graph: &[u64; 256], force: Claims, p: u64, m: u64) -> u64
 
 // The set of all states.
 fn all_states() -> u64
-    ensures { λ r. ⌜ r ≡ all ⌝ }
+    ensures { λ r. ⌜ r ≡ all-mask ⌝ }
 {
     !0u64
 }

@@ -11,7 +11,7 @@ use Rattle.machine.specs.Machine.{Machine}
 use Rattle.machine.specs.Calls.{close, round, reopen, call-in}
 use Rattle.machine.specs.Causes.{NotOpen}
 use Rattle.machine.proofs.Phases.{open-closes, running-rounds, not-open-reopens}
-use Rattle.machine.proofs.Demands.{never-130th}
+use Rattle.machine.proofs.Statements.{never-130th}
 use Rattle.automaton.specs.declared.Automaton.{Automaton}
 use Rattle.search.specs.Graph.{graph-of}
 use Rattle.rounds.specs.declared.Rounds.{Rounds}

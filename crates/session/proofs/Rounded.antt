@@ -7,7 +7,7 @@ use Rattle.machine.specs.Machine.{Machine, closed, next-round, reopened}
 use Rattle.search.specs.Graph.{graph-of}
 use Rattle.automaton.specs.declared.Automaton.{Automaton}
 use Rattle.rounds.specs.declared.Rounds.{Rounds}
-use Rattle.rounds.specs.Promises.{Given, Kept, Closes, DoesRound}
+use Rattle.rounds.specs.Promises.{Given, Mirrors, Closes, DoesRound}
 use Rattle.rounds.proofs.OpenClaims.{no-rounds}
 use Rattle.printing.proofs.Automata.{given-rows}
 use Rattle.session.specs.declared.Session.{Session}
@@ -20,7 +20,7 @@ module _ (m : Machine) (s : Session) (p : Represents m s) where
   given-of : (a : Automaton) → Reads s a → Given (m .rows) (graph-of (a .graph)) (a .initials) (a .finals) (s .«set_count»)
   given-of a h = given-rows (p .formed .table) (worded-of m s p) (h m p)
 
-  pub kept-of : Kept m (s .«loop_rounds») (s .«mix_rounds») (s .phase) (s .rounds)
+  pub kept-of : Mirrors m (s .«loop_rounds») (s .«mix_rounds») (s .phase) (s .rounds)
   unfolding record-of
   kept-of = record {
     loops-are = ap (λ (t : Session). t .«loop_rounds») (p .whole);
@@ -30,7 +30,7 @@ module _ (m : Machine) (s : Session) (p : Represents m s) where
   }
 
   -- the record of a machine with the same rows
-  kept-record : (to : Machine) (now : Rounds) → to .rows ≡ m .rows → Kept to (now .«loop_rounds») (now .«mix_rounds») (now .phase) (now .count)
+  kept-record : (to : Machine) (now : Rounds) → to .rows ≡ m .rows → Mirrors to (now .«loop_rounds») (now .«mix_rounds») (now .phase) (now .count)
       → with-rounds s now ≡ record-of to
   unfolding record-of
   kept-record to now same k = ap (λ (x : Session). with-rounds x now) (p .whole) ∙ rw (k .loops-are, k .mixes-are, k .phase-is, k .count-is, same) refl

@@ -25,8 +25,8 @@ use Rattle.orderings.proofs.Depths.{opens-iff-least}
 use Rattle.orderings.proofs.Timelines.{lawful}
 use Rattle.machine.specs.Machine.{Opening, Machine, open-claims}
 use Rattle.machine.specs.WellFormed.{Worked, WellFormed}
-use Rattle.machine.specs.Demands.{loop-first, opening-key, Listed}
-use Rattle.machine.proofs.Demands.{worked-listed}
+use Rattle.machine.specs.Statements.{loop-first, opening-key, Listed}
+use Rattle.machine.proofs.Statements.{worked-listed}
 use Rattle.sheets.specs.Openings.{upto, opened, opening-in, openings-at, openings-below, openings-in, Noted, Recorded}
 
 -- ---- lists one after another

@@ -16,11 +16,11 @@ use Rattle.machine.specs.Machine.{Machine, open-claims}
 use Rattle.machine.specs.WellFormed.{Made, WellFormed}
 use Rattle.machine.specs.Order.{Found}
 use Rattle.machine.specs.Sheet.{verdict-line, opening-line, walk-lines, last-lines, sheet}
-use Rattle.machine.proofs.Demands.{printed-walk}
+use Rattle.machine.proofs.Statements.{printed-walk}
 use Rattle.table.specs.Arrays.{padded}
 use Rattle.lists.proofs.Places.{getD-map}
-use Rattle.walks.specs.declared.Walk.{Walk}
-use Rattle.walks.specs.Walks.{walk-of, Answers}
+use Rattle.walks.specs.declared.FoundWalk.{FoundWalk}
+use Rattle.walks.specs.Walks.{as-found, Answers}
 use Rattle.walks.proofs.Answers.{answers-some, answers-none}
 use Rattle.sheets.specs.Openings.{openings-in, Noted, Recorded}
 use Rattle.sheets.proofs.Openings.{openings-are}
@@ -56,7 +56,7 @@ module _ (m : Machine) (w : WellFormed m) (loop-rounds mix-rounds sets : List �
   sheet-empty e = settled-sheet Empty e ∙ ap (λ (l : List ℕ). verdict-line Empty (m .rounds) ++ l) (append-nil _)
 
   -- some walk was found
-  pub walk-found : m .phase ≡ Settled NonEmpty → (walk : Walk) → Answers (m .rows) (open-claims m) walk → walk .found ≡ true
+  pub walk-found : m .phase ≡ Settled NonEmpty → (walk : FoundWalk) → Answers (m .rows) (open-claims m) walk → walk .found ≡ true
   walk-found e walk r = go (walk .found) refl
     where
       go : (b : Bool) → walk .found ≡ b → walk .found ≡ true
@@ -64,8 +64,8 @@ module _ (m : Machine) (w : WellFormed m) (loop-rounds mix-rounds sets : List �
       go false f = let p = printed-walk m w e .1 in let q = answers-none (m .rows) (open-claims m) walk r f in let z : _≡_ {A = ℕ} 0 1 = cc in absurd (omega arith)
 
   -- the verdict, the openings and the walk that was found
-  pub sheet-nonempty : m .phase ≡ Settled NonEmpty → (walk : Walk) → Answers (m .rows) (open-claims m) walk
-      → sheet NonEmpty m ≡ verdict-line NonEmpty (m .rounds) ++ (gather opening-line (openings-in loop-rounds mix-rounds sets n (m .rounds)) ++ walk-lines (some (walk-of walk)))
+  pub sheet-nonempty : m .phase ≡ Settled NonEmpty → (walk : FoundWalk) → Answers (m .rows) (open-claims m) walk
+      → sheet NonEmpty m ≡ verdict-line NonEmpty (m .rounds) ++ (gather opening-line (openings-in loop-rounds mix-rounds sets n (m .rounds)) ++ walk-lines (some (as-found walk)))
   sheet-nonempty e walk r = settled-sheet NonEmpty e
       ∙ ap (λ (o : Option Found). verdict-line NonEmpty (m .rounds) ++ (gather opening-line (openings-in loop-rounds mix-rounds sets n (m .rounds)) ++ walk-lines o))
       (answers-some (m .rows) (open-claims m) walk r (walk-found e walk r))

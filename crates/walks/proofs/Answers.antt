@@ -23,10 +23,10 @@ use Rattle.search.specs.Masked.{Initials, Finals}
 use Rattle.search.specs.Promises.{Stands}
 use Rattle.table.specs.Arrays.{Keyed}
 use Rattle.walks.specs.declared.Distance.the-variants.{At, Nowhere}
-use Rattle.walks.specs.declared.Walk.{Walk}
+use Rattle.walks.specs.declared.FoundWalk.{FoundWalk}
 use Rattle.walks.specs.Layers.{Ahead, Spread}
 use Rattle.walks.specs.Choices.{named, Way, InOrder}
-use Rattle.walks.specs.Walks.{state-at, walk-of, Follows, Answers}
+use Rattle.walks.specs.Walks.{state-at, as-found, Follows, Answers}
 use Rattle.walks.proofs.Standing.{in-order, way-can, can-way, can-ahead, ahead-can}
 use Rattle.walks.proofs.Best.{Goes, no-candidate, best}
 
@@ -36,13 +36,13 @@ module _ {g back : Graph} (turned : TurnedGraph g back) {force : Claims} {rows :
   abbrev E : ℕ → ℕ → Type 0
   E = Ahead back force
 
-  pub answer-none : (layers : List ℕ) (w : Walk) → w .found ≡ false → Spread E initials finals layers Nowhere → Answers rows claims w
+  pub answer-none : (layers : List ℕ) (w : FoundWalk) → w .found ≡ false → Spread E initials finals layers Nowhere → Answers rows claims w
   answer-none layers w e s = record {
     best = λ t. absurd (not-both t e);
     none = λ f. no-candidate rows claims E (can-ahead turned is count keyed table) initials finals is-initials is-finals (s .0) (s .1) (s .2) (s .3);
   }
 
-  module _ (layers : List ℕ) (d start : ℕ) (w : Walk) (spread : Spread E initials finals layers (At d)) (in-layer : start ∈ getD layers d 0) (in-initials : start ∈ initials)
+  module _ (layers : List ℕ) (d start : ℕ) (w : FoundWalk) (spread : Spread E initials finals layers (At d)) (in-layer : start ∈ getD layers d 0) (in-initials : start ∈ initials)
       (lowest : (s : ℕ) → s ∈ getD layers d 0 → s ∈ initials → start ≤ s)
       (f : Follows (Way highs n back force) (InOrder highs lows n back force) layers start d w) where
     abbrev state : ℕ → ℕ
@@ -79,12 +79,12 @@ module _ {g back : Graph} (turned : TurnedGraph g back) {force : Claims} {rows :
         }
 
 -- the walk found is the one that the definition computes
-pub answers-some : (rows : List Row) (claims : List Claim) (w : Walk) → Answers rows claims w → w .found ≡ true → shortest rows claims ≡ some (walk-of w)
+pub answers-some : (rows : List Row) (claims : List Claim) (w : FoundWalk) → Answers rows claims w → w .found ≡ true → shortest rows claims ≡ some (as-found w)
 answers-some rows claims w a e =
-    let r = shortest-best rows claims (walk-of w) (a .best e .is) in
-    r .1 ∙ ap some (best-unique rows claims (r .0) (walk-of w) (r .2) (a .best e))
+    let r = shortest-best rows claims (as-found w) (a .best e .is) in
+    r .1 ∙ ap some (best-unique rows claims (r .0) (as-found w) (r .2) (a .best e))
 
-pub answers-none : (rows : List Row) (claims : List Claim) (w : Walk) → Answers rows claims w → w .found ≡ false → shortest rows claims ≡ none
+pub answers-none : (rows : List Row) (claims : List Claim) (w : FoundWalk) → Answers rows claims w → w .found ≡ false → shortest rows claims ≡ none
 answers-none rows claims w a e = go (shortest rows claims) refl
   where
     go : (o : Option Found) → shortest rows claims ≡ o → o ≡ none

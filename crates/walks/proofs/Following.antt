@@ -14,7 +14,7 @@ use Rattle.search.specs.declared.Claims.{Claims}
 use Rattle.search.specs.Graph.{Graph}
 use Rattle.walks.specs.declared.Choice.the-variants.{Taken}
 use Rattle.walks.specs.Choices.{named, Way, Chooses}
-use Rattle.walks.specs.declared.Walk.{Walk}
+use Rattle.walks.specs.declared.FoundWalk.{FoundWalk}
 use Rattle.walks.specs.Walks.{state-at, Bounded, Follows}
 
 -- a later step changes no state before it
@@ -58,7 +58,7 @@ module _ (W : ℕ → Label → ℕ → Type 0) (Ordered : Type 0) (layers : Lis
   }
 
 -- every step leads into a layer, and the letters are bytes of keys
-pub bounded : (high : List ℕ) (n : ℕ) (b : Graph) (force : Claims) {Ordered : Type 0} (layers : List ℕ) (start d : ℕ) (w : Walk)
+pub bounded : (high : List ℕ) (n : ℕ) (b : Graph) (force : Claims) {Ordered : Type 0} (layers : List ℕ) (start d : ℕ) (w : FoundWalk)
     → Follows (Way high n b force) Ordered layers start d w → start < 64 → d < 64 → Bounded w
 bounded high n b force layers start d w f s l = record {
   few = omega (arith, f .within);

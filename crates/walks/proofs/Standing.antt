@@ -22,7 +22,7 @@ use Rattle.machine.specs.WellFormed.{Table}
 use Rattle.machine.proofs.Walks.{walk-states}
 use Rattle.search.specs.declared.Claims.{Claims}
 use Rattle.search.specs.Graph.{Graph, TurnedGraph}
-use Rattle.search.specs.Hops.{Lettered, Claimed, all}
+use Rattle.search.specs.Hops.{Lettered, Claimed, all-mask}
 use Rattle.search.specs.Promises.{Stands}
 use Rattle.search.proofs.Accepting.{has-all}
 use Rattle.table.specs.Arrays.{Keyed}
@@ -109,7 +109,7 @@ module _ {g b : Graph} (turned : TurnedGraph g b) {force : Claims} {rows : List 
 
   pub ahead-can : (s t : ℕ) → Ahead b force s t → (l : Label) × Can rows claims s l t
   ahead-can s t h =
-      ⊎-elim (λ e. let x = is .masked .letter-iff s t .0 (sym (turned .turned s t (member-lt s all (h .end)) (member-lt t all (h .start))) ∙ e) in (letter (x .0), (x .1, tt)))
+      ⊎-elim (λ e. let x = is .masked .letter-iff s t .0 (sym (turned .turned s t (member-lt s all-mask (h .end)) (member-lt t all-mask (h .start))) ∙ e) in (letter (x .0), (x .1, tt)))
       (⊎-elim (⊎-elim (λ e. let P = getD (b .sets) (e .0) 0 in (back P, way-can s (back P) t (e .0, e .1, refl, e .3, e .2)))
       (λ e. let P = getD (b .sets) (e .0) 0 in (ω P, way-can s (ω P) t (e .0, e .1, refl, e .3, e .2))))
       (λ e. let P = getD (b .sets) (e .0) 0 in (mix P, way-can s (mix P) t (e .0, e .1, refl, e .3, e .2))))

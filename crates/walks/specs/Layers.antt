@@ -6,13 +6,13 @@ use lib.ListN.{getD}
 use Rattle.masks.specs.Mask.{_∈_, _⊆_}
 use Rattle.search.specs.declared.Claims.{Claims}
 use Rattle.search.specs.Graph.{Graph}
-use Rattle.search.specs.Hops.{Hop, all}
+use Rattle.search.specs.Hops.{Hop, all-mask}
 use Rattle.walks.specs.declared.Distance.{Distance}
 use Rattle.walks.specs.declared.Distance.the-variants.{At, Nowhere}
 
 -- a step from s to t, as the graph turned round has it
 abbrev pub Ahead : Graph → Claims → ℕ → ℕ → Type 0
-Ahead back force s t = Hop back force all t s
+Ahead back force s t = Hop back force all-mask t s
 
 -- the layers 0 to k are those of the states from which as many steps, and no fewer, lead to a final state
 pub record Layered (E : ℕ → ℕ → Type 0) (finals : ℕ) (layers : List ℕ) (k : ℕ) : Type 0 where

@@ -16,7 +16,7 @@ use Rattle.search.specs.Masked.{Initials, Finals}
 use Rattle.search.specs.Promises.{Stands}
 use Rattle.table.specs.Arrays.{Keyed}
 use Rattle.walks.specs.declared.Choice.the-variants.{Taken, Nothing}
-use Rattle.walks.specs.declared.Walk.{Walk}
+use Rattle.walks.specs.declared.FoundWalk.{FoundWalk}
 use Rattle.walks.specs.Choices.{named, Chooses}
 
 -- the state before the step at place i: the start, or the target of the step before
@@ -34,18 +34,18 @@ steps-from start kinds values targets i (suc k) = record {
 } ∷ steps-from start kinds values targets (suc i) k
 
 -- the walk with its start
-abbrev pub walk-of : Walk → Found
-walk-of w = record { start = w .start; walk = steps-from (w .start) (w .kinds) (w .values) (w .targets) 0 (w .count) }
+abbrev pub as-found : FoundWalk → Found
+as-found w = record { start = w .start; walk = steps-from (w .start) (w .kinds) (w .values) (w .targets) 0 (w .count) }
 
 -- the walk fits its arrays, its states are states, and its letters are bytes
-pub record Bounded (w : Walk) : Type 0 where
+pub record Bounded (w : FoundWalk) : Type 0 where
   pub few : w .count < 64
   pub low-start : w .start < 64
   pub low-target : (j : ℕ) → j < w .count → getD (w .targets) j 0 < 64
   pub low-letter : (j : ℕ) → j < w .count → getD (w .kinds) j 0 ≡ 0 → getD (w .values) j 0 < 256
 
 -- each step is the first into its layer, one layer down; where the walk stops early there is none
-pub record Follows (W : ℕ → Label → ℕ → Type 0) (Ordered : Type 0) (layers : List ℕ) (start d : ℕ) (w : Walk) : Type 0 where
+pub record Follows (W : ℕ → Label → ℕ → Type 0) (Ordered : Type 0) (layers : List ℕ) (start d : ℕ) (w : FoundWalk) : Type 0 where
   pub found : w .found ≡ true
   pub begins : w .start ≡ start
   pub within : w .count ≤ d
@@ -54,12 +54,12 @@ pub record Follows (W : ℕ → Label → ℕ → Type 0) (Ordered : Type 0) (la
   pub stopped : (w .count ≡ d) ⊎ ((w .count < d) × Chooses (getD layers (d - 1 - w .count) 0) (W (state-at start (w .targets) (w .count))) Ordered Nothing)
 
 -- the walk is the first of the shortest, or it is said that there is none
-pub record Answers (rows : List Row) (claims : List Claim) (w : Walk) : Type 0 where
-  pub best : w .found ≡ true → Best rows claims (walk-of w)
+pub record Answers (rows : List Row) (claims : List Claim) (w : FoundWalk) : Type 0 where
+  pub best : w .found ≡ true → Best rows claims (as-found w)
   pub none : w .found ≡ false → (g : Found) → ¬ Candidate rows claims g
 
 -- for all rows and claims that the arrays and the graph, which is turned round, stand for
-abbrev pub FirstWalk : List ℕ → List ℕ → ℕ → Graph → Claims → ℕ → ℕ → Walk → Type 0
+abbrev pub FirstWalk : List ℕ → List ℕ → ℕ → Graph → Claims → ℕ → ℕ → FoundWalk → Type 0
 FirstWalk high low n back force initials finals w = (g : Graph) (rows : List Row) (claims : List Claim) (k : ℕ) → TurnedGraph g back
     → Stands g force rows claims k → length (sets rows) ≡ k → Keyed rows high low n → Table rows
     → Initials rows initials → Finals rows finals → Answers rows claims w

@@ -184,7 +184,7 @@ fn first_step(
 }
 
 // A walk, if there is one: its start, how many steps it has, and of each step its kind, its letter or set, and its target.
-pub struct Walk {
+pub struct FoundWalk {
     pub found: bool,
     pub start: u8,
     pub count: usize,
@@ -194,10 +194,10 @@ pub struct Walk {
 }
 
 // That there is none.
-fn no_walk() -> Walk
+fn no_walk() -> FoundWalk
     ensures { λ r. ⌜ (r .found ≡ false) × (r .start ≡ 0) × (r .count ≡ 0) ⌝ }
 {
-    Walk {
+    FoundWalk {
         found: false,
         start: 0,
         count: 0,
@@ -217,7 +217,7 @@ fn follow(
     layers: &[u64; 64],
     start: u8,
     d: usize,
-) -> Walk
+) -> FoundWalk
     requires { ⌜ (n ≤ 256) × (start < 64) × (d ≤ 64) ⌝ }
     ensures { λ r. ⌜ Follows (Way (now (high .entry)) n (graph-of (now (back .entry))) force)
         (InOrder (now (high .entry)) (now (low .entry)) n (graph-of (now (back .entry))) force) (now (layers .entry)) start d r ⌝ }
@@ -239,7 +239,7 @@ fn follow(
         a = target;
         i += 1;
     }
-    Walk {
+    FoundWalk {
         found: true,
         start,
         count: i,
@@ -258,7 +258,7 @@ pub fn first_walk(
     force: Claims,
     initials: u64,
     finals: u64,
-) -> Walk
+) -> FoundWalk
     requires { ⌜ n ≤ 256 ⌝ }
     ensures bounded { λ r. ⌜ Bounded r ⌝ }
     ensures first { λ r. ⌜ FirstWalk (now (high .entry)) (now (low .entry)) n (graph-of (now (back .entry))) force

@@ -4,7 +4,7 @@ use mathlib.Core.Path.{_≡_, refl}
 use mathlib.Core.List.{_++_}
 use lib.ListN.{length, getD, take, drop, length-set}
 use native.Mathlib.Omega.{arith}
-use Rattle.commands.specs.Digits.{value, bytes}
+use Rattle.commands.specs.Digits.{digit-value, bytes}
 use Rattle.commands.proofs.Values.{digits-at, bytes-put, bytes-done}
 use Rattle.commands.proofs.decode.Statement.{statement}
 use Rattle.commands.proofs.decode.Tie as tie
@@ -69,7 +69,7 @@ loop-again c =
     let s = h .before .before .before in
     let t = s .args .text .now in
     let b = h .loop .batch in
-    let e : c .before .before .value .result * 16 + c .value2 .result ≡ value (getD t (h .loop .at) 0) * 16 + value (getD t (h .loop .at + 1) 0) = omega (arith, c .before .before .value .ensures, c .value2 .ensures) in (
+    let e : c .before .before .value .result * 16 + c .value2 .result ≡ digit-value (getD t (h .loop .at) 0) * 16 + digit-value (getD t (h .loop .at + 1) 0) = omega (arith, c .before .before .value .ensures, c .value2 .ensures) in (
       omega arith,
       omega arith,
       simp length-set (h .loop .inv .2),

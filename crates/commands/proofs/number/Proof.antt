@@ -4,7 +4,7 @@ use mathlib.Core.Path.{_≡_, refl, ap, sym, _∙_}
 use lib.ListN.{length, getD, drop}
 use native.Mathlib.Numerals.{add-one}
 use native.Mathlib.Omega.{arith}
-use Rattle.commands.specs.Digits.{value, at-most, number-from}
+use Rattle.commands.specs.Digits.{digit-value, at-most, number-from}
 use Rattle.commands.proofs.Values.{at-most-small, number-more, number-end}
 use Rattle.commands.proofs.number.Statement.{statement}
 use Rattle.commands.proofs.number.Tie as tie
@@ -47,9 +47,9 @@ loop-again c =
     let h = c .before .before .before .before in
     let a = h .before .before .args in
     let t = a .text .now in
-    let r : c .at-most .result ≡ at-most (h .loop .n * 10 + value (getD t (h .loop .i) 0)) = c .at-most .ensures ∙ ap (λ v. at-most (h .loop .n * 10 + v)) (c .before .value .ensures) in (
+    let r : c .at-most .result ≡ at-most (h .loop .n * 10 + digit-value (getD t (h .loop .i) 0)) = c .at-most .ensures ∙ ap (λ v. at-most (h .loop .n * 10 + v)) (c .before .value .ensures) in (
       omega arith,
-      omega (arith, at-most-small (h .loop .n * 10 + value (getD t (h .loop .i) 0))),
+      omega (arith, at-most-small (h .loop .n * 10 + digit-value (getD t (h .loop .i) 0))),
       rw (add-one, r) (h .loop .inv .2 ∙ number-more (h .loop .n) t (h .loop .i) (omega arith)),
     )
 

@@ -1,7 +1,7 @@
 -- `walk_at` meets its contract: what is written into the rest stands in the whole.
 use mathlib.Core.Option.{some}
 use Rattle.machine.specs.Sheet.{walk-lines}
-use Rattle.walks.specs.Walks.{walk-of}
+use Rattle.walks.specs.Walks.{as-found}
 use Rattle.lists.proofs.Writing.{wrote-at-part}
 use borrow.Author.Needs.{needs}
 use Rattle.printing.proofs.walk_at.Statement.{statement}
@@ -11,7 +11,7 @@ returns : tie.Need-returns
 returns c =
     let p = c .before .before in
     let a = p .before .before .before .args in
-    wrote-at-part (walk-lines (some (walk-of (a .walk)))) (a .buf .now) (p .put-walk .last .0) (a .at) (p .put-walk .ensures)
+    wrote-at-part (walk-lines (some (as-found (a .walk)))) (a .buf .now) (p .put-walk .last .0) (a .at) (p .put-walk .ensures)
 
 pub walk-at-spec : {M : Type 1} → statement M
 walk-at-spec =

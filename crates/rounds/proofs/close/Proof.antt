@@ -3,7 +3,7 @@ use mathlib.Core.Path.{sym, subst}
 use lib.ListN.{replicate}
 use Rattle.machine.specs.declared.Phase.{Phase}
 use Rattle.machine.specs.Machine.{closed}
-use Rattle.rounds.specs.Promises.{Kept}
+use Rattle.rounds.specs.Promises.{Mirrors}
 use Rattle.rounds.proofs.Settled.{closed-kept}
 use borrow.Author.Needs.{needs}
 use Rattle.rounds.proofs.close.Statement.{statement}
@@ -11,7 +11,7 @@ use Rattle.rounds.proofs.close.Tie as tie
 
 returns : tie.Need-returns
 returns c m n g =
-    subst (λ (p : Phase). Kept (closed m) (replicate 64 0) (replicate 64 0) p 0) (sym (c .judge .ensures))
+    subst (λ (p : Phase). Mirrors (closed m) (replicate 64 0) (replicate 64 0) p 0) (sym (c .judge .ensures))
     (closed-kept m g (c .before .accepts .result) (c .before .accepts .ensures))
 
 pub close-spec : {M : Type 1} → statement M

@@ -4,7 +4,7 @@ use mathlib.Core.Path.{sym, subst}
 use Rattle.machine.specs.declared.Phase.{Phase}
 use Rattle.machine.specs.Machine.{next-round}
 use Rattle.search.specs.declared.Claims.{Claims}
-use Rattle.rounds.specs.Promises.{Kept}
+use Rattle.rounds.specs.Promises.{Mirrors}
 use Rattle.rounds.proofs.Settled.{round-kept}
 use borrow.Author.Needs.{needs}
 use Rattle.rounds.proofs.round.Statement.{statement}
@@ -23,7 +23,7 @@ returns c m w g kept =
     let a = loops .before .before .before .before .args in
     let b = a .before in
     let force : Claims = record { loops = loops .open-mask .result; mixes = mixes .open-mask2 .result } in
-    subst (λ (p : Phase). Kept (next-round m) (looped .mark .last .0) (c .mark2 .last .0) p (b .count + 1)) (sym (phased .judge .ensures))
+    subst (λ (p : Phase). Mirrors (next-round m) (looped .mark .last .0) (c .mark2 .last .0) p (b .count + 1)) (sym (phased .judge .ensures))
     (round-kept m w g force (new .opened .result) (all .with-new .result) kept (loops .open-mask .ensures) (mixes .open-mask2 .ensures) (record {
       opens = new .opened .ensures;
       with-new = all .with-new .ensures;

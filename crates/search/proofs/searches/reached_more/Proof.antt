@@ -2,7 +2,7 @@
 use Prim.Native.Nat.{ℕ}
 use borrow.Author.Needs.{needs}
 use Rattle.search.specs.Graph.{graph-of}
-use Rattle.search.specs.Hops.{Hop, Followed, Explored, all, Reached}
+use Rattle.search.specs.Hops.{Hop, Followed, Explored, all-mask, Reached}
 use Rattle.search.proofs.Chains.{explored-none}
 use Rattle.search.proofs.Reaching.{followed-now, reached-now}
 use Rattle.search.proofs.searches.reached_more.Statement.{statement}
@@ -11,7 +11,7 @@ use Rattle.search.proofs.searches.reached_more.Tie as tie
 -- what was seen and what is new
 module _ (c : tie.After-union2) where
   abbrev Steps : ℕ → ℕ → Type 0
-  Steps = let a = c .before .before .before .before .args in Hop (graph-of (a .graph .now)) (a .force) all
+  Steps = let a = c .before .before .before .before .args in Hop (graph-of (a .graph .now)) (a .force) all-mask
 
   followed : Followed Steps (c .union2 .result) (c .before .difference .result)
   followed =

@@ -8,12 +8,12 @@ use lib.ListN.{length, take, drop}
 use Rattle.lists.specs.Tests.{gather}
 use Rattle.lists.specs.Order.{sort-by}
 use Rattle.rows.specs.Rows.{row-bytes, batch-of}
-use Rattle.orderings.specs.Systems.{Derivation, Valid, AcceptedIn, NonEmpty}
+use Rattle.orderings.specs.Systems.{Derivation, Valid, AcceptedIn, Accepts}
 use Rattle.orderings.specs.Timelines.{timelines}
 use Rattle.machine.specs.declared.Answer.{Answer}
 use Rattle.machine.specs.declared.Answer.the-variants.{Done, Wrote, Refused}
 use Rattle.machine.specs.declared.Verdict.{Verdict}
-use Rattle.machine.specs.declared.Verdict.the-variants.{NonEmpty as NonEmptyV}
+use Rattle.machine.specs.declared.Verdict.the-variants.{NonEmpty}
 use Rattle.machine.specs.declared.Phase.the-variants.{Settled}
 use Rattle.machine.specs.Machine.{Machine, open-with, open-claims}
 use Rattle.machine.specs.Order.{Found, Best}
@@ -21,7 +21,7 @@ use Rattle.machine.specs.Search.{shortest}
 use Rattle.machine.specs.Sheet.{verdict-line, opening-line, walk-lines, sheet}
 use Rattle.machine.specs.Calls.{Call, load, print, save, wrote, answer-of, call, second}
 use Rattle.machine.specs.Causes.{Cause}
-use Rattle.machine.specs.Demands.{Listed, Number}
+use Rattle.machine.specs.Statements.{Listed, Number}
 use Rattle.session.specs.declared.Session.{Session}
 use Rattle.session.specs.declared.Reply.{Reply}
 use Rattle.session.specs.Record.{record-of}
@@ -52,7 +52,7 @@ Demand1 = EveryCall Answered
 pub record Walked (m : Machine) (f : Found) : Type 0 where
   pub found : shortest (m .rows) (open-claims m) ≡ some f
   -- its lines are the sheet's last
-  pub lines : sheet NonEmptyV m ≡ verdict-line NonEmptyV (m .rounds) ++ (gather opening-line (m .openings) ++ walk-lines (some f))
+  pub lines : sheet NonEmpty m ≡ verdict-line NonEmpty (m .rounds) ++ (gather opening-line (m .openings) ++ walk-lines (some f))
   -- a walk from an initial to a final state that some finite derivation gives
   pub derived : (D : Derivation (timelines (m .rows))) × Valid (timelines (m .rows)) D × AcceptedIn (timelines (m .rows)) D (f .walk)
   -- of those that use only openings on the sheet, it has fewest steps and is first in the stated order
@@ -62,9 +62,9 @@ pub record Walked (m : Machine) (f : Found) : Type 0 where
 pub record TrueSheet (m : Machine) (v : Verdict) : Type 0 where
   pub settled : m .phase ≡ Settled v
   -- non-empty exactly when some finite derivation gives a walk from an initial to a final state
-  pub verdict : (v ≡ NonEmptyV) ↔ NonEmpty (timelines (m .rows))
+  pub verdict : (v ≡ NonEmpty) ↔ Accepts (timelines (m .rows))
   pub listed : Listed m
-  pub walked : v ≡ NonEmptyV → (f : Found) × Walked m f
+  pub walked : v ≡ NonEmpty → (f : Found) × Walked m f
 
 -- an accepted print writes such a sheet
 abbrev pub PrintsTrue : Machine → List ℕ → List ℕ → Answer → Type 0

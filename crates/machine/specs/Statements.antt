@@ -9,10 +9,10 @@ use Rattle.lists.specs.Order.{Sorted, sort-by}
 use Rattle.rows.specs.declared.Row.{Row}
 use Rattle.rows.specs.Rows.{row-bytes, batch-of, AllFit, Bytes}
 use Rattle.orderings.specs.Steps.{Claim, loops, mixes, set-of, Walk}
-use Rattle.orderings.specs.Systems.{Allowed, Holds, LeastDepth, GreatestLeast, NonEmpty, LeastAccepted}
+use Rattle.orderings.specs.Systems.{Allowed, Holds, LeastDepth, GreatestLeast, Accepts, LeastAccepted}
 use Rattle.orderings.specs.Timelines.{Accepting, timelines}
 use Rattle.machine.specs.declared.Verdict.{Verdict}
-use Rattle.machine.specs.declared.Verdict.the-variants.{NonEmpty as NonEmptyV, Empty as EmptyV}
+use Rattle.machine.specs.declared.Verdict.the-variants.{NonEmpty, Empty}
 use Rattle.machine.specs.declared.Phase.the-variants.{Open, Running, Settled}
 use Rattle.machine.specs.Machine.{most-rounds, Opening, Machine, open-with, fresh, open-claims}
 use Rattle.machine.specs.Sheet.{sheet}
@@ -41,7 +41,7 @@ pub record Closed (m m′ : Machine) : Type 0 where
   pub rows : m′ .rows ≡ m .rows
   pub count : m′ .rounds ≡ 0
   pub none : m′ .openings ≡ []
-  pub non-empty : (m′ .phase ≡ Settled NonEmptyV) ↔ SomeWalk (m .rows) []
+  pub non-empty : (m′ .phase ≡ Settled NonEmpty) ↔ SomeWalk (m .rows) []
   pub running : (m′ .phase ≡ Running) ↔ (¬ SomeWalk (m .rows) [])
 
 -- the sheet's order of openings: by round, then set, then loop before mix
@@ -60,8 +60,8 @@ pub record Rounded (m m′ : Machine) : Type 0 where
   pub opens : (o : Opening) → o among m′ .openings
       ↔ (o among m .openings ⊎ ((o .round ≡ suc (m .rounds)) × Holds (timelines (m .rows)) (λ c. c among open-claims m) (o .claim) × ¬ (o .claim among open-claims m)))
   -- after it, a walk leads from an initial to a final state; or it opened nothing
-  pub non-empty : (m′ .phase ≡ Settled NonEmptyV) ↔ SomeWalk (m .rows) (open-claims m′)
-  pub empty : (m′ .phase ≡ Settled EmptyV) ↔ (¬ SomeWalk (m .rows) (open-claims m′) × (m′ .openings ≡ m .openings))
+  pub non-empty : (m′ .phase ≡ Settled NonEmpty) ↔ SomeWalk (m .rows) (open-claims m′)
+  pub empty : (m′ .phase ≡ Settled Empty) ↔ (¬ SomeWalk (m .rows) (open-claims m′) × (m′ .openings ≡ m .openings))
   pub running : (m′ .phase ≡ Running) ↔ (¬ SomeWalk (m .rows) (open-claims m′) × (m′ .openings ≢ m .openings))
 
 -- the openings that a sheet lists: in its order, none twice, each derivable claim of least depth at most the count of rounds with that depth
@@ -72,8 +72,8 @@ pub record Listed (m : Machine) : Type 0 where
 
 -- demands 2 and 3: the verdict, and the round number K
 abbrev pub Number : List Row → Verdict → ℕ → Type 0
-Number rows NonEmptyV K = NonEmpty (timelines rows) × LeastAccepted (timelines rows) K
-Number rows EmptyV K = ¬ NonEmpty (timelines rows) × ((g : ℕ) × (K ≡ suc g) × GreatestLeast (timelines rows) g)
+Number rows NonEmpty K = Accepts (timelines rows) × LeastAccepted (timelines rows) K
+Number rows Empty K = ¬ Accepts (timelines rows) × ((g : ℕ) × (K ≡ suc g) × GreatestLeast (timelines rows) g)
 
 -- m′ comes from m by rounds, each of which a running machine does
 pub data ByRounds : Machine → Machine → Type 0 where

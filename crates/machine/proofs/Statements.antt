@@ -23,7 +23,7 @@ use Rattle.machine.specs.Sheet.{sheet}
 use Rattle.machine.specs.Calls.{Call, load, print, Outcome, wrote, refused, Next, refuse, call-in, call, run, settle, second, Brings}
 use Rattle.machine.specs.Causes.{Writes, sheets}
 use Rattle.machine.specs.WellFormed.{Table, after, Worked, Made, WellFormed}
-use Rattle.machine.specs.Demands.{SomeWalk, Number, Listed, Prints, EveryPrint}
+use Rattle.machine.specs.Statements.{SomeWalk, Number, Listed, Prints, EveryPrint}
 use Rattle.machine.proofs.Settling.{after-after, settled-walk, Settles, settles}
 use Rattle.machine.proofs.Openings.{after-listed, openings-few}
 use Rattle.machine.proofs.Search.{shortest-best}
