@@ -178,7 +178,7 @@ module _ (sets : List ℕ) (n : ℕ) (few : n ≤ 64) {l : List Row} {graph : Li
 
 -- ---- all rows
 
-module _ (rows : List Row) (fit : AllFit rows) (sets : List ℕ) (k : ℕ) (count : k ≡ length (Rows.sets rows)) (are : take k sets ≡ Rows.sets rows) (few : k ≤ 64) where
+module _ (rows : List Row) (fit : AllFit rows) (sets : List ℕ) (k : ℕ) (count : k ≡ length (Rows.standing-sets rows)) (are : take k sets ≡ Rows.standing-sets rows) (few : k ≤ 64) where
   -- a row whose state is below 64 where it stands
   one-row : (x : Row) (t : ℕ) → (x among rows → t < 64) → {X : Type 0} → X ↔ Some (λ y. (y ≡ x) × (t < 64)) rows → X ↔ x among rows
   one-row x t f h = ((λ i. let s = h .0 i in Memᴰ·cast (sym (s .2 .0)) (s .1)), λ m. h .1 (x, m, (refl, f m)))

@@ -44,4 +44,4 @@ pub record Gives (rows : List Row) (sets : List ℕ) (k : ℕ) (r : Automaton) :
 -- the same of all rows that fit, whose keys are the first n of the arrays, and whose k sets are the first k of theirs
 abbrev pub GivesKeyed : List ℕ → List ℕ → ℕ → List ℕ → ℕ → Automaton → Type 0
 GivesKeyed highs lows n sets k r =
-    (rows : List Row) → AllFit rows → Keyed rows highs lows n → k ≡ length (Rows.sets rows) → take k sets ≡ Rows.sets rows → Gives rows sets k r
+    (rows : List Row) → AllFit rows → Keyed rows highs lows n → k ≡ length (Rows.standing-sets rows) → take k sets ≡ Rows.standing-sets rows → Gives rows sets k r

@@ -19,24 +19,24 @@ use Rattle.machine.proofs.Program.{settled-formed}
 use Rattle.search.specs.Graph.{graph-of}
 use Rattle.automaton.specs.declared.Automaton.{Automaton}
 use Rattle.automaton.specs.Promise.{Gives, GivesKeyed}
-use Rattle.rounds.specs.declared.Rounds.{Rounds}
+use Rattle.rounds.specs.declared.Progress.{Progress}
 use Rattle.rounds.specs.Promises.{Mirrors, Settles as SettlesRows}
 use Rattle.table.specs.Arrays.{Filed}
 use Rattle.printing.specs.Promise.{PrintsSheet}
 use Rattle.printing.proofs.Automata.{gives-filed, given-rows}
 
-module _ (rows : List Row) (t : Table rows) (highs lows words : List ℕ) (n k : ℕ) (f : Filed highs lows words n k rows)
-    (a : Automaton) (g : GivesKeyed highs lows n words k a) (d : Rounds) (s : SettlesRows (graph-of (a .graph)) (a .initials) (a .finals) k d) where
+module _ (rows : List Row) (t : Table rows) (highs lows sets : List ℕ) (n k : ℕ) (f : Filed highs lows sets n k rows)
+    (a : Automaton) (g : GivesKeyed highs lows n sets k a) (d : Progress) (s : SettlesRows (graph-of (a .graph)) (a .initials) (a .finals) k d) where
   abbrev m : Machine
   m = run (open-with rows) settle
 
   same-rows : m .rows ≡ rows
   same-rows = let x = settles rows (t .few-sets) in ap (λ (y : Machine). y .rows) (settle-runs rows x) ∙ after-after rows (x .rounds) .same-rows
 
-  gives : Gives rows words k a
+  gives : Gives rows sets k a
   gives = gives-filed t f g
 
-  kept : Mirrors m (d .«loop_rounds») (d .«mix_rounds») (d .phase) (d .count)
+  kept : Mirrors m (d .«loop_rounds») (d .«mix_rounds») (d .phase) (d .rounds)
   kept = s rows (given-rows t (f .1) gives)
 
   -- a machine that is not settled refuses
@@ -46,8 +46,8 @@ module _ (rows : List Row) (t : Table rows) (highs lows words : List ℕ) (n k :
       tells-as (ap (λ (x : Next). x .answer) (sym (ap (λ (x : Phase). call-in x m (print (length old))) (sym (kept .phase-is) ∙ e) ∙ h m))) (tells-refused number 0 old)
 
   -- one that is settled prints
-  pub is-settled : (v : Verdict) → d .phase ≡ Settled v → (old new : List ℕ) (r : Answer) → PrintsSheet v highs lows n words k a d old new r
+  pub is-settled : (v : Verdict) → d .phase ≡ Settled v → (old new : List ℕ) (r : Answer) → PrintsSheet v highs lows n sets k a d old new r
       → Tells (call m (print (length old)) .answer) old new r
   is-settled v e old new r h =
-      h m (settled-formed rows t) (sym (kept .phase-is) ∙ e) (subst (λ (l : List Row). Filed highs lows words n k l) (sym same-rows) f)
-      (subst (λ (l : List Row). Gives l words k a) (sym same-rows) gives) kept
+      h m (settled-formed rows t) (sym (kept .phase-is) ∙ e) (subst (λ (l : List Row). Filed highs lows sets n k l) (sym same-rows) f)
+      (subst (λ (l : List Row). Gives l sets k a) (sym same-rows) gives) kept

@@ -9,7 +9,7 @@ use native.Mathlib.Omega.{arith}
 use Rattle.lists.specs.Writing.{Wrote}
 use Rattle.lists.proofs.Deciding.{not-so, ltb·}
 use Rattle.rows.specs.declared.Row.{Row}
-use Rattle.rows.specs.Rows.{sets, Bytes}
+use Rattle.rows.specs.Rows.{standing-sets, Bytes}
 use Rattle.rows.specs.Batch.{Fed, fed, failed, feed}
 use Rattle.machine.specs.declared.Answer.{Answer}
 use Rattle.machine.specs.declared.Answer.the-variants.{Done, Wrote as WroteCount, Refused}
@@ -30,7 +30,7 @@ use Rattle.checker.specs.Promise.{Checks, ShowsSheet}
 
 -- empty arrays hold the empty table
 pub empty-filed : Filed (replicate 256 0) (replicate 256 0) (replicate 64 0) 0 0 []
-unfolding sets
+unfolding standing-sets
 empty-filed = (record { count = refl; highs-are = refl; lows-are = refl }, record { count = refl; words-are = refl })
 
 -- what a load comes to, and what then is left to do

@@ -15,7 +15,7 @@ use Rattle.table.specs.Arrays.{Filed}
 -- the answer is that of the machine with the rows that the arrays hold, closed, settled and printed; and the buffer holds its text, and
 -- beyond it the bytes that it had
 abbrev pub Finishes : List ℕ → List ℕ → ℕ → List ℕ → ℕ → List ℕ → List ℕ → Answer → Type 0
-Finishes highs lows n words k old new r = (rows : List Row) → Table rows → Filed highs lows words n k rows
+Finishes highs lows n sets k old new r = (rows : List Row) → Table rows → Filed highs lows sets n k rows
     → Tells (call (run (open-with rows) settle) (print (length old)) .answer) old new r
 
 -- the answer and the buffer are those of a fresh machine that loads the batch, closes, does rounds until settled and prints

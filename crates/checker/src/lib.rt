@@ -6,14 +6,14 @@ use machine::LONGEST_SHEET;
 use machine::MOST_ROWS;
 use machine::MOST_SETS;
 use machine::Phase;
-use rounds::Rounds;
+use rounds::Progress;
 ghost use Prim.Native.Nat.{_≤_};
 ghost use Rattle.rounds.specs.Promises.{Settles};
 ghost use Rattle.search.specs.Graph.{graph-of};
 ghost use Rattle.checker.specs.Promise.{Finishes, Checks, ShowsSheet};
 
 // The rounds of the automaton, until it is settled.
-fn settled(a: Automaton, k: usize) -> Rounds
+fn settled(a: Automaton, k: usize) -> Progress
     requires { ⌜ k ≤ 64 ⌝ }
     ensures { λ r. ⌜ Settles (graph-of (a .graph)) (a .initials) (a .finals) k r ⌝ }
 {
@@ -26,21 +26,21 @@ fn finish(
     high: &[u64; MOST_ROWS],
     low: &[u64; MOST_ROWS],
     n: usize,
-    words: &[u64; MOST_SETS],
+    sets: &[u64; MOST_SETS],
     k: usize,
     sheet: &mut [u8],
 ) -> Answer
     requires { ⌜ (n ≤ 256) × (k ≤ 64) ⌝ }
-    ensures { λ r. ⌜ Finishes (now (high .entry)) (now (low .entry)) n (now (words .entry)) k
+    ensures { λ r. ⌜ Finishes (now (high .entry)) (now (low .entry)) n (now (sets .entry)) k
         (now (sheet .entry)) (now (sheet .exit)) r ⌝ }
 {
-    let a = automaton::of_keys(high, low, n, words, k);
+    let a = automaton::of_keys(high, low, n, sets, k);
     let done = settled(a, k);
     let phase = done.phase;
     match phase {
         Phase::Open => Answer::Refused(9, 0),
         Phase::Running => Answer::Refused(11, 0),
-        Phase::Settled(v) => printing::print(sheet, v, high, low, n, words, k, a, done),
+        Phase::Settled(v) => printing::print(sheet, v, high, low, n, sets, k, a, done),
     }
 }
 
@@ -50,11 +50,11 @@ pub fn check(batch: &[u8], sheet: &mut [u8]) -> Answer
 {
     let mut high = [0u64; MOST_ROWS];
     let mut low = [0u64; MOST_ROWS];
-    let mut words = [0u64; MOST_SETS];
-    let loaded = table::load_rows(&mut high, &mut low, &mut words, 0, 0, batch);
+    let mut sets = [0u64; MOST_SETS];
+    let loaded = table::load_rows(&mut high, &mut low, &mut sets, 0, 0, batch);
     let answer = loaded.answer;
     match answer {
-        Answer::Done => finish(&high, &low, loaded.rows, &words, loaded.sets, sheet),
+        Answer::Done => finish(&high, &low, loaded.rows, &sets, loaded.sets, sheet),
         Answer::Wrote(_) => answer,
         Answer::Refused(_, _) => answer,
     }

@@ -6,7 +6,7 @@ use native.Mathlib.Decide.{ℕ-discrete}
 use Rattle.masks.specs.Mask.{member}
 use Rattle.rows.specs.declared.Row.{Row}
 use Rattle.rows.specs.declared.Row.the-variants.{Initial, Final, Successor, LeftLimit, RightLimit}
-use Rattle.rows.specs.Rows.{row-bytes, batch-of, sets, same-row}
+use Rattle.rows.specs.Rows.{row-bytes, batch-of, standing-sets, same-row}
 use Rattle.rows.specs.Reading.{set-at, row-at, row-cause, read-row}
 use Rattle.rows.specs.Batch.{on-turn, on-read, feed-from, feed}
 use Rattle.orderings.specs.Steps.{members}
@@ -36,5 +36,5 @@ pub cases : (program A ≡ text "verdict nonempty rounds 1\nopen 1 mix 000000000
     × (on-rows (Initial 0 ∷ Final 2 ∷ Successor 0 7 1 ∷ Successor 1 7 0 ∷ LeftLimit 1 2 ∷ []) ≡ text "verdict empty rounds 1\n")
     × (on-rows (Initial 0 ∷ Final 3 ∷ Successor 0 7 2 ∷ Successor 2 7 0 ∷ Successor 1 7 0 ∷ LeftLimit 5 1 ∷ LeftLimit 3 3 ∷ []) ≡ text "verdict empty rounds 2\nopen 1 loop 0000000000000005\n")
     × (on-rows (Initial 0 ∷ Final 1 ∷ RightLimit 0 1 ∷ LeftLimit 1 0 ∷ LeftLimit 1 1 ∷ []) ≡ text "verdict empty rounds 1\n")
-unfolding ℕ-discrete member row-bytes sets same-row set-at row-at row-cause read-row on-turn on-read feed-from feed members reach holds? accepts? load-row closed opened-next next-round walk-of least shortest hex decimal sheet call-in outcome program
+unfolding ℕ-discrete member row-bytes standing-sets same-row set-at row-at row-cause read-row on-turn on-read feed-from feed members reach holds? accepts? load-row closed opened-next next-round walk-of least shortest hex decimal sheet call-in outcome program
 cases = (refl, refl, refl, refl, refl, refl, refl, refl, refl, refl, refl)

@@ -9,7 +9,7 @@ use native.Mathlib.Omega.{arith}
 use Rattle.lists.specs.Tests.{_among_, _part-of_, Once}
 use Rattle.lists.proofs.Counting.{once-length}
 use Rattle.rows.specs.declared.Row.{Row}
-use Rattle.rows.specs.Rows.{row-bytes, Fits, AllFit, sets}
+use Rattle.rows.specs.Rows.{row-bytes, Fits, AllFit, standing-sets}
 use Rattle.rows.specs.Reading.{Malformed}
 use Rattle.rows.specs.Batch.{Turn, go, stop, run-rows, Fails}
 use Rattle.rows.proofs.Sets.{sets-same}

@@ -8,7 +8,7 @@ use native.Mathlib.Omega.{arith}
 use Rattle.lists.specs.Tests.{_among_}
 use Rattle.lists.proofs.Deciding.{so, not-so, ltb·}
 use Rattle.rows.specs.declared.Row.{Row}
-use Rattle.rows.specs.Rows.{sets-of, sets}
+use Rattle.rows.specs.Rows.{sets-of, standing-sets}
 use Rattle.rows.specs.Batch.{go, stop}
 use Rattle.rows.proofs.Same.{stands·}
 use Rattle.machine.specs.Machine.{load-row, withdraw-row}
@@ -26,7 +26,7 @@ module _ (r : Row) (rows : List Row) where
 
   module _ (new : ¬ (r among rows)) where
     -- a 256th row, with a 64th set or none
-    pub row-256 : length rows ≡ 255 → length (sets (with-row r rows)) ≤ 64 → load-row r rows ≡ go (with-row r rows)
+    pub row-256 : length rows ≡ 255 → length (standing-sets (with-row r rows)) ≤ 64 → load-row r rows ≡ go (with-row r rows)
     row-256 e h = load-new r rows new (omega arith) h
 
     -- a 257th row, whatever set it has
@@ -35,7 +35,7 @@ module _ (r : Row) (rows : List Row) where
     row-257 e = rw (not-so (stands· r rows) new, not-so (ltb· (length rows) 256) (λ i. omega arith))
 
     -- a 65th set
-    pub set-65 : length rows < 256 → length (sets rows) ≡ 64 → (P : ℕ) → P among sets-of r → ¬ (P among sets rows) → load-row r rows ≡ stop 7
+    pub set-65 : length rows < 256 → length (standing-sets rows) ≡ 64 → (P : ℕ) → P among sets-of r → ¬ (P among standing-sets rows) → load-row r rows ≡ stop 7
     set-65 h e P i j = load-stops r rows 7 (omega arith) .1 (sets-full P new h i j (omega arith))
 
     -- a row that does not stand, withdrawn

@@ -11,7 +11,7 @@ use Rattle.lists.proofs.Deciding.{map-out}
 use Rattle.lists.proofs.Counting.{once-length, once-append, keep-once}
 use Rattle.lists.proofs.Sorting.{before·, sorted-append, keep-sorted}
 use Rattle.rows.specs.declared.Row.{Row}
-use Rattle.rows.specs.Rows.{SetOf, sets}
+use Rattle.rows.specs.Rows.{SetOf, standing-sets}
 use Rattle.rows.proofs.Sets.{sets-sorted, sets-once}
 use Rattle.orderings.specs.Steps.{Claim, set-of}
 use Rattle.orderings.specs.Systems.{LeastDepth}
@@ -55,7 +55,7 @@ openings-sorted k (c ∷ l) s = (
 )
 
 claims-sorted : (rows : List Row) → Sorted claim-key (claims rows)
-claims-sorted rows = both-sorted (sets rows) (sets-sorted rows) (sets-once rows)
+claims-sorted rows = both-sorted (standing-sets rows) (sets-sorted rows) (sets-once rows)
 
 next-sorted : (m : Machine) → Sorted claim-key (opened-next m)
 unfolding opened-next
@@ -104,7 +104,7 @@ module _ (rows : List Row) where
       record { order = ordered k .0; once = ordered k .1; depths = λ o. rw (a .same-rows, a .count) (depths k o) }
 
   -- at most two for each set
-  pub openings-few : (k : ℕ) → length (after rows k .openings) ≤ length (sets rows) + length (sets rows)
+  pub openings-few : (k : ℕ) → length (after rows k .openings) ≤ length (standing-sets rows) + length (standing-sets rows)
   openings-few k = let a = after-after rows k in
       omega (
         arith,

@@ -11,7 +11,7 @@ use native.Mathlib.Nat.{eq-or-lt-of-le, le-of-suc-le-suc}
 use Rattle.lists.specs.Tests.{_among_}
 use Rattle.lists.proofs.Deciding.{dec·, map-in, map-out}
 use Rattle.rows.specs.declared.Row.{Row}
-use Rattle.rows.specs.Rows.{sets}
+use Rattle.rows.specs.Rows.{standing-sets}
 use Rattle.orderings.specs.Steps.{Claim}
 use Rattle.orderings.specs.Systems.{System, Holds}
 use Rattle.orderings.specs.Rounds.{OpenBy, Opens}
@@ -172,7 +172,7 @@ module _ (rows : List Row) where
     pub before : (j : ℕ) → j < rounds → after rows j .phase ≡ Running
     pub number : Number rows verdict rounds
 
-  module _ (few : length (sets rows) ≤ 64) where
+  module _ (few : length (standing-sets rows) ≤ 64) where
     -- at most 128 rounds open something
     opened-few : (k : ℕ) → Opened S k → k ≤ 128
     unfolding OpenBy

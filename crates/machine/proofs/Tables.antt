@@ -15,7 +15,7 @@ use Rattle.lists.proofs.Deciding.{so, not-so, yes·, no·, ltb·, leb·, not·,
 use Rattle.lists.proofs.Counting.{once-length, keep-once, keep-length}
 use Rattle.lists.proofs.Sorting.{insert-iff, insert-sorted, insert-length, insert-once, insert-last, sort-iff, sort-sorted, keep-sorted, sorted-mid, once-mid, sorted-same}
 use Rattle.rows.specs.declared.Row.{Row}
-use Rattle.rows.specs.Rows.{row-bytes, batch-of, Fits, AllFit, Bytes, sets-of, sets, same-row, stands?}
+use Rattle.rows.specs.Rows.{row-bytes, batch-of, Fits, AllFit, Bytes, sets-of, standing-sets, same-row, stands?}
 use Rattle.rows.specs.Batch.{Turn, go, stop, fed, run-rows, feed}
 use Rattle.rows.proofs.Same.{same-row·, stands·}
 use Rattle.rows.proofs.Reading.{bytes-apart}
@@ -26,7 +26,7 @@ use Rattle.machine.specs.Causes.{AdmitStops, LoadStops, full, sets-full,
 use Rattle.machine.specs.WellFormed.{Table}
 
 pub no-rows : Table []
-unfolding sets
+unfolding standing-sets
 no-rows = record { sorted = tt; once = tt; fit = λ r m. absurd (List·Memᴰ·not-nil m); few = omega arith; few-sets = omega arith }
 
 -- the rows with one more
@@ -37,13 +37,13 @@ with-row r rows = insert-by row-bytes r rows
 module _ (max-rows max-sets : ℕ) (r : Row) (rows : List Row) where
   -- what admitting it comes to
   abbrev pub Admission : Turn (List Row) → Type 0
-  Admission (go rows′) = ((r among rows) × (rows′ ≡ rows)) ⊎ (¬ (r among rows) × (length rows < max-rows) × (length (sets rows′) ≤ max-sets) × (rows′ ≡ with-row r rows))
-  Admission (stop n) = length (sets rows) ≤ max-sets → AdmitStops max-rows max-sets rows r n
+  Admission (go rows′) = ((r among rows) × (rows′ ≡ rows)) ⊎ (¬ (r among rows) × (length rows < max-rows) × (length (standing-sets rows′) ≤ max-sets) × (rows′ ≡ with-row r rows))
+  Admission (stop n) = length (standing-sets rows) ≤ max-sets → AdmitStops max-rows max-sets rows r n
 
   pub admission : Admission (admit-row max-rows max-sets r rows)
-  admission = by (stands? r rows) (ltb (length rows) max-rows) (leb (length (sets (with-row r rows))) max-sets) (stands· r rows) (ltb· _ _) (leb· _ _)
+  admission = by (stands? r rows) (ltb (length rows) max-rows) (leb (length (standing-sets (with-row r rows))) max-sets) (stands· r rows) (ltb· _ _) (leb· _ _)
     where
-      by : (a b c : Bool) → Decides a (r among rows) → Decides b (length rows < max-rows) → Decides c (length (sets (with-row r rows)) ≤ max-sets)
+      by : (a b c : Bool) → Decides a (r among rows) → Decides b (length rows < max-rows) → Decides c (length (standing-sets (with-row r rows)) ≤ max-sets)
           → Admission (cond a (go rows) (cond b (cond c (go (with-row r rows)) (stop 7)) (stop 6)))
       by true b c p q s = inl (yes· p, refl)
       by false true true p q s = inr (no· p, yes· q, yes· s, refl)
@@ -56,24 +56,24 @@ module _ (max-rows max-sets : ℕ) (r : Row) (rows : List Row) where
   admitted-same m = rw (so (stands· r rows) m)
 
   -- a row for which there is room
-  pub admitted-new : ¬ (r among rows) → length rows < max-rows → length (sets (with-row r rows)) ≤ max-sets → admit-row max-rows max-sets r rows ≡ go (with-row r rows)
-  admitted-new n k s = rw (not-so (stands· r rows) n, so (ltb· (length rows) max-rows) k, so (leb· (length (sets (with-row r rows))) max-sets) s)
+  pub admitted-new : ¬ (r among rows) → length rows < max-rows → length (standing-sets (with-row r rows)) ≤ max-sets → admit-row max-rows max-sets r rows ≡ go (with-row r rows)
+  admitted-new n k s = rw (not-so (stands· r rows) n, so (ltb· (length rows) max-rows) k, so (leb· (length (standing-sets (with-row r rows))) max-sets) s)
 
   -- a set that no row has is one more
-  more-sets : (P : ℕ) → P among sets-of r → ¬ (P among sets rows) → length (sets rows) < length (sets (with-row r rows))
-  more-sets P i k = once-length (P ∷ sets rows) (sets (with-row r rows)) (k, sets-once rows) (λ Q m. ⊎-elim
+  more-sets : (P : ℕ) → P among sets-of r → ¬ (P among standing-sets rows) → length (standing-sets rows) < length (standing-sets (with-row r rows))
+  more-sets P i k = once-length (P ∷ standing-sets rows) (standing-sets (with-row r rows)) (k, sets-once rows) (λ Q m. ⊎-elim
       (λ e. sets-iff (with-row r rows) Q .1 (r, insert-iff row-bytes r rows r .1 (inl refl), rw e i))
       (λ j. let s = sets-iff rows Q .0 j in sets-iff (with-row r rows) Q .1 (s .0, insert-iff row-bytes r rows (s .0) .1 (inr (s .1)), s .2))
       (List·Memᴰ·cases-cons m))
 
   -- a row that is refused
-  pub admit-stops : (n : ℕ) → length (sets rows) ≤ max-sets → (admit-row max-rows max-sets r rows ≡ stop n) ↔ AdmitStops max-rows max-sets rows r n
+  pub admit-stops : (n : ℕ) → length (standing-sets rows) ≤ max-sets → (admit-row max-rows max-sets r rows ≡ stop n) ↔ AdmitStops max-rows max-sets rows r n
   admit-stops n h = ((λ e. subst Admission e admission h), of)
     where
       of : {n : ℕ} → AdmitStops max-rows max-sets rows r n → admit-row max-rows max-sets r rows ≡ stop n
       of (full k l) = rw (not-so (stands· r rows) k, not-so (ltb· (length rows) max-rows) (λ i. omega arith))
       of (sets-full P k l i j s) =
-          rw (not-so (stands· r rows) k, so (ltb· (length rows) max-rows) l, not-so (leb· (length (sets (with-row r rows))) max-sets) (λ q. omega (arith, more-sets P i j)))
+          rw (not-so (stands· r rows) k, so (ltb· (length rows) max-rows) l, not-so (leb· (length (standing-sets (with-row r rows))) max-sets) (λ q. omega (arith, more-sets P i j)))
 
 -- loading a row: under document 01's limits
 pub load-go : (r : Row) (rows rows′ : List Row) → load-row r rows ≡ go rows′ → Admission most-rows most-sets r rows (go rows′)
@@ -84,11 +84,11 @@ pub load-same : (r : Row) (rows : List Row) → r among rows → load-row r rows
 unfolding load-row
 load-same r rows m = admitted-same most-rows most-sets r rows m
 
-pub load-new : (r : Row) (rows : List Row) → ¬ (r among rows) → length rows < most-rows → length (sets (with-row r rows)) ≤ most-sets → load-row r rows ≡ go (with-row r rows)
+pub load-new : (r : Row) (rows : List Row) → ¬ (r among rows) → length rows < most-rows → length (standing-sets (with-row r rows)) ≤ most-sets → load-row r rows ≡ go (with-row r rows)
 unfolding load-row
 load-new r rows n k s = admitted-new most-rows most-sets r rows n k s
 
-pub load-stops : (r : Row) (rows : List Row) (n : ℕ) → length (sets rows) ≤ most-sets → (load-row r rows ≡ stop n) ↔ LoadStops rows r n
+pub load-stops : (r : Row) (rows : List Row) (n : ℕ) → length (standing-sets rows) ≤ most-sets → (load-row r rows ≡ stop n) ↔ LoadStops rows r n
 unfolding load-row
 load-stops r rows n h = admit-stops most-rows most-sets r rows n h
 
@@ -212,7 +212,7 @@ load-next : (l : List Row) (r : Row) (m : List Row) → Table (l ++ (r ∷ m)) �
 load-next l r m t = load-new r l (once-mid row-bytes l r m (t .once)) (omega (arith, t .few, length-append l (r ∷ m))) (omega (arith, t .few-sets, fewer))
     ∙ ap go (insert-last row-bytes r l (sorted-mid row-bytes l r m (t .sorted)))
   where
-    fewer : length (sets (with-row r l)) ≤ length (sets (l ++ (r ∷ m)))
+    fewer : length (standing-sets (with-row r l)) ≤ length (standing-sets (l ++ (r ∷ m)))
     fewer = sets-fewer (with-row r l) (l ++ (r ∷ m)) (λ x i. ⊎-elim (λ e. Memᴰ·append-right l (List·Memᴰ·head e)) (Memᴰ·append-left (r ∷ m)) (insert-iff row-bytes r l x .0 i))
 
 load-rest : (rest l : List Row) → Table (l ++ rest) → run-rows load-row l rest ≡ go (l ++ rest)

@@ -6,7 +6,7 @@ use mathlib.Core.List.{List, _∷_, _++_}
 use lib.ListN.{length}
 use Rattle.lists.specs.Tests.{_among_, Once}
 use Rattle.rows.specs.declared.Row.{Row}
-use Rattle.rows.specs.Rows.{row-bytes, batch-of, Fits, AllFit, sets-of, sets}
+use Rattle.rows.specs.Rows.{row-bytes, batch-of, Fits, AllFit, sets-of, standing-sets}
 use Rattle.rows.specs.Reading.{Malformed}
 use Rattle.machine.specs.declared.Verdict.{Verdict}
 use Rattle.machine.specs.declared.Phase.{Phase}
@@ -40,7 +40,7 @@ pub data Writes (m : Machine) : Call → List ℕ → ℕ → Type 0 where
 -- 6: row not standing, as many stand as may; 7: a set more than there may be
 pub data AdmitStops (max-rows max-sets : ℕ) (rows : List Row) (r : Row) : ℕ → Type 0 where
   full : ¬ (r among rows) → max-rows ≤ length rows → AdmitStops max-rows max-sets rows r 6
-  sets-full : (P : ℕ) → ¬ (r among rows) → length rows < max-rows → P among sets-of r → ¬ (P among sets rows) → max-sets ≤ length (sets rows) → AdmitStops max-rows max-sets rows r 7
+  sets-full : (P : ℕ) → ¬ (r among rows) → length rows < max-rows → P among sets-of r → ¬ (P among standing-sets rows) → max-sets ≤ length (standing-sets rows) → AdmitStops max-rows max-sets rows r 7
 
 -- 6: row not standing, 256 stand; 7: a 65th set
 abbrev pub LoadStops : List Row → Row → ℕ → Type 0

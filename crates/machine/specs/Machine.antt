@@ -7,7 +7,7 @@ use lib.ListN.{length}
 use Rattle.lists.specs.Tests.{keep}
 use Rattle.lists.specs.Order.{insert-by}
 use Rattle.rows.specs.declared.Row.{Row}
-use Rattle.rows.specs.Rows.{row-bytes, sets, same-row, stands?}
+use Rattle.rows.specs.Rows.{row-bytes, standing-sets, same-row, stands?}
 use Rattle.rows.specs.Batch.{Turn, go, stop}
 use Rattle.orderings.specs.Steps.{Claim}
 use Rattle.orderings.specs.Decide.{claim-in?, holds?, claims, accepts?}
@@ -55,7 +55,7 @@ longest-batch = 65536
 abbrev pub admit-row : ℕ → ℕ → Row → List Row → Turn (List Row)
 admit-row max-rows max-sets r rows = let new = insert-by row-bytes r rows in
     cond (stands? r rows) (go rows)
-    (cond (ltb (length rows) max-rows) (cond (leb (length (sets new)) max-sets) (go new) (stop 7)) (stop 6))
+    (cond (ltb (length rows) max-rows) (cond (leb (length (standing-sets new)) max-sets) (go new) (stop 7)) (stop 6))
 
 -- 6: 256 stand; 7: a 65th set
 unfoldable pub load-row : Row → List Row → Turn (List Row)

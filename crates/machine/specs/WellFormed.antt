@@ -6,7 +6,7 @@ use lib.ListN.{length}
 use Rattle.lists.specs.Tests.{Once}
 use Rattle.lists.specs.Order.{Sorted}
 use Rattle.rows.specs.declared.Row.{Row}
-use Rattle.rows.specs.Rows.{row-bytes, AllFit, sets}
+use Rattle.rows.specs.Rows.{row-bytes, AllFit, standing-sets}
 use Rattle.machine.specs.declared.Phase.{Phase}
 use Rattle.machine.specs.declared.Phase.the-variants.{Open, Running, Settled}
 use Rattle.machine.specs.Machine.{most-rows, most-sets, Machine, open-with, closed, next-round}
@@ -17,7 +17,7 @@ pub record Table (rows : List Row) : Type 0 where
   pub once : Once rows
   pub fit : AllFit rows
   pub few : length rows ≤ most-rows
-  pub few-sets : length (sets rows) ≤ most-sets
+  pub few-sets : length (standing-sets rows) ≤ most-sets
 
 -- closed, and k rounds done
 abbrev pub after : List Row → ℕ → Machine

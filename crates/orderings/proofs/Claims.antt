@@ -10,7 +10,7 @@ use Rattle.lists.specs.Growing.{grown}
 use Rattle.lists.proofs.Deciding.{iff·, has·, dec·}
 use Rattle.lists.proofs.Growing.{grow-iff, grown-of, at-rest}
 use Rattle.rows.specs.declared.Row.{Row}
-use Rattle.rows.specs.Rows.{SetOf, sets}
+use Rattle.rows.specs.Rows.{SetOf, standing-sets}
 use Rattle.rows.proofs.Sets.{sets-iff, sets-once}
 use Rattle.orderings.specs.Steps.{Claim, loops, mixes, set-of}
 use Rattle.orderings.specs.Systems.{Derivable}
@@ -45,13 +45,13 @@ both-length (P ∷ l) = omega (arith, both-length l)
 module _ (rows : List Row) where
   -- the claims that a derivation may hold
   pub claims-iff : (c : Claim) → c among claims rows ↔ SetOf rows (set-of c)
-  claims-iff c = ((λ m. sets-iff rows (set-of c) .0 (both-out c (sets rows) m)), λ s. both-in c (sets-iff rows (set-of c) .1 s))
+  claims-iff c = ((λ m. sets-iff rows (set-of c) .0 (both-out c (standing-sets rows) m)), λ s. both-in c (sets-iff rows (set-of c) .1 s))
 
   pub claims-once : Once (claims rows)
-  claims-once = both-once (sets rows) (sets-once rows)
+  claims-once = both-once (standing-sets rows) (sets-once rows)
 
-  pub claims-length : length (claims rows) ≡ length (sets rows) + length (sets rows)
-  claims-length = both-length (sets rows)
+  pub claims-length : length (claims rows) ≡ length (standing-sets rows) + length (standing-sets rows)
+  claims-length = both-length (standing-sets rows)
 
   -- the claims that are open after k rounds
   abbrev opened : ℕ → List Claim

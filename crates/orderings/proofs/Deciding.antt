@@ -13,7 +13,7 @@ use Rattle.lists.proofs.Deciding.{iff·, and·, or·, eqb·, any·, all·, keep
 use Rattle.masks.specs.Mask.{member, _∈_}
 use Rattle.rows.specs.declared.Row.{Row}
 use Rattle.rows.specs.declared.Row.the-variants.{Initial, Final, Successor, LeftLimit, RightLimit}
-use Rattle.rows.specs.Rows.{SetOf, sets}
+use Rattle.rows.specs.Rows.{SetOf, standing-sets}
 use Rattle.rows.proofs.Same.{stands·}
 use Rattle.rows.proofs.Sets.{sets-iff}
 use Rattle.orderings.specs.Steps.{Claim, loops, mixes, set-of, Label, letter, ω, back, mix, Step, Possible, needs, members, content, Walk, Leads, Inside, On}
@@ -177,8 +177,8 @@ module _ (rows : List Row) where
         (λ p. (p .0, p .2, (p .1, p .3, (p .4, p .5))))
         (some-in· P (λ e. stands· (LeftLimit P e) rows) (λ e. some-in· P (λ f. stands· (RightLimit f P) rows) (λ f. between· P e f s))))
 
-    subject· : (c : Claim) → Decides (any (eqb (set-of c)) (sets rows)) (SetOf rows (set-of c))
-    subject· c = iff· (sets-iff rows (set-of c) .0) (sets-iff rows (set-of c) .1) (has· eqb· (set-of c) (sets rows))
+    subject· : (c : Claim) → Decides (any (eqb (set-of c)) (standing-sets rows)) (SetOf rows (set-of c))
+    subject· c = iff· (sets-iff rows (set-of c) .0) (sets-iff rows (set-of c) .1) (has· eqb· (set-of c) (standing-sets rows))
 
     -- the claim holds with the claims of the list
     pub holds· : (c : Claim) → Decides (holds? rows l c) (Holds (timelines rows) Open c)

@@ -8,7 +8,7 @@ use Rattle.lists.specs.Growing.{grown}
 use Rattle.masks.specs.Mask.{member}
 use Rattle.rows.specs.declared.Row.{Row}
 use Rattle.rows.specs.declared.Row.the-variants.{Initial, Final, Successor, LeftLimit, RightLimit}
-use Rattle.rows.specs.Rows.{sets, same-row}
+use Rattle.rows.specs.Rows.{standing-sets, same-row}
 use Rattle.orderings.specs.Steps.{Claim, loops, mixes, members}
 use Rattle.orderings.specs.Decide.{same-claim, claims, reach, holds?, accepts?}
 
@@ -19,43 +19,43 @@ opened rows k = grown same-claim (claims rows) (holds? rows) k
 -- openings of one round don't help each other: {0,1} waits for {0}
 pub two-rounds : (opened (Successor 0 7 0 ∷ Successor 1 7 0 ∷ LeftLimit 1 1 ∷ LeftLimit 3 2 ∷ []) 1 ≡ loops 1 ∷ [])
     × (opened (Successor 0 7 0 ∷ Successor 1 7 0 ∷ LeftLimit 1 1 ∷ LeftLimit 3 2 ∷ []) 2 ≡ loops 1 ∷ loops 3 ∷ [])
-unfolding ℕ-discrete member sets same-row members reach holds?
+unfolding ℕ-discrete member standing-sets same-row members reach holds?
 two-rounds = (refl, refl)
 
 -- a step's content is more than its ends: the omega step of {0,2} is not inside {0,1}
 pub whole-content : opened (Successor 0 7 2 ∷ Successor 2 7 0 ∷ Successor 1 7 0 ∷ LeftLimit 5 1 ∷ LeftLimit 3 3 ∷ []) 3 ≡ loops 5 ∷ []
-unfolding ℕ-discrete member sets same-row members reach holds?
+unfolding ℕ-discrete member standing-sets same-row members reach holds?
 whole-content = refl
 
 -- and so for back steps and for mix steps
 pub whole-back : opened (Successor 0 7 2 ∷ Successor 2 7 0 ∷ Successor 0 7 1 ∷ RightLimit 1 5 ∷ RightLimit 3 3 ∷ []) 3 ≡ loops 5 ∷ []
-unfolding ℕ-discrete member sets same-row members reach holds?
+unfolding ℕ-discrete member standing-sets same-row members reach holds?
 whole-back = refl
 
 pub whole-mix : opened (Successor 2 7 2 ∷ RightLimit 2 4 ∷ LeftLimit 4 2 ∷ RightLimit 0 4 ∷ LeftLimit 4 1 ∷ Successor 1 7 0 ∷ LeftLimit 3 3 ∷ []) 3 ≡ loops 4 ∷ mixes 4 ∷ []
-unfolding ℕ-discrete member sets same-row members reach holds?
+unfolding ℕ-discrete member standing-sets same-row members reach holds?
 whole-mix = refl
 
 -- a walk of no steps closes no set of one state
 pub one-step-or-more : (opened (LeftLimit 1 1 ∷ []) 1 ≡ []) × (opened (RightLimit 0 1 ∷ LeftLimit 1 0 ∷ LeftLimit 1 1 ∷ []) 1 ≡ [])
-unfolding ℕ-discrete member sets same-row members reach holds?
+unfolding ℕ-discrete member standing-sets same-row members reach holds?
 one-step-or-more = (refl, refl)
 
 -- a state that an entrance reaches but that reaches no exit, and one that reaches an exit but no entrance reaches
 pub on-a-piece : (opened (LeftLimit 7 0 ∷ RightLimit 1 7 ∷ Successor 0 7 1 ∷ Successor 0 7 2 ∷ []) 1 ≡ [])
     × (opened (LeftLimit 7 0 ∷ RightLimit 1 7 ∷ Successor 0 7 1 ∷ Successor 2 7 1 ∷ []) 1 ≡ [])
     × (opened (LeftLimit 7 0 ∷ RightLimit 1 7 ∷ Successor 0 7 2 ∷ Successor 2 7 1 ∷ []) 1 ≡ mixes 7 ∷ [])
-unfolding ℕ-discrete member sets same-row members reach holds?
+unfolding ℕ-discrete member standing-sets same-row members reach holds?
 on-a-piece = (refl, refl, refl)
 
 -- the ends of a mix step may lie outside the set
 pub mix-outside : accepts? (Initial 0 ∷ Final 2 ∷ RightLimit 0 2 ∷ LeftLimit 2 2 ∷ []) (mixes 2 ∷ []) ≡ true
-unfolding ℕ-discrete member sets same-row members reach accepts?
+unfolding ℕ-discrete member standing-sets same-row members reach accepts?
 mix-outside = refl
 
 -- a letter step's content is its two states
 pub letters-inside : (opened (Successor 0 7 1 ∷ Successor 1 7 0 ∷ LeftLimit 1 2 ∷ []) 1 ≡ []) × (opened (Successor 0 7 1 ∷ Successor 1 7 0 ∷ LeftLimit 3 2 ∷ []) 1 ≡ loops 3 ∷ [])
-unfolding ℕ-discrete member sets same-row members reach holds?
+unfolding ℕ-discrete member standing-sets same-row members reach holds?
 letters-inside = (refl, refl)
 
 -- a step's content has its ends: no walk inside a set goes through a state outside it, between two mix steps, an omega or mix step and a letter
@@ -66,39 +66,39 @@ pub ends-inside : (opened (Successor 2 7 2 ∷ Successor 3 7 3 ∷ Successor 1 7
     × (opened (Successor 2 7 2 ∷ Successor 1 7 2 ∷ Successor 5 7 1 ∷ LeftLimit 4 5 ∷ LeftLimit 4 2 ∷ RightLimit 2 4 ∷ LeftLimit 6 3 ∷ []) 3 ≡ loops 4 ∷ mixes 4 ∷ [])
     × (opened (Successor 2 7 2 ∷ Successor 2 7 1 ∷ Successor 1 7 5 ∷ RightLimit 5 4 ∷ RightLimit 3 6 ∷ []) 3 ≡ loops 4 ∷ [])
     × (opened (Successor 2 7 2 ∷ Successor 2 7 1 ∷ Successor 1 7 5 ∷ RightLimit 5 4 ∷ LeftLimit 4 2 ∷ RightLimit 2 4 ∷ RightLimit 3 6 ∷ []) 3 ≡ loops 4 ∷ mixes 4 ∷ [])
-unfolding ℕ-discrete member sets same-row members reach holds?
+unfolding ℕ-discrete member standing-sets same-row members reach holds?
 ends-inside = (refl, refl, refl, refl, refl)
 
 -- and between an omega or mix step of {0} and a back or mix step of {1}
 pub limit-state-inside : (opened (Successor 0 7 0 ∷ Successor 1 7 1 ∷ Successor 1 7 0 ∷ LeftLimit 1 5 ∷ RightLimit 5 2 ∷ LeftLimit 3 7 ∷ []) 3 ≡ loops 1 ∷ loops 2 ∷ [])
     × (opened (Successor 0 7 0 ∷ Successor 1 7 1 ∷ Successor 1 7 0 ∷ LeftLimit 1 0 ∷ RightLimit 0 1 ∷ LeftLimit 2 1 ∷ RightLimit 1 2 ∷ LeftLimit 1 5 ∷ RightLimit 5 2 ∷ LeftLimit 3 7 ∷ []) 3
     ≡ loops 1 ∷ mixes 1 ∷ loops 2 ∷ mixes 2 ∷ [])
-unfolding ℕ-discrete member sets same-row members reach holds?
+unfolding ℕ-discrete member standing-sets same-row members reach holds?
 limit-state-inside = (refl, refl)
 
 -- a content has no more: with 5 in the set the same steps are inside it
 pub content-enough : opened (Successor 0 7 0 ∷ Successor 1 7 1 ∷ Successor 1 7 0 ∷ LeftLimit 1 5 ∷ RightLimit 5 2 ∷ LeftLimit 35 7 ∷ []) 2 ≡ loops 1 ∷ loops 2 ∷ loops 35 ∷ []
-unfolding ℕ-discrete member sets same-row members reach holds?
+unfolding ℕ-discrete member standing-sets same-row members reach holds?
 content-enough = refl
 
 -- a set loops from any of its states to any
 pub any-to-any : opened (Successor 0 7 0 ∷ Successor 1 7 1 ∷ LeftLimit 3 2 ∷ []) 1 ≡ []
-unfolding ℕ-discrete member sets same-row members reach holds?
+unfolding ℕ-discrete member standing-sets same-row members reach holds?
 any-to-any = refl
 
 -- each state of a set that mixes may lie on a piece of its own
 pub some-piece-each : opened (Successor 0 7 0 ∷ Successor 1 7 1 ∷ LeftLimit 3 0 ∷ LeftLimit 3 1 ∷ RightLimit 0 3 ∷ RightLimit 1 3 ∷ []) 1 ≡ mixes 3 ∷ []
-unfolding ℕ-discrete member sets same-row members reach holds?
+unfolding ℕ-discrete member standing-sets same-row members reach holds?
 some-piece-each = refl
 
 -- entrances and exits are states of the set
 pub ends-of-the-set : opened (Successor 5 7 0 ∷ Successor 0 7 0 ∷ LeftLimit 1 5 ∷ RightLimit 0 1 ∷ []) 1 ≡ loops 1 ∷ []
-unfolding ℕ-discrete member sets same-row members reach holds?
+unfolding ℕ-discrete member standing-sets same-row members reach holds?
 ends-of-the-set = refl
 
 -- the two rows of a mix step are of one set
 pub one-set : accepts? (Initial 0 ∷ Final 2 ∷ RightLimit 0 1 ∷ LeftLimit 2 2 ∷ []) (mixes 2 ∷ []) ≡ false
-unfolding ℕ-discrete member sets same-row members reach accepts?
+unfolding ℕ-discrete member standing-sets same-row members reach accepts?
 one-set = refl
 
 -- omega steps start in any state of the set and back steps end in any, and in no other; what they lead to or from may be in it too
@@ -107,7 +107,7 @@ pub any-of-the-set : (accepts? (Initial 1 ∷ Final 0 ∷ LeftLimit 3 0 ∷ []) 
     × (accepts? (Initial 1 ∷ Final 2 ∷ RightLimit 1 6 ∷ LeftLimit 6 2 ∷ []) (mixes 6 ∷ []) ≡ true)
     × (accepts? (Initial 2 ∷ Final 3 ∷ LeftLimit 3 3 ∷ []) (loops 3 ∷ []) ≡ false)
     × (accepts? (Initial 3 ∷ Final 2 ∷ RightLimit 3 3 ∷ []) (loops 3 ∷ []) ≡ false)
-unfolding ℕ-discrete member sets same-row members reach accepts?
+unfolding ℕ-discrete member standing-sets same-row members reach accepts?
 any-of-the-set = (refl, refl, refl, refl, refl)
 
 -- omega and back steps need that the set loops, mix steps that it mixes
@@ -115,7 +115,7 @@ pub claims-needed : (accepts? (Initial 0 ∷ Final 2 ∷ LeftLimit 3 2 ∷ []) (
     × (accepts? (Initial 2 ∷ Final 0 ∷ RightLimit 2 3 ∷ []) (mixes 3 ∷ []) ≡ false)
     × (accepts? (Initial 2 ∷ Final 3 ∷ RightLimit 2 3 ∷ LeftLimit 3 3 ∷ []) [] ≡ false)
     × (accepts? (Initial 2 ∷ Final 3 ∷ RightLimit 2 3 ∷ LeftLimit 3 3 ∷ []) (mixes 3 ∷ []) ≡ true)
-unfolding ℕ-discrete member sets same-row members reach accepts?
+unfolding ℕ-discrete member standing-sets same-row members reach accepts?
 claims-needed = (refl, refl, refl, refl)
 
 -- zero steps suffice where a state is initial and final; else a walk goes from the initial to the final state
@@ -123,5 +123,5 @@ pub from-initial-to-final : (accepts? (Initial 0 ∷ Final 0 ∷ []) [] ≡ true
     × (accepts? (Initial 0 ∷ Final 1 ∷ []) [] ≡ false)
     × (accepts? (Initial 0 ∷ Final 1 ∷ Successor 0 7 1 ∷ []) [] ≡ true)
     × (accepts? (Initial 0 ∷ Final 1 ∷ Successor 1 7 0 ∷ []) [] ≡ false)
-unfolding ℕ-discrete member sets same-row members reach accepts?
+unfolding ℕ-discrete member standing-sets same-row members reach accepts?
 from-initial-to-final = (refl, refl, refl, refl)

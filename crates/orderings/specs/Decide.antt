@@ -11,7 +11,7 @@ use Rattle.lists.specs.Growing.{grown}
 use Rattle.masks.specs.Mask.{member}
 use Rattle.rows.specs.declared.Row.{Row}
 use Rattle.rows.specs.declared.Row.the-variants.{Initial, Final, Successor, LeftLimit, RightLimit}
-use Rattle.rows.specs.Rows.{sets, stands?}
+use Rattle.rows.specs.Rows.{standing-sets, stands?}
 use Rattle.orderings.specs.Steps.{Claim, loops, mixes, set-of, Label, letter, ω, back, mix, Step, needs, members, content}
 use Rattle.orderings.specs.Timelines.{same}
 
@@ -93,7 +93,7 @@ says? rows G (mixes P) = mixes? rows G P
 
 -- the claim holds with the claims of the list, for a set of a standing row
 unfoldable pub holds? : List Row → List Claim → Claim → Bool
-holds? rows l c = any (eqb (set-of c)) (sets rows) && says? rows (steps-in rows l (set-of c)) c
+holds? rows l c = any (eqb (set-of c)) (standing-sets rows) && says? rows (steps-in rows l (set-of c)) c
 
 -- the claims, by set, then loop before mix
 abbrev pub both : List ℕ → List Claim
@@ -101,7 +101,7 @@ both [] = []
 both (P ∷ l) = loops P ∷ mixes P ∷ both l
 
 abbrev pub claims : List Row → List Claim
-claims rows = both (sets rows)
+claims rows = both (standing-sets rows)
 
 abbrev pub initial-of : Row → List ℕ
 initial-of (Initial s) = s ∷ []

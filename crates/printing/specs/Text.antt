@@ -6,19 +6,19 @@ use Rattle.lists.specs.Tests.{gather}
 use Rattle.machine.specs.declared.Verdict.{Verdict}
 use Rattle.machine.specs.declared.Verdict.the-variants.{NonEmpty}
 use Rattle.machine.specs.Sheet.{verdict-line, opening-line, walk-lines}
-use Rattle.rounds.specs.declared.Rounds.{Rounds}
+use Rattle.rounds.specs.declared.Progress.{Progress}
 use Rattle.walks.specs.declared.FoundWalk.{FoundWalk}
 use Rattle.walks.specs.Walks.{as-found}
 use Rattle.sheets.specs.Openings.{openings-in}
 
 -- the lines of the openings
-abbrev pub openings-text : List ℕ → ℕ → Rounds → List ℕ
-openings-text words k rounds = gather opening-line (openings-in (rounds .«loop_rounds») (rounds .«mix_rounds») words k (rounds .count))
+abbrev pub openings-text : List ℕ → ℕ → Progress → List ℕ
+openings-text sets k rounds = gather opening-line (openings-in (rounds .«loop_rounds») (rounds .«mix_rounds») sets k (rounds .rounds))
 
 -- the line of the verdict, and those of the openings
-unfoldable pub head-text : Verdict → List ℕ → ℕ → Rounds → List ℕ
-head-text v words k rounds = verdict-line v (rounds .count) ++ openings-text words k rounds
+unfoldable pub head-text : Verdict → List ℕ → ℕ → Progress → List ℕ
+head-text v sets k rounds = verdict-line v (rounds .rounds) ++ openings-text sets k rounds
 
 -- these lines with the verdict that there is a walk, and then those of the walk
-unfoldable pub walked-text : List ℕ → ℕ → Rounds → FoundWalk → List ℕ
-walked-text words k rounds w = head-text NonEmpty words k rounds ++ walk-lines (some (as-found w))
+unfoldable pub walked-text : List ℕ → ℕ → Progress → FoundWalk → List ℕ
+walked-text sets k rounds w = head-text NonEmpty sets k rounds ++ walk-lines (some (as-found w))

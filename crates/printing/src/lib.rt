@@ -6,7 +6,7 @@ use machine::Answer;
 use machine::MOST_ROWS;
 use machine::MOST_SETS;
 use machine::Verdict;
-use rounds::Rounds;
+use rounds::Progress;
 use search::Claims;
 use search::graphs;
 use walks::FoundWalk;
@@ -30,17 +30,17 @@ fn openings_at(
     at: usize,
     looped: &[u8; MOST_SETS],
     mixed: &[u8; MOST_SETS],
-    words: &[u64; MOST_SETS],
+    sets: &[u64; MOST_SETS],
     k: usize,
     count: u8,
 ) -> usize
     requires { ⌜ (k ≤ 64)
-        × (at + length (gather opening-line (openings-in (now looped) (now mixed) (now words) k count)) ≤ length (now buf)) ⌝ }
+        × (at + length (gather opening-line (openings-in (now looped) (now mixed) (now sets) k count)) ≤ length (now buf)) ⌝ }
     ensures { λ r. ⌜ WroteAt
-        (gather opening-line (openings-in (now (looped .entry)) (now (mixed .entry)) (now (words .entry)) k count))
+        (gather opening-line (openings-in (now (looped .entry)) (now (mixed .entry)) (now (sets .entry)) k count))
         (now (buf .entry)) (now (buf .exit)) at r ⌝ }
 {
-    at + sheets::put_openings(&mut buf[at..], looped, mixed, words, k, count)
+    at + sheets::put_openings(&mut buf[at..], looped, mixed, sets, k, count)
 }
 
 // Writes the lines of a walk from `at` on, and returns the next place.
@@ -52,34 +52,34 @@ fn walk_at(buf: &mut [u8], at: usize, walk: FoundWalk) -> usize
 }
 
 // How long the lines of the verdict and of the openings are.
-fn head_len(v: Verdict, words: &[u64; MOST_SETS], k: usize, rounds: Rounds) -> usize
+fn head_len(v: Verdict, sets: &[u64; MOST_SETS], k: usize, rounds: Progress) -> usize
     requires { ⌜ k ≤ 64 ⌝ }
-    ensures { λ r. ⌜ (r ≡ length (head-text v (now (words .entry)) k rounds)) × (r ≤ 1100000) ⌝ }
+    ensures { λ r. ⌜ (r ≡ length (head-text v (now (sets .entry)) k rounds)) × (r ≤ 1100000) ⌝ }
 {
     let looped = rounds.loop_rounds;
     let mixed = rounds.mix_rounds;
-    let count = rounds.count;
+    let count = rounds.rounds;
     let first = lines::verdict_line_len(v, count as u64);
-    first + sheets::openings_len(&looped, &mixed, words, k, count)
+    first + sheets::openings_len(&looped, &mixed, sets, k, count)
 }
 
 // Writes the lines of the verdict and of the openings.
 fn put_head(
     buffer: &mut [u8],
     v: Verdict,
-    words: &[u64; MOST_SETS],
+    sets: &[u64; MOST_SETS],
     k: usize,
-    rounds: Rounds,
+    rounds: Progress,
 ) -> usize
-    requires { ⌜ (k ≤ 64) × (length (head-text v (now words) k rounds) ≤ length (now buffer)) ⌝ }
-    ensures { λ r. ⌜ Wrote (head-text v (now (words .entry)) k rounds)
+    requires { ⌜ (k ≤ 64) × (length (head-text v (now sets) k rounds) ≤ length (now buffer)) ⌝ }
+    ensures { λ r. ⌜ Wrote (head-text v (now (sets .entry)) k rounds)
         (now (buffer .entry)) (now (buffer .exit)) r ⌝ }
 {
     let looped = rounds.loop_rounds;
     let mixed = rounds.mix_rounds;
-    let count = rounds.count;
+    let count = rounds.rounds;
     let at = lines::put_verdict_line(buffer, v, count as u64);
-    openings_at(buffer, at, &looped, &mixed, words, k, count)
+    openings_at(buffer, at, &looped, &mixed, sets, k, count)
 }
 
 // The first of the shortest walks from an initial to a final state, with the claims that are open.
@@ -89,7 +89,7 @@ fn first_walk(
     n: usize,
     k: usize,
     a: Automaton,
-    rounds: Rounds,
+    rounds: Progress,
 ) -> FoundWalk
     requires { ⌜ (n ≤ 256) × (k ≤ 64) ⌝ }
     ensures bounded { λ r. ⌜ Bounded r ⌝ }
@@ -106,37 +106,37 @@ fn first_walk(
 }
 
 // The sheet of an empty automaton: the verdict and the openings.
-fn print_empty(buffer: &mut [u8], words: &[u64; MOST_SETS], k: usize, rounds: Rounds) -> Answer
+fn print_empty(buffer: &mut [u8], sets: &[u64; MOST_SETS], k: usize, rounds: Progress) -> Answer
     requires { ⌜ k ≤ 64 ⌝ }
-    ensures { λ r. ⌜ TellsText (head-text Empty (now (words .entry)) k rounds)
+    ensures { λ r. ⌜ TellsText (head-text Empty (now (sets .entry)) k rounds)
         (now (buffer .entry)) (now (buffer .exit)) r ⌝ }
 {
-    let head = head_len(Verdict::Empty, words, k, rounds);
+    let head = head_len(Verdict::Empty, sets, k, rounds);
     if buffer.len() < head {
         return Answer::Refused(12, 0);
     }
-    let wrote = put_head(buffer, Verdict::Empty, words, k, rounds);
+    let wrote = put_head(buffer, Verdict::Empty, sets, k, rounds);
     Answer::Wrote(wrote)
 }
 
 // The sheet of a non-empty one: the verdict, the openings and the walk.
 fn print_nonempty(
     buffer: &mut [u8],
-    words: &[u64; MOST_SETS],
+    sets: &[u64; MOST_SETS],
     k: usize,
-    rounds: Rounds,
+    rounds: Progress,
     walk: FoundWalk,
 ) -> Answer
     requires { ⌜ (k ≤ 64) × Bounded walk ⌝ }
-    ensures { λ r. ⌜ TellsText (walked-text (now (words .entry)) k rounds walk)
+    ensures { λ r. ⌜ TellsText (walked-text (now (sets .entry)) k rounds walk)
         (now (buffer .entry)) (now (buffer .exit)) r ⌝ }
 {
-    let head = head_len(Verdict::NonEmpty, words, k, rounds);
+    let head = head_len(Verdict::NonEmpty, sets, k, rounds);
     let len = head + sheets::walk_len(walk);
     if buffer.len() < len {
         return Answer::Refused(12, 0);
     }
-    let at = put_head(buffer, Verdict::NonEmpty, words, k, rounds);
+    let at = put_head(buffer, Verdict::NonEmpty, sets, k, rounds);
     let wrote = walk_at(buffer, at, walk);
     Answer::Wrote(wrote)
 }
@@ -148,20 +148,20 @@ pub fn print(
     high: &[u64; MOST_ROWS],
     low: &[u64; MOST_ROWS],
     n: usize,
-    words: &[u64; MOST_SETS],
+    sets: &[u64; MOST_SETS],
     k: usize,
     a: Automaton,
-    rounds: Rounds,
+    rounds: Progress,
 ) -> Answer
     requires { ⌜ (n ≤ 256) × (k ≤ 64) ⌝ }
-    ensures { λ r. ⌜ PrintsSheet verdict (now (high .entry)) (now (low .entry)) n (now (words .entry)) k a rounds
+    ensures { λ r. ⌜ PrintsSheet verdict (now (high .entry)) (now (low .entry)) n (now (sets .entry)) k a rounds
         (now (buffer .entry)) (now (buffer .exit)) r ⌝ }
 {
     match verdict {
         Verdict::NonEmpty => {
             let walk = first_walk(high, low, n, k, a, rounds);
-            print_nonempty(buffer, words, k, rounds, walk)
+            print_nonempty(buffer, sets, k, rounds, walk)
         }
-        Verdict::Empty => print_empty(buffer, words, k, rounds),
+        Verdict::Empty => print_empty(buffer, sets, k, rounds),
     }
 }

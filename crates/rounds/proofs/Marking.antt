@@ -11,7 +11,7 @@ use Rattle.lists.specs.Tests.{Decides, _among_}
 use Rattle.lists.proofs.Deciding.{yes·, no·}
 use Rattle.masks.specs.Mask.{member, _∈_}
 use Rattle.masks.proofs.Member.{lt-or-le, true-or-false, not-both}
-use Rattle.rows.specs.Rows.{sets}
+use Rattle.rows.specs.Rows.{standing-sets}
 use Rattle.orderings.specs.Steps.{Claim}
 use Rattle.orderings.specs.Decide.{same-claim}
 use Rattle.orderings.proofs.Deciding.{same-claim·}
@@ -51,17 +51,17 @@ filled-past l i h g =
     ap (λ (j : ℕ). getD (padded 64 0 l) j 0) (sym e) ∙ getD-append-add l (replicate (64 - length l) 0) (i - length l) 0
     ∙ getD-replicate (64 - length l) (i - length l) 0 0 (omega arith)
 
-module _ (m : Machine) (few : length (sets (m .rows)) ≤ 64) (claim : ℕ → Claim) where
+module _ (m : Machine) (few : length (standing-sets (m .rows)) ≤ 64) (claim : ℕ → Claim) where
   rounds-length : length (rounds-of m claim) ≡ 64
   rounds-length = simp (length-append, length-replicate, length-map) (omega arith)
 
   -- there is no set from their count on
-  past : (i : ℕ) → length (sets (m .rows)) ≤ i → i < 64 → getD (rounds-of m claim) i 0 ≡ 0
-  past i h g = let f : ℕ → ℕ = λ P. round-of (m .openings) (claim P) in filled-past (map f (sets (m .rows))) i (omega (arith, length-map (sets (m .rows)) f)) g
+  past : (i : ℕ) → length (standing-sets (m .rows)) ≤ i → i < 64 → getD (rounds-of m claim) i 0 ≡ 0
+  past i h g = let f : ℕ → ℕ = λ P. round-of (m .openings) (claim P) in filled-past (map f (standing-sets (m .rows))) i (omega (arith, length-map (standing-sets (m .rows)) f)) g
 
 -- the array with the places marked that the round opens is that of the machine with the new openings
-module _ (m : Machine) (few : length (sets (m .rows)) ≤ 64) (claim : ℕ → Claim) (k opened : ℕ) (new : List Claim) (vain : Bool)
-    (is : (i : ℕ) → (i ∈ opened) ↔ ((i < length (sets (m .rows))) × claim (set-at m i) among new))
+module _ (m : Machine) (few : length (standing-sets (m .rows)) ≤ 64) (claim : ℕ → Claim) (k opened : ℕ) (new : List Claim) (vain : Bool)
+    (is : (i : ℕ) → (i ∈ opened) ↔ ((i < length (standing-sets (m .rows))) × claim (set-at m i) among new))
     (apart : (c : Claim) → c among new → ¬ (c among open-claims m)) where
   abbrev then : Machine
   then = with-openings m (m .openings ++ openings-of k new) vain
@@ -74,7 +74,7 @@ module _ (m : Machine) (few : length (sets (m .rows)) ≤ 64) (claim : ℕ → C
       (λ e. ap (λ (b : Bool). cond b k (getD (rounds-of m claim) i 0)) e
       ∙ ⊎-elim
       (λ l. round-at m claim i l ∙ sym (round-at then claim i l ∙ round-old (claim (set-at m i)) k (m .openings) new (λ j. not-both (is i .1 (l, j)) e)))
-      (λ l. past m few claim i l h ∙ sym (past then few claim i l h)) (lt-or-le i (length (sets (m .rows)))))
+      (λ l. past m few claim i l h ∙ sym (past then few claim i l h)) (lt-or-le i (length (standing-sets (m .rows)))))
       (true-or-false (member i opened))
 
   pub marked : (r : List ℕ) → Marks (rounds-of m claim) opened k r → r ≡ rounds-of then claim

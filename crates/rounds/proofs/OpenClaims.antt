@@ -14,7 +14,7 @@ use Rattle.lists.proofs.Places.{getD-map}
 use Rattle.masks.specs.Mask.{member, _∈_}
 use Rattle.masks.proofs.Member.{with-same, with-cases}
 use Rattle.rows.specs.declared.Row.{Row}
-use Rattle.rows.specs.Rows.{sets}
+use Rattle.rows.specs.Rows.{standing-sets}
 use Rattle.orderings.specs.Steps.{Claim, loops, mixes}
 use Rattle.orderings.specs.Decide.{same-claim}
 use Rattle.orderings.specs.Rounds.{Opens}
@@ -93,16 +93,16 @@ filled-at l i h = List·getD-append l (replicate (64 - length l) 0) 0 i h
 
 -- the set at a place
 abbrev pub set-at : Machine → ℕ → ℕ
-set-at m i = getD (padded 64 0 (sets (m .rows))) i 0
+set-at m i = getD (padded 64 0 (standing-sets (m .rows))) i 0
 
 -- at the place of a set stands the round of its claim
-pub round-at : (m : Machine) (claim : ℕ → Claim) (i : ℕ) → i < length (sets (m .rows)) → getD (rounds-of m claim) i 0 ≡ round-of (m .openings) (claim (set-at m i))
-round-at m claim i h = let f : ℕ → ℕ = λ P. round-of (m .openings) (claim P) in let l = sets (m .rows) in
+pub round-at : (m : Machine) (claim : ℕ → Claim) (i : ℕ) → i < length (standing-sets (m .rows)) → getD (rounds-of m claim) i 0 ≡ round-of (m .openings) (claim (set-at m i))
+round-at m claim i h = let f : ℕ → ℕ = λ P. round-of (m .openings) (claim P) in let l = standing-sets (m .rows) in
     filled-at (map f l) i (omega (arith, length-map l f)) ∙ getD-map f l i 0 0 h ∙ ap f (sym (filled-at l i h))
 
 -- the mask of the places with a round is that of the claims that are open
-pub open-iff : (m : Machine) → WellFormed m → (claim : ℕ → Claim) (mask : ℕ) → OpenPlaces (rounds-of m claim) (length (sets (m .rows))) mask
-    → (i : ℕ) → (i ∈ mask) ↔ ((i < length (sets (m .rows))) × claim (set-at m i) among open-claims m)
+pub open-iff : (m : Machine) → WellFormed m → (claim : ℕ → Claim) (mask : ℕ) → OpenPlaces (rounds-of m claim) (length (standing-sets (m .rows))) mask
+    → (i : ℕ) → (i ∈ mask) ↔ ((i < length (standing-sets (m .rows))) × claim (set-at m i) among open-claims m)
 open-iff m w claim mask is i = let q = round-iff (claim (set-at m i)) (m .openings) (counted m w) in (
   (λ k. let p = is i .0 k in (p .0, q .0 (subst (λ n. 0 < n) (round-at m claim i (p .0)) (p .1)))),
   λ p. is i .1 (p .0, subst (λ n. 0 < n) (sym (round-at m claim i (p .0))) (q .1 (p .1))),
@@ -123,5 +123,5 @@ zeros l h =
     ∙ ap (λ (n : ℕ). replicate n 0) e
 
 -- no set of an open machine has a round
-pub no-rounds : (rows : List Row) (claim : ℕ → Claim) → length (sets rows) ≤ 64 → rounds-of (open-with rows) claim ≡ replicate 64 0
-no-rounds rows claim h = zeros (sets rows) h
+pub no-rounds : (rows : List Row) (claim : ℕ → Claim) → length (standing-sets rows) ≤ 64 → rounds-of (open-with rows) claim ≡ replicate 64 0
+no-rounds rows claim h = zeros (standing-sets rows) h

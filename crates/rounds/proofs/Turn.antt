@@ -11,7 +11,7 @@ use Rattle.lists.proofs.Deciding.{yes·, no·, not-so, iff·}
 use Rattle.masks.specs.Mask.{member, _∈_}
 use Rattle.masks.proofs.Member.{in-none, union-left, union-right, union-cases}
 use Rattle.rows.specs.declared.Row.{Row}
-use Rattle.rows.specs.Rows.{sets}
+use Rattle.rows.specs.Rows.{standing-sets}
 use Rattle.rows.proofs.Sets.{set-place}
 use Rattle.orderings.specs.Steps.{Claim, loops, mixes}
 use Rattle.orderings.specs.Decide.{accepts?}
@@ -145,7 +145,7 @@ module _ (m : Machine) (g : Graph) (initials finals n : ℕ) (force new all : Cl
       marked m (d .given .table .few-sets) claim (suc (m .rounds)) mask (opened-next m) (nothing? (opened-next m)) (λ i. place i (h i)) apart marks
       (subst (λ (k : ℕ). Marks (rounds-of m claim) mask k marks) e is)
     where
-      place : (i : ℕ) → (i ∈ mask) ↔ ((i < n) × claim (P i) among opened-next m) → (i ∈ mask) ↔ ((i < length (sets (m .rows))) × claim (set-at m i) among opened-next m)
+      place : (i : ℕ) → (i ∈ mask) ↔ ((i < n) × claim (P i) among opened-next m) → (i ∈ mask) ↔ ((i < length (standing-sets (m .rows))) × claim (set-at m i) among opened-next m)
       place i f = rw (d .given .worded .count, ap (λ (l : List ℕ). getD l i 0) (d .given .worded .words-are)) at f
 
   pub turn-kept : Mirrors (next-round m) loop-marks mix-marks (judged accepted vain) (m .rounds + 1)

@@ -6,7 +6,7 @@ use mathlib.Core.Logic.{_↔_}
 use mathlib.Core.List.{List, [], _∷_, map}
 use lib.ListN.{length, getD}
 use Rattle.masks.specs.Mask.{member, _∈_}
-use Rattle.rows.specs.Rows.{sets}
+use Rattle.rows.specs.Rows.{standing-sets}
 use Rattle.orderings.specs.Steps.{Claim}
 use Rattle.orderings.specs.Decide.{same-claim}
 use Rattle.machine.specs.Machine.{Opening, Machine}
@@ -19,7 +19,7 @@ round-of (o ∷ l) c = cond (same-claim c (o .claim)) (o .round) (round-of l c)
 
 -- the rounds of the claims about the sets
 abbrev pub rounds-of : Machine → (ℕ → Claim) → List ℕ
-rounds-of m claim = padded 64 0 (map (λ P. round-of (m .openings) (claim P)) (sets (m .rows)))
+rounds-of m claim = padded 64 0 (map (λ P. round-of (m .openings) (claim P)) (standing-sets (m .rows)))
 
 -- the places below n whose round is not 0
 abbrev pub OpenPlaces : List ℕ → ℕ → ℕ → Type 0

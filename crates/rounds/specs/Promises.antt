@@ -11,7 +11,7 @@ use Rattle.machine.specs.WellFormed.{Table, WellFormed}
 use Rattle.search.specs.Graph.{Graph}
 use Rattle.search.specs.Masked.{Masked, Initials, Finals}
 use Rattle.table.specs.Arrays.{Worded}
-use Rattle.rounds.specs.declared.Rounds.{Rounds}
+use Rattle.rounds.specs.declared.Progress.{Progress}
 use Rattle.rounds.specs.Arrays.{rounds-of}
 
 -- the graph of a table of rows, its n sets, its initial and its final states
@@ -30,17 +30,17 @@ pub record Mirrors (m : Machine) (loop-rounds mix-rounds : List ℕ) (phase : Ph
   pub count-is : count ≡ m .rounds
 
 -- they are those of the machine, closed
-abbrev pub Closes : Graph → ℕ → ℕ → Rounds → Type 0
+abbrev pub Closes : Graph → ℕ → ℕ → Progress → Type 0
 Closes g initials finals r = (m : Machine) (n : ℕ) → Given (m .rows) g initials finals n
-    → Mirrors (closed m) (r .«loop_rounds») (r .«mix_rounds») (r .phase) (r .count)
+    → Mirrors (closed m) (r .«loop_rounds») (r .«mix_rounds») (r .phase) (r .rounds)
 
 -- where they were those of a machine, they are those of the machine after one round more
-abbrev pub DoesRound : Graph → ℕ → ℕ → ℕ → Rounds → Rounds → Type 0
+abbrev pub DoesRound : Graph → ℕ → ℕ → ℕ → Progress → Progress → Type 0
 DoesRound g initials finals n old new = (m : Machine) → WellFormed m → Given (m .rows) g initials finals n
-    → Mirrors m (old .«loop_rounds») (old .«mix_rounds») (old .phase) (old .count)
-    → Mirrors (next-round m) (new .«loop_rounds») (new .«mix_rounds») (new .phase) (new .count)
+    → Mirrors m (old .«loop_rounds») (old .«mix_rounds») (old .phase) (old .rounds)
+    → Mirrors (next-round m) (new .«loop_rounds») (new .«mix_rounds») (new .phase) (new .rounds)
 
 -- they are those of the machine with these rows, closed and settled
-abbrev pub Settles : Graph → ℕ → ℕ → ℕ → Rounds → Type 0
+abbrev pub Settles : Graph → ℕ → ℕ → ℕ → Progress → Type 0
 Settles g initials finals n r = (rows : List Row) → Given rows g initials finals n
-    → Mirrors (run (open-with rows) settle) (r .«loop_rounds») (r .«mix_rounds») (r .phase) (r .count)
+    → Mirrors (run (open-with rows) settle) (r .«loop_rounds») (r .«mix_rounds») (r .phase) (r .rounds)

@@ -18,11 +18,11 @@ ghost use Rattle.rounds.specs.Arrays.{OpenPlaces, Marks};
 ghost use Rattle.rounds.specs.Promises.{Closes, DoesRound, Settles};
 
 // The rounds in which the loop and the mix of each set opened, 0 for not open; the phase and the count of rounds.
-pub struct Rounds {
+pub struct Progress {
     pub loop_rounds: [u8; 64],
     pub mix_rounds: [u8; 64],
     pub phase: Phase,
-    pub count: u8,
+    pub rounds: u8,
 }
 
 // The phase after a close or a round: `accepted`, a walk leads from an initial to a final state; `vain`, nothing opened.
@@ -95,7 +95,7 @@ fn mark(rounds: &mut [u8; 64], opened: u64, k: u8)
 }
 
 // Close: no claim is open.
-pub fn close(graph: &[u64; 256], initials: u64, finals: u64) -> Rounds
+pub fn close(graph: &[u64; 256], initials: u64, finals: u64) -> Progress
     ensures { λ r. ⌜ Closes (graph-of (now (graph .entry))) initials finals r ⌝ }
 {
     let force = Claims { loops: 0, mixes: 0 };
@@ -103,11 +103,11 @@ pub fn close(graph: &[u64; 256], initials: u64, finals: u64) -> Rounds
     let phase = judge(accepted, false);
     let loop_rounds = [0u8; 64];
     let mix_rounds = [0u8; 64];
-    Rounds {
+    Progress {
         loop_rounds,
         mix_rounds,
         phase,
-        count: 0,
+        rounds: 0,
     }
 }
 
@@ -123,8 +123,8 @@ fn opened(graph: &[u64; 256], force: Claims, n: usize) -> Claims
 }
 
 // One round: what it opens depends on the claims that were open before it, and on no other.
-pub fn round(graph: &[u64; 256], initials: u64, finals: u64, n: usize, before: Rounds) -> Rounds
-    requires { ⌜ (n ≤ 64) × (before .count < 129) ⌝ }
+pub fn round(graph: &[u64; 256], initials: u64, finals: u64, n: usize, before: Progress) -> Progress
+    requires { ⌜ (n ≤ 64) × (before .rounds < 129) ⌝ }
     ensures { λ r. ⌜ DoesRound (graph-of (now (graph .entry))) initials finals n before r ⌝ }
 {
     let mut loop_rounds = before.loop_rounds;
@@ -136,19 +136,19 @@ pub fn round(graph: &[u64; 256], initials: u64, finals: u64, n: usize, before: R
     let all = with_new(force, new);
     let accepted = searches::accepts(graph, all, initials, finals);
     let phase = judge(accepted, nothing(new.loops, new.mixes));
-    let count = before.count + 1;
+    let count = before.rounds + 1;
     mark(&mut loop_rounds, new.loops, count);
     mark(&mut mix_rounds, new.mixes, count);
-    Rounds {
+    Progress {
         loop_rounds,
         mix_rounds,
         phase,
-        count,
+        rounds: count,
     }
 }
 
 // Close, and rounds until the automaton is settled: none needs more than 129.
-pub fn settle(graph: &[u64; 256], initials: u64, finals: u64, n: usize) -> Rounds
+pub fn settle(graph: &[u64; 256], initials: u64, finals: u64, n: usize) -> Progress
     requires { ⌜ n ≤ 64 ⌝ }
     ensures { λ r. ⌜ Settles (graph-of (now (graph .entry))) initials finals n r ⌝ }
 {
@@ -179,10 +179,10 @@ pub fn settle(graph: &[u64; 256], initials: u64, finals: u64, n: usize) -> Round
         mark(&mut loop_rounds, new.loops, count);
         mark(&mut mix_rounds, new.mixes, count);
     }
-    Rounds {
+    Progress {
         loop_rounds,
         mix_rounds,
         phase,
-        count,
+        rounds: count,
     }
 }

@@ -16,7 +16,7 @@ use Rattle.lists.proofs.Sorting.{insert-iff, insert-sorted, insert-once, sorted
 use Rattle.sorted.specs.Keys.{Rising}
 use Rattle.rows.specs.declared.Row.{Row}
 use Rattle.rows.specs.declared.Row.the-variants.{Initial, Final, Successor, LeftLimit, RightLimit}
-use Rattle.rows.specs.Rows.{sets-of, SetOf, add-new, distinct, sets}
+use Rattle.rows.specs.Rows.{sets-of, SetOf, add-new, distinct, standing-sets}
 
 abbrev key : ℕ → List ℕ
 key P = P ∷ []
@@ -48,42 +48,42 @@ distinct-once [] = tt
 distinct-once (x ∷ l) = add-ok Once x (distinct l) (λ m. distinct-once l) (λ n. insert-once key x (distinct l) n (distinct-once l))
 
 -- they are the sets of the rows
-pub sets-iff : (rows : List Row) (P : ℕ) → P among sets rows ↔ SetOf rows P
-unfolding sets
+pub sets-iff : (rows : List Row) (P : ℕ) → P among standing-sets rows ↔ SetOf rows P
+unfolding standing-sets
 sets-iff rows P = let d = distinct-iff (gather sets-of rows) P in
     ((λ m. gather-out sets-of P rows (d .0 m)), λ s. d .1 (gather-in sets-of (s .1) (s .2)))
 
-pub sets-sorted : (rows : List Row) → Sorted (λ (P : ℕ). P ∷ []) (sets rows)
-unfolding sets
+pub sets-sorted : (rows : List Row) → Sorted (λ (P : ℕ). P ∷ []) (standing-sets rows)
+unfolding standing-sets
 sets-sorted rows = distinct-sorted (gather sets-of rows)
 
-pub sets-once : (rows : List Row) → Once (sets rows)
-unfolding sets
+pub sets-once : (rows : List Row) → Once (standing-sets rows)
+unfolding standing-sets
 sets-once rows = distinct-once (gather sets-of rows)
 
 -- an array that holds them rises, and each set of the rows has a place in it
-module _ (rows : List Row) (words : List ℕ) (k : ℕ) (are : take k words ≡ sets rows) where
-  pub words-rise : k ≡ length (sets rows) → Rising words k
-  words-rise count i j h l = rw (held-at k words (sets rows) are i 0 (omega arith), held-at k words (sets rows) are j 0 l)
-      (rising (sets rows) (sets-sorted rows) (sets-once rows) i j h (omega arith))
+module _ (rows : List Row) (words : List ℕ) (k : ℕ) (are : take k words ≡ standing-sets rows) where
+  pub words-rise : k ≡ length (standing-sets rows) → Rising words k
+  words-rise count i j h l = rw (held-at k words (standing-sets rows) are i 0 (omega arith), held-at k words (standing-sets rows) are j 0 l)
+      (rising (standing-sets rows) (sets-sorted rows) (sets-once rows) i j h (omega arith))
 
   pub set-place : (P : ℕ) → SetOf rows P → (i : ℕ) × (i < k) × (P ≡ getD words i 0)
   set-place P h = held-place k words P (rw are (sets-iff rows P .1 h))
 
-sets-part : (rows rows′ : List Row) → rows part-of rows′ → sets rows part-of sets rows′
+sets-part : (rows rows′ : List Row) → rows part-of rows′ → standing-sets rows part-of standing-sets rows′
 sets-part rows rows′ h P m = let s = sets-iff rows P .0 m in sets-iff rows′ P .1 (s .0, h (s .0) (s .1), s .2)
 
 -- no more sets than a list that has them all
-sets-within : (rows : List Row) (l : List ℕ) → sets rows part-of l → length (sets rows) ≤ length l
-sets-within rows l h = once-length (sets rows) l (sets-once rows) h
+sets-within : (rows : List Row) (l : List ℕ) → standing-sets rows part-of l → length (standing-sets rows) ≤ length l
+sets-within rows l h = once-length (standing-sets rows) l (sets-once rows) h
 
 -- fewer rows have no more sets
-pub sets-fewer : (rows rows′ : List Row) → rows part-of rows′ → length (sets rows) ≤ length (sets rows′)
-sets-fewer rows rows′ h = sets-within rows (sets rows′) (sets-part rows rows′ h)
+pub sets-fewer : (rows rows′ : List Row) → rows part-of rows′ → length (standing-sets rows) ≤ length (standing-sets rows′)
+sets-fewer rows rows′ h = sets-within rows (standing-sets rows′) (sets-part rows rows′ h)
 
 -- the same rows, however often and in whatever order, have the same sets
-pub sets-same : (rows rows′ : List Row) → rows part-of rows′ → rows′ part-of rows → sets rows ≡ sets rows′
-sets-same rows rows′ h g = sorted-same key (sets rows) (sets rows′) (λ x y i j e. cc) (sets-sorted rows) (sets-sorted rows′) (sets-once rows) (sets-once rows′)
+pub sets-same : (rows rows′ : List Row) → rows part-of rows′ → rows′ part-of rows → standing-sets rows ≡ standing-sets rows′
+sets-same rows rows′ h g = sorted-same key (standing-sets rows) (standing-sets rows′) (λ x y i j e. cc) (sets-sorted rows) (sets-sorted rows′) (sets-once rows) (sets-once rows′)
     (sets-part rows rows′ h) (sets-part rows′ rows g)
 
 -- a row has one set or none
@@ -96,29 +96,29 @@ one-set (RightLimit q P) = inr (P, refl)
 
 -- one row more: the sets stay, or there is one more, the row's own
 pub sets-new : (rows rows′ : List Row) (r : Row) → ((x : Row) → x among rows′ ↔ ((x ≡ r) ⊎ x among rows))
-    → (length (sets rows′) ≤ suc (length (sets rows)))
-    × ((length (sets rows′) ≡ length (sets rows)) ⊎ ((P : ℕ) × P among sets-of r × ¬ (P among sets rows) × (length (sets rows′) ≡ suc (length (sets rows)))))
+    → (length (standing-sets rows′) ≤ suc (length (standing-sets rows)))
+    × ((length (standing-sets rows′) ≡ length (standing-sets rows)) ⊎ ((P : ℕ) × P among sets-of r × ¬ (P among standing-sets rows) × (length (standing-sets rows′) ≡ suc (length (standing-sets rows)))))
 sets-new rows rows′ r h = ⊎-elim (λ e. (omega arith, inl e)) (λ n. (omega (arith, n .3), inr n)) (⊎-elim
     (λ e. inl (kept (λ P m. absurd (List·Memᴰ·not-nil (rw e at m)))))
-    (λ s. own (s .0) (s .1) (dec· (has? (s .0) (sets rows))))
+    (λ s. own (s .0) (s .1) (dec· (has? (s .0) (standing-sets rows))))
     (one-set r))
   where
     grows : rows part-of rows′
     grows x m = h x .1 (inr m)
 
-    from : (P : ℕ) → P among sets rows′ → P among sets-of r ⊎ P among sets rows
+    from : (P : ℕ) → P among standing-sets rows′ → P among sets-of r ⊎ P among standing-sets rows
     from P m = let s = sets-iff rows′ P .0 m in
         ⊎-elim (λ e. inl (rw e at (s .2))) (λ i. inr (sets-iff rows P .1 (s .0, i, s .2))) (h (s .0) .0 (s .1))
 
-    kept : sets-of r part-of sets rows → length (sets rows′) ≡ length (sets rows)
-    kept f = let a = sets-within rows′ (sets rows) (λ P m. ⊎-elim (f P) (λ i. i) (from P m)) in
+    kept : sets-of r part-of standing-sets rows → length (standing-sets rows′) ≡ length (standing-sets rows)
+    kept f = let a = sets-within rows′ (standing-sets rows) (λ P m. ⊎-elim (f P) (λ i. i) (from P m)) in
         omega (arith, a, sets-fewer rows rows′ grows)
 
-    own : (P : ℕ) → sets-of r ≡ P ∷ [] → Dec (P among sets rows)
-        → (length (sets rows′) ≡ length (sets rows)) ⊎ ((P : ℕ) × P among sets-of r × ¬ (P among sets rows) × (length (sets rows′) ≡ suc (length (sets rows))))
+    own : (P : ℕ) → sets-of r ≡ P ∷ [] → Dec (P among standing-sets rows)
+        → (length (standing-sets rows′) ≡ length (standing-sets rows)) ⊎ ((P : ℕ) × P among sets-of r × ¬ (P among standing-sets rows) × (length (standing-sets rows′) ≡ suc (length (standing-sets rows))))
     own P e (yes i) = inl (kept (λ Q m. Memᴰ·cast (List·Memᴰ·eq-of-singleton (rw e at m)) i))
     own P e (no n) = let i : P among sets-of r = rw e (List·Memᴰ·head refl) in
-        let a = sets-within rows′ (P ∷ sets rows) (λ Q m. ⊎-elim (λ j. List·Memᴰ·head (List·Memᴰ·eq-of-singleton (rw e at j))) List·Memᴰ·tail (from Q m)) in
-        let b = once-length (P ∷ sets rows) (sets rows′) (n, sets-once rows)
+        let a = sets-within rows′ (P ∷ standing-sets rows) (λ Q m. ⊎-elim (λ j. List·Memᴰ·head (List·Memᴰ·eq-of-singleton (rw e at j))) List·Memᴰ·tail (from Q m)) in
+        let b = once-length (P ∷ standing-sets rows) (standing-sets rows′) (n, sets-once rows)
         (λ Q m. ⊎-elim (λ j. sets-iff rows′ Q .1 (r, h r .1 (inl refl), Memᴰ·cast j i)) (sets-part rows rows′ grows Q) (List·Memᴰ·cases-cons m)) in
         inr (P, i, n, omega (arith, a, b))

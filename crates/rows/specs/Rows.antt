@@ -62,8 +62,8 @@ distinct [] = []
 distinct (x ∷ l) = add-new x (distinct l)
 
 -- the different sets of the rows, rising
-unfoldable pub sets : List Row → List ℕ
-sets rows = distinct (gather sets-of rows)
+unfoldable pub standing-sets : List Row → List ℕ
+standing-sets rows = distinct (gather sets-of rows)
 
 -- a row's kind and the numbers of its body
 abbrev pub numbers : Row → List ℕ

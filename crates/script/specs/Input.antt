@@ -4,5 +4,5 @@ use mathlib.Core.List.{List}
 use lib.ListN.{length}
 
 -- a place from one on, within the bytes
-abbrev pub Within : ℕ → List ℕ → ℕ → Type 0
-Within from l at = (from ≤ at) × (at ≤ length l)
+abbrev pub ReadWithin : ℕ → List ℕ → ℕ → Type 0
+ReadWithin from l at = (from ≤ at) × (at ≤ length l)

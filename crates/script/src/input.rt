@@ -5,7 +5,7 @@ use output::say;
 use session::Session;
 ghost use Prim.Native.Nat.{_≤_};
 ghost use lib.ListN.{length};
-ghost use Rattle.script.specs.Input.{Within};
+ghost use Rattle.script.specs.Input.{ReadWithin};
 
 // Where a line ends or breaks off, and how many bytes of it are held; more than the buffer has where it is too long.
 struct Piece {
@@ -32,7 +32,7 @@ fn put(line: &mut [u8], held: usize, byte: u8) -> usize {
 // Takes the bytes of a line up to its end, or to the end of what was read.
 fn take_line(read: &[u8], from: usize, line: &mut [u8], held: usize) -> Piece
     requires { ⌜ from ≤ length (now read) ⌝ }
-    ensures { λ r. ⌜ Within from (now (read .entry)) (r .at) ⌝ }
+    ensures { λ r. ⌜ ReadWithin from (now (read .entry)) (r .at) ⌝ }
 {
     let mut at = from;
     let mut held = held;

@@ -11,15 +11,15 @@ use Rattle.lists.proofs.Places.{getD-among, held-at}
 use Rattle.masks.specs.Mask.{member, _∈_}
 use Rattle.masks.proofs.Member.{in-none, lt-or-le, true-or-false, not-both, union-left, union-right, union-cases}
 use Rattle.rows.specs.declared.Row.{Row}
-use Rattle.rows.specs.Rows.{SetOf, sets}
+use Rattle.rows.specs.Rows.{SetOf, standing-sets}
 use Rattle.rows.proofs.Sets.{sets-iff}
 use Rattle.search.specs.Graph.{Graph}
 use Rattle.search.specs.Masked.{Masked}
 
 -- at each place below n is a set of the rows
-pub set-here : {rows : List Row} {g : Graph} {n : ℕ} → Masked rows g n → length (sets rows) ≡ n → (i : ℕ) → i < n → SetOf rows (getD (g .sets) i 0)
+pub set-here : {rows : List Row} {g : Graph} {n : ℕ} → Masked rows g n → length (standing-sets rows) ≡ n → (i : ℕ) → i < n → SetOf rows (getD (g .sets) i 0)
 set-here {rows} {g} {n} is count i l =
-    sets-iff rows (getD (g .sets) i 0) .0 (rw (held-at n (g .sets) (sets rows) (is .sets-are) i 0 l) (getD-among (sets rows) i 0 (omega arith)))
+    sets-iff rows (getD (g .sets) i 0) .0 (rw (held-at n (g .sets) (standing-sets rows) (is .sets-are) i 0 l) (getD-among (standing-sets rows) i 0 (omega arith)))
 
 -- a claim C that the mask m has at place i where it is in force; it is tried where it is not, and where F is so, which B, what it says, shows
 module _ {taken tried : Bool} {B C F : Type 0} {n : ℕ} (i m : ℕ) (l : i < n) (force : (i ∈ m) ↔ ((i < n) × C)) (is-taken : taken ≡ member i m)

@@ -8,7 +8,7 @@ use Rattle.lists.specs.Tests.{_among_}
 use Rattle.masks.specs.Mask.{_∈_}
 use Rattle.rows.specs.declared.Row.{Row}
 use Rattle.rows.specs.declared.Row.the-variants.{Successor, LeftLimit, RightLimit}
-use Rattle.rows.specs.Rows.{sets}
+use Rattle.rows.specs.Rows.{standing-sets}
 use Rattle.orderings.specs.Steps.{Claim, loops, mixes, Label, Possible, needs, content}
 use Rattle.orderings.specs.Systems.{InForce}
 use Rattle.orderings.specs.Timelines.{IsInitial, IsFinal}
@@ -18,7 +18,7 @@ use Rattle.search.specs.Graph.{Graph}
 -- the graph is that of the rows, whose sets are its first n
 pub record Masked (rows : List Row) (g : Graph) (n : ℕ) : Type 0 where
   pub few : n ≤ 64
-  pub sets-are : take n (g .sets) ≡ sets rows
+  pub sets-are : take n (g .sets) ≡ standing-sets rows
   pub letter-iff : (p q : ℕ) → (q ∈ getD (g .letters) p 0) ↔ ((a : ℕ) × Successor p a q among rows)
   pub left-iff : (i r : ℕ) → i < n → (r ∈ getD (g .lefts) i 0) ↔ LeftLimit (getD (g .sets) i 0) r among rows
   pub right-iff : (i r : ℕ) → i < n → (r ∈ getD (g .rights) i 0) ↔ RightLimit r (getD (g .sets) i 0) among rows

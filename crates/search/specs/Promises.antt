@@ -8,7 +8,7 @@ use lib.ListN.{length, getD}
 use Rattle.lists.specs.Tests.{Decides, _among_}
 use Rattle.masks.specs.Mask.{_∈_}
 use Rattle.rows.specs.declared.Row.{Row}
-use Rattle.rows.specs.Rows.{sets, AllFit}
+use Rattle.rows.specs.Rows.{standing-sets, AllFit}
 use Rattle.orderings.specs.Steps.{Claim, loops, mixes, Walk}
 use Rattle.orderings.specs.Systems.{Allowed, Holds}
 use Rattle.orderings.specs.Timelines.{timelines, Accepting}
@@ -68,7 +68,7 @@ NewlyHolds rows claims c = Holds (timelines rows) (λ d. d among claims) c × ¬
 
 -- new has the place i alone where its loop is opened next, or its mix
 abbrev pub OpensAt : Graph → Claims → ℕ → Claims → Type 0
-OpensAt g force i new = (rows : List Row) (claims : List Claim) (n : ℕ) → Stands g force rows claims n → length (sets rows) ≡ n → i < n
+OpensAt g force i new = (rows : List Row) (claims : List Claim) (n : ℕ) → Stands g force rows claims n → length (standing-sets rows) ≡ n → i < n
     → ((t : ℕ) → (t ∈ new .loops) ↔ ((t ≡ i) × NewlyHolds rows claims (loops (getD (g .sets) i 0))))
     × ((t : ℕ) → (t ∈ new .mixes) ↔ ((t ≡ i) × NewlyHolds rows claims (mixes (getD (g .sets) i 0))))
 
@@ -79,4 +79,4 @@ pub record Opened (g : Graph) (rows : List Row) (claims : List Claim) (k : ℕ) 
 
 abbrev pub OpensBelow : Graph → Claims → ℕ → ℕ → Claims → Type 0
 OpensBelow g force n k new =
-    (rows : List Row) (claims : List Claim) → Stands g force rows claims n → length (sets rows) ≡ n → Opened g rows claims k new
+    (rows : List Row) (claims : List Claim) → Stands g force rows claims n → length (standing-sets rows) ≡ n → Opened g rows claims k new

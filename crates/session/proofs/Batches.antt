@@ -23,18 +23,18 @@ use Rattle.session.proofs.Whole.{rows-table}
 use Rattle.session.proofs.Gate.{does-done, does-refused}
 
 -- the record with the arrays' table
-pub takes-done : (s : Session) (high low words : List ℕ) (n k : ℕ) (slots : List Slot) → Slotted high low n slots → {a : Answer} → a ≡ Done
-    → TakesTable s (Filed high low words n k) a (reply (record {
+pub takes-done : (s : Session) (high low sets : List ℕ) (n k : ℕ) (slots : List Slot) → Slotted high low n slots → {a : Answer} → a ≡ Done
+    → TakesTable s (Filed high low sets n k) a (reply (record {
       rows = slots;
       «row_count» = n;
-      sets = words;
+      sets = sets;
       «set_count» = k;
       «loop_rounds» = s .«loop_rounds»;
       «mix_rounds» = s .«mix_rounds»;
       phase = s .phase;
       rounds = s .rounds;
     }) a)
-takes-done s high low words n k slots h e = rw e (λ rows t f. rw (h rows (t .fit) (f .0), f .0 .count, f .1 .words-are, f .1 .count))
+takes-done s high low sets n k slots h e = rw e (λ rows t f. rw (h rows (t .fit) (f .0), f .0 .count, f .1 .words-are, f .1 .count))
 
 -- what the batch comes to in the arrays, it comes to in the machine
 pub batch-keeps : {c : Call} {rule : Row → List Row → Turn (List Row)} {batch : List ℕ} → Feeds c rule batch → (s : Session) (a : Answer) (Has Then : List Row → Type 0)

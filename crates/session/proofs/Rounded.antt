@@ -6,7 +6,7 @@ use Rattle.machine.specs.declared.Phase.the-variants.{Open}
 use Rattle.machine.specs.Machine.{Machine, closed, next-round, reopened}
 use Rattle.search.specs.Graph.{graph-of}
 use Rattle.automaton.specs.declared.Automaton.{Automaton}
-use Rattle.rounds.specs.declared.Rounds.{Rounds}
+use Rattle.rounds.specs.declared.Progress.{Progress}
 use Rattle.rounds.specs.Promises.{Given, Mirrors, Closes, DoesRound}
 use Rattle.rounds.proofs.OpenClaims.{no-rounds}
 use Rattle.printing.proofs.Automata.{given-rows}
@@ -30,23 +30,23 @@ module _ (m : Machine) (s : Session) (p : Represents m s) where
   }
 
   -- the record of a machine with the same rows
-  kept-record : (to : Machine) (now : Rounds) → to .rows ≡ m .rows → Mirrors to (now .«loop_rounds») (now .«mix_rounds») (now .phase) (now .count)
+  kept-record : (to : Machine) (now : Progress) → to .rows ≡ m .rows → Mirrors to (now .«loop_rounds») (now .«mix_rounds») (now .phase) (now .rounds)
       → with-rounds s now ≡ record-of to
   unfolding record-of
   kept-record to now same k = ap (λ (x : Session). with-rounds x now) (p .whole) ∙ rw (k .loops-are, k .mixes-are, k .phase-is, k .count-is, same) refl
 
-  pub closed-record : (a : Automaton) (now : Rounds) → Reads s a → Closes (graph-of (a .graph)) (a .initials) (a .finals) now
+  pub closed-record : (a : Automaton) (now : Progress) → Reads s a → Closes (graph-of (a .graph)) (a .initials) (a .finals) now
       → with-rounds s now ≡ record-of (closed m)
   unfolding closed
   closed-record a now h c = kept-record (closed m) now refl (c m (s .«set_count») (given-of a h))
 
-  pub round-record : (a : Automaton) (now : Rounds) → Reads s a
+  pub round-record : (a : Automaton) (now : Progress) → Reads s a
       → DoesRound (graph-of (a .graph)) (a .initials) (a .finals) (s .«set_count») (rounds-in s) now
       → with-rounds s now ≡ record-of (next-round m)
   unfolding next-round
   round-record a now h d = kept-record (next-round m) now refl (d m (p .formed) (given-of a h) kept-of)
 
-  pub reopened-record : with-rounds s (record { «loop_rounds» = replicate 64 0; «mix_rounds» = replicate 64 0; phase = Open; count = 0 }) ≡ record-of (reopened m)
+  pub reopened-record : with-rounds s (record { «loop_rounds» = replicate 64 0; «mix_rounds» = replicate 64 0; phase = Open; rounds = 0 }) ≡ record-of (reopened m)
   reopened-record = let few = p .formed .table .few-sets in
-      kept-record (reopened m) (record { «loop_rounds» = replicate 64 0; «mix_rounds» = replicate 64 0; phase = Open; count = 0 }) refl
+      kept-record (reopened m) (record { «loop_rounds» = replicate 64 0; «mix_rounds» = replicate 64 0; phase = Open; rounds = 0 }) refl
       (record { loops-are = sym (no-rounds (m .rows) loops few); mixes-are = sym (no-rounds (m .rows) mixes few); phase-is = refl; count-is = refl })

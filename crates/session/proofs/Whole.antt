@@ -5,7 +5,7 @@ use mathlib.Core.List.{List, [], _∷_, map}
 use lib.ListN.{length, replicate, length-map}
 use lib.Seq.{take-at}
 use Rattle.rows.specs.declared.Row.{Row}
-use Rattle.rows.specs.Rows.{sets}
+use Rattle.rows.specs.Rows.{standing-sets}
 use Rattle.orderings.specs.Steps.{Claim, loops, mixes}
 use Rattle.machine.specs.declared.Phase.the-variants.{Open}
 use Rattle.machine.specs.Machine.{Machine, open-with}
@@ -28,11 +28,11 @@ module _ (m : Machine) (s : Session) (p : Represents m s) where
   unfolding record-of
   count-of = ap (λ (t : Session). t .«row_count») (p .whole)
 
-  pub set-count-of : s .«set_count» ≡ length (sets (m .rows))
+  pub set-count-of : s .«set_count» ≡ length (standing-sets (m .rows))
   unfolding record-of
   set-count-of = ap (λ (t : Session). t .«set_count») (p .whole)
 
-  pub sets-array : s .sets ≡ padded 64 0 (sets (m .rows))
+  pub sets-array : s .sets ≡ padded 64 0 (standing-sets (m .rows))
   unfolding record-of
   sets-array = ap (λ (t : Session). t .sets) (p .whole)
 
@@ -73,8 +73,8 @@ module _ (m : Machine) (s : Session) (p : Represents m s) (o : m .phase ≡ Open
       let of : (loop-rounds mix-rounds : List ℕ) → Session = λ a b. record {
         rows = padded 256 blank (map slot rows);
         «row_count» = length rows;
-        sets = padded 64 0 (sets rows);
-        «set_count» = length (sets rows);
+        sets = padded 64 0 (standing-sets rows);
+        «set_count» = length (standing-sets rows);
         «loop_rounds» = a;
         «mix_rounds» = b;
         phase = Open;

@@ -4,7 +4,7 @@ use mathlib.Core.List.{map}
 use lib.ListN.{length}
 use Rattle.rows.specs.declared.Row.{Row}
 use Rattle.rows.specs.declared.Row.the-variants.{Initial}
-use Rattle.rows.specs.Rows.{sets}
+use Rattle.rows.specs.Rows.{standing-sets}
 use Rattle.orderings.specs.Steps.{loops, mixes}
 use Rattle.machine.specs.Machine.{Machine}
 use Rattle.machine.specs.WellFormed.{WellFormed}
@@ -25,8 +25,8 @@ record-of m =
     record {
       rows = padded 256 blank (map slot (m .rows));
       «row_count» = length (m .rows);
-      sets = padded 64 0 (sets (m .rows));
-      «set_count» = length (sets (m .rows));
+      sets = padded 64 0 (standing-sets (m .rows));
+      «set_count» = length (standing-sets (m .rows));
       «loop_rounds» = rounds-of m loops;
       «mix_rounds» = rounds-of m mixes;
       phase = m .phase;

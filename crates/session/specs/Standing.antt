@@ -4,7 +4,7 @@ use mathlib.Core.Path.{_≡_}
 use mathlib.Core.List.{List, map}
 use lib.ListN.{length, take}
 use Rattle.rows.specs.declared.Row.{Row}
-use Rattle.rows.specs.Rows.{AllFit, sets}
+use Rattle.rows.specs.Rows.{AllFit, standing-sets}
 use Rattle.machine.specs.declared.Answer.{Answer}
 use Rattle.machine.specs.declared.Answer.the-variants.{Done, Wrote, Refused}
 use Rattle.machine.specs.Machine.{Machine}
@@ -12,7 +12,7 @@ use Rattle.machine.specs.WellFormed.{Table}
 use Rattle.table.specs.Arrays.{padded, Keyed, Filed}
 use Rattle.automaton.specs.declared.Automaton.{Automaton}
 use Rattle.automaton.specs.Promise.{Gives}
-use Rattle.rounds.specs.declared.Rounds.{Rounds}
+use Rattle.rounds.specs.declared.Progress.{Progress}
 use Rattle.session.specs.declared.Slot.{Slot}
 use Rattle.session.specs.declared.Session.{Session}
 use Rattle.session.specs.declared.Reply.{Reply}
@@ -35,8 +35,8 @@ with-table s rows =
     record {
       rows = padded 256 blank (map slot rows);
       «row_count» = length rows;
-      sets = padded 64 0 (sets rows);
-      «set_count» = length (sets rows);
+      sets = padded 64 0 (standing-sets rows);
+      «set_count» = length (standing-sets rows);
       «loop_rounds» = s .«loop_rounds»;
       «mix_rounds» = s .«mix_rounds»;
       phase = s .phase;
@@ -44,11 +44,11 @@ with-table s rows =
     }
 
 -- the rounds of the claims, the phase and the count of rounds
-abbrev pub rounds-in : Session → Rounds
-rounds-in s = record { «loop_rounds» = s .«loop_rounds»; «mix_rounds» = s .«mix_rounds»; phase = s .phase; count = s .rounds }
+abbrev pub rounds-in : Session → Progress
+rounds-in s = record { «loop_rounds» = s .«loop_rounds»; «mix_rounds» = s .«mix_rounds»; phase = s .phase; rounds = s .rounds }
 
 -- the record with others
-abbrev pub with-rounds : Session → Rounds → Session
+abbrev pub with-rounds : Session → Progress → Session
 with-rounds s r =
     record {
       rows = s .rows;

@@ -77,7 +77,7 @@ impl Session {
         let n = self.row_count;
         let left = table::withdraw_rows(&mut high, &mut low, n, batch);
         let found = table::collect_sets(&high, &low, left.rows);
-        let sets = found.words;
+        let sets = found.sets;
         let answer = left.answer;
         self.take_table(&high, &low, sets, left.rows, found.count, answer)
     }

@@ -14,7 +14,7 @@ impl Session {
         ensures { λ r. ⌜ KeepsIn (Phased (State.Settled v)) self (print (length (now (buffer .entry))))
             (now (buffer .entry)) (now (buffer .exit)) r ⌝ }
     {
-        let words = self.sets;
+        let sets = self.sets;
         let n = self.row_count;
         let k = self.set_count;
         let keys = self.keys();
@@ -22,7 +22,7 @@ impl Session {
         let low = keys.low;
         let a = self.automaton();
         let kept = self.kept();
-        let answer = printing::print(buffer, v, &high, &low, n, &words, k, a, kept);
+        let answer = printing::print(buffer, v, &high, &low, n, &sets, k, a, kept);
         Reply {
             session: self,
             answer,

@@ -6,7 +6,7 @@ use machine::Answer;
 use machine::MOST_ROUNDS;
 use machine::MOST_SETS;
 use machine::Phase;
-use rounds::Rounds;
+use rounds::Progress;
 ghost use mathlib.Core.Path.{_≡_};
 ghost use mathlib.Core.List.{[]};
 ghost use Prim.Native.Nat.{_<_};
@@ -18,23 +18,23 @@ ghost use Rattle.session.specs.Standing.{reply, rounds-in, with-rounds};
 
 impl Session {
     // The rounds of the claims, the phase and the count of rounds.
-    pub(crate) fn kept(self) -> Rounds
+    pub(crate) fn kept(self) -> Progress
         ensures { λ r. ⌜ r ≡ rounds-in self ⌝ }
     {
         let loop_rounds = self.loop_rounds;
         let mix_rounds = self.mix_rounds;
         let phase = self.phase;
         let count = self.rounds;
-        Rounds {
+        Progress {
             loop_rounds,
             mix_rounds,
             phase,
-            count,
+            rounds: count,
         }
     }
 
     // Done: the session with other rounds of the claims, another phase and another count of rounds.
-    fn done_with(self, now: Rounds) -> Reply
+    fn done_with(self, now: Progress) -> Reply
         ensures { λ r. ⌜ r ≡ reply (with-rounds self now) Done ⌝ }
     {
         let loop_rounds = now.loop_rounds;
@@ -44,7 +44,7 @@ impl Session {
             loop_rounds,
             mix_rounds,
             phase,
-            rounds: now.count,
+            rounds: now.rounds,
             ..self
         };
         let answer = Answer::Done;
@@ -82,11 +82,11 @@ impl Session {
         let loop_rounds = [0u8; MOST_SETS];
         let mix_rounds = [0u8; MOST_SETS];
         let phase = Phase::Open;
-        let now = Rounds {
+        let now = Progress {
             loop_rounds,
             mix_rounds,
             phase,
-            count: 0,
+            rounds: 0,
         };
         self.done_with(now)
     }

@@ -78,12 +78,12 @@ impl Session {
         requires { ⌜ Ranged self ⌝ }
         ensures { λ r. ⌜ Reads self r ⌝ }
     {
-        let words = self.sets;
+        let sets = self.sets;
         let n = self.row_count;
         let k = self.set_count;
         let keys = self.keys();
         let high = keys.high;
         let low = keys.low;
-        automaton::of_keys(&high, &low, n, &words, k)
+        automaton::of_keys(&high, &low, n, &sets, k)
     }
 }

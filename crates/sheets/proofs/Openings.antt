@@ -156,7 +156,7 @@ module _ (m : Machine) (loop-rounds mix-rounds sets : List ℕ) (n : ℕ) (a : R
       rw (in-out k (getD loop-rounds i 0) (loops P) x p .1, in-out k (getD mix-rounds i 0) (mixes P) y q .1) (next-less {x = k} (P ∷ 0 ∷ []) (P ∷ 1 ∷ []) refl (next-less {x = P} (0 ∷ []) (1 ∷ []) refl (first-less {x = 0} {y = 1} [] [] (omega arith)))))
 
   words-rise : (i j : ℕ) → i < j → j < n → getD sets i 0 < getD sets j 0
-  words-rise i j h l = rw (a .words-are i (omega arith), a .words-are j l) (rising (Rows.sets (m .rows)) (sets-sorted (m .rows)) (sets-once (m .rows)) i j h (omega (arith, a .count)))
+  words-rise i j h l = rw (a .words-are i (omega arith), a .words-are j l) (rising (Rows.standing-sets (m .rows)) (sets-sorted (m .rows)) (sets-once (m .rows)) i j h (omega (arith, a .count)))
 
   below-ordered : (k : ℕ) → Ordered opening-key (openings-below loop-rounds mix-rounds sets n k)
   below-ordered k = upto-ordered opening-key (at k) n (λ i h. at-ordered k i) (λ i j x y h l p q.
@@ -203,7 +203,7 @@ module _ (m : Machine) (loop-rounds mix-rounds sets : List ℕ) (n : ℕ) (a : R
     open-all o i =
         let t = d .depths o .0 i in
         let s = subject (m .rows) (o .round) (o .claim) (opens-iff-least (timelines (m .rows)) (lawful (m .rows)) (o .round) (o .claim) .1 (t .1)) in
-        let p = place-of (Rows.sets (m .rows)) (set-of (o .claim)) (sets-iff (m .rows) (set-of (o .claim)) .1 (s .1)) in
+        let p = place-of (Rows.standing-sets (m .rows)) (set-of (o .claim)) (sets-iff (m .rows) (set-of (o .claim)) .1 (s .1)) in
         let h : p .0 < n = omega (arith, p .1, a .count) in
         let k : o .round ≡ o .round - 1 + 1 = omega (arith, s .0) in
         let j = at-place-in o (o .claim) (p .0) i h (a .words-are (p .0) h ∙ p .2) refl in

@@ -27,20 +27,20 @@ use Rattle.sheets.proofs.Openings.{openings-are}
 
 -- lists of the sets and of the rounds of their claims, filled up, hold a machine's rounds
 module _ (m : Machine) (round : Claim → ℕ) (is : (c : Claim) → Noted m c (round c)) where
-  word-at : (size i : ℕ) → i < length (Rows.sets (m .rows)) → getD (padded size 0 (Rows.sets (m .rows))) i 0 ≡ getD (Rows.sets (m .rows)) i 0
-  word-at size i h = List·getD-append (Rows.sets (m .rows)) _ 0 i h
+  word-at : (size i : ℕ) → i < length (Rows.standing-sets (m .rows)) → getD (padded size 0 (Rows.standing-sets (m .rows))) i 0 ≡ getD (Rows.standing-sets (m .rows)) i 0
+  word-at size i h = List·getD-append (Rows.standing-sets (m .rows)) _ 0 i h
 
-  round-at : (claim : ℕ → Claim) (size i : ℕ) → i < length (Rows.sets (m .rows))
-      → getD (padded size 0 (map (λ P. round (claim P)) (Rows.sets (m .rows)))) i 0 ≡ round (claim (getD (padded size 0 (Rows.sets (m .rows))) i 0))
-  round-at claim size i h = List·getD-append (map (λ P. round (claim P)) (Rows.sets (m .rows))) _ 0 i (rw length-map h)
-      ∙ getD-map (λ P. round (claim P)) (Rows.sets (m .rows)) i 0 0 h ∙ ap (λ P. round (claim P)) (sym (word-at size i h))
+  round-at : (claim : ℕ → Claim) (size i : ℕ) → i < length (Rows.standing-sets (m .rows))
+      → getD (padded size 0 (map (λ P. round (claim P)) (Rows.standing-sets (m .rows)))) i 0 ≡ round (claim (getD (padded size 0 (Rows.standing-sets (m .rows))) i 0))
+  round-at claim size i h = List·getD-append (map (λ P. round (claim P)) (Rows.standing-sets (m .rows))) _ 0 i (rw length-map h)
+      ∙ getD-map (λ P. round (claim P)) (Rows.standing-sets (m .rows)) i 0 0 h ∙ ap (λ P. round (claim P)) (sym (word-at size i h))
 
-  pub recorded : (size : ℕ) → Recorded m (padded size 0 (map (λ P. round (loops P)) (Rows.sets (m .rows)))) (padded size 0 (map (λ P. round (mixes P)) (Rows.sets (m .rows)))) (padded size 0 (Rows.sets (m .rows))) (length (Rows.sets (m .rows)))
+  pub recorded : (size : ℕ) → Recorded m (padded size 0 (map (λ P. round (loops P)) (Rows.standing-sets (m .rows)))) (padded size 0 (map (λ P. round (mixes P)) (Rows.standing-sets (m .rows)))) (padded size 0 (Rows.standing-sets (m .rows))) (length (Rows.standing-sets (m .rows)))
   recorded size = record {
     count = refl;
     words-are = word-at size;
-    loops-are = λ i h. rw (round-at loops size i h) (is (loops (getD (padded size 0 (Rows.sets (m .rows))) i 0)));
-    mixes-are = λ i h. rw (round-at mixes size i h) (is (mixes (getD (padded size 0 (Rows.sets (m .rows))) i 0)));
+    loops-are = λ i h. rw (round-at loops size i h) (is (loops (getD (padded size 0 (Rows.standing-sets (m .rows))) i 0)));
+    mixes-are = λ i h. rw (round-at mixes size i h) (is (mixes (getD (padded size 0 (Rows.standing-sets (m .rows))) i 0)));
   }
 
 module _ (m : Machine) (w : WellFormed m) (loop-rounds mix-rounds sets : List ℕ) (n : ℕ) (a : Recorded m loop-rounds mix-rounds sets n) where

@@ -4,7 +4,7 @@ use mathlib.Core.Path.{_≡_}
 use mathlib.Core.List.{List, _++_, map}
 use lib.ListN.{length, take, replicate}
 use Rattle.rows.specs.declared.Row.{Row}
-use Rattle.rows.specs.Rows.{sets}
+use Rattle.rows.specs.Rows.{standing-sets}
 use Rattle.rows.specs.Keys.{high, low}
 use Rattle.rows.specs.Batch.{Fed, fed, failed, feed}
 use Rattle.machine.specs.declared.Answer.{Answer}
@@ -23,13 +23,13 @@ pub record Keyed (rows : List Row) (highs lows : List ℕ) (n : ℕ) : Type 0 wh
   pub lows-are : take n lows ≡ map low rows
 
 -- an array holds the k sets of the rows, rising, and then zeros
-pub record Worded (rows : List Row) (words : List ℕ) (k : ℕ) : Type 0 where
-  pub count : k ≡ length (sets rows)
-  pub words-are : words ≡ padded 64 0 (sets rows)
+pub record Worded (rows : List Row) (sets : List ℕ) (k : ℕ) : Type 0 where
+  pub count : k ≡ length (standing-sets rows)
+  pub words-are : sets ≡ padded 64 0 (standing-sets rows)
 
 -- arrays that hold a table: the keys of its n rows, and its k sets
 abbrev pub Filed : List ℕ → List ℕ → List ℕ → ℕ → ℕ → List Row → Type 0
-Filed high low words n k rows = Keyed rows high low n × Worded rows words k
+Filed high low sets n k rows = Keyed rows high low n × Worded rows sets k
 
 -- what a batch comes to: the arrays then hold the rows that it leads to, or the first row that fails gives its number and its place
 abbrev pub Comes : (List Row → Type 0) → Fed (List Row) → Answer → Type 0

@@ -10,7 +10,7 @@ use lib.ListN.{length, getD}
 use Rattle.masks.specs.Mask.{_∈_}
 use Rattle.masks.proofs.Member.{not-both}
 use Rattle.rows.specs.declared.Row.{Row}
-use Rattle.rows.specs.Rows.{sets}
+use Rattle.rows.specs.Rows.{standing-sets}
 use Rattle.orderings.specs.Steps.{Claim}
 use Rattle.machine.specs.Order.{Found}
 use Rattle.machine.specs.Search.{shortest}
@@ -30,7 +30,7 @@ use Rattle.walks.specs.Walks.{state-at, as-found, Follows, Answers}
 use Rattle.walks.proofs.Standing.{in-order, way-can, can-way, can-ahead, ahead-can}
 use Rattle.walks.proofs.Best.{Goes, no-candidate, best}
 
-module _ {g back : Graph} (turned : TurnedGraph g back) {force : Claims} {rows : List Row} {claims : List Claim} {k : ℕ} (is : Stands g force rows claims k) (count : length (sets rows) ≡ k)
+module _ {g back : Graph} (turned : TurnedGraph g back) {force : Claims} {rows : List Row} {claims : List Claim} {k : ℕ} (is : Stands g force rows claims k) (count : length (standing-sets rows) ≡ k)
     {highs lows : List ℕ} {n : ℕ} (keyed : Keyed rows highs lows n) (table : Table rows)
     (initials finals : ℕ) (is-initials : Initials rows initials) (is-finals : Finals rows finals) where
   abbrev E : ℕ → ℕ → Type 0

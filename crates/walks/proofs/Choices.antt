@@ -16,17 +16,17 @@ use Rattle.walks.specs.declared.Choice.{Choice}
 use Rattle.walks.specs.declared.Choice.the-variants.{Taken, Nothing}
 use Rattle.walks.specs.Choices.{named, PassAt, RisingAt, First, Picked, Chooses}
 
-module _ (sets here there : List ℕ) (places a layer : ℕ) where
+module _ (layers here there : List ℕ) (places a layer : ℕ) where
   -- a step by the place i leads to t
   abbrev pub Enters : ℕ → ℕ → Type 0
   Enters i t = (a ∈ getD here i 0) × (t ∈ getD there i 0) × (t ∈ layer)
 
-  pub pass-end : (rest : ℕ) → Gathered Enters places rest 0 → rest ≡ 0 → First layer (PassAt sets here there places a) Nothing
+  pub pass-end : (rest : ℕ) → Gathered Enters places rest 0 → rest ≡ 0 → First layer (PassAt layers here there places a) Nothing
   pass-end rest g z P t r m = in-none t (gather-end g z t .1 (r .0, r .1, (r .3, r .4, m)))
 
   -- the lowest place left with a step, and its lowest target
   pub pass-first : (rest i met t k : ℕ) → Gathered Enters places rest 0 → i ∈ rest → ((j : ℕ) → j ∈ rest → i ≤ j) → ((u : ℕ) → (u ∈ met) ↔ Enters i u)
-      → ((u : ℕ) → u ∈ met → t ≤ u) → RisingAt sets places → First layer (PassAt sets here there places a) (Taken k (getD sets i 0) t)
+      → ((u : ℕ) → u ∈ met → t ≤ u) → RisingAt layers places → First layer (PassAt layers here there places a) (Taken k (getD layers i 0) t)
   pass-first rest i met t k g is-i low is-met low-t rising P u r m = ⊎-elim
       (λ h. ⊎-elim
       (λ l. inl (rw (r .2) (rising i (r .0) (g .through .left i is-i) (r .1) l)))

@@ -12,7 +12,7 @@ use Rattle.masks.specs.Mask.{_∈_}
 use Rattle.masks.proofs.Member.{member-lt}
 use Rattle.rows.specs.declared.Row.{Row}
 use Rattle.rows.specs.declared.Row.the-variants.{Successor, LeftLimit, RightLimit}
-use Rattle.rows.specs.Rows.{SetOf, sets}
+use Rattle.rows.specs.Rows.{SetOf, standing-sets}
 use Rattle.rows.specs.Keys.{high, low}
 use Rattle.rows.proofs.Keys.{letter-low, letter-back}
 use Rattle.rows.proofs.Sets.{words-rise, set-place}
@@ -35,7 +35,7 @@ abbrev pub Can : List Row → List Claim → ℕ → Label → ℕ → Type 0
 Can rows claims a l t = Possible rows a l t × InForce (λ c. c among claims) (needs l)
 
 module _ {g b : Graph} (turned : TurnedGraph g b) {force : Claims} {rows : List Row} {claims : List Claim} {k : ℕ}
-    (is : Stands g force rows claims k) (count : length (sets rows) ≡ k)
+    (is : Stands g force rows claims k) (count : length (standing-sets rows) ≡ k)
     {highs lows : List ℕ} {n : ℕ} (keyed : Keyed rows highs lows n) (table : Table rows) where
   -- what the rows and the claims say of the graph turned round
   left-iff : (i r : ℕ) → i < k → (r ∈ getD (b .rights) i 0) ↔ LeftLimit (getD (b .sets) i 0) r among rows

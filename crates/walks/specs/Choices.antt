@@ -33,7 +33,7 @@ LetterAt high n a x t = (j : ℕ) × (j < n) × LetterRow high a j x t
 
 -- a and t lie in the sets that two lists of masks have at the place of the set P
 abbrev pub PassAt : List ℕ → List ℕ → List ℕ → ℕ → ℕ → ℕ → ℕ → Type 0
-PassAt sets here there places a P t = (i : ℕ) × (i ∈ places) × (P ≡ getD sets i 0) × (a ∈ getD here i 0) × (t ∈ getD there i 0)
+PassAt layers here there places a P t = (i : ℕ) × (i ∈ places) × (P ≡ getD layers i 0) × (a ∈ getD here i 0) × (t ∈ getD there i 0)
 
 -- a step with a label from a to t, as the graph turned round has it: its rights are the lefts, and its lefts the rights
 abbrev pub Way : List ℕ → ℕ → Graph → Claims → ℕ → Label → ℕ → Type 0
@@ -50,7 +50,7 @@ pub record RowsFrom (high low : List ℕ) (n h r : ℕ) : Type 0 where
 
 -- of two places the higher has the greater set
 abbrev pub RisingAt : List ℕ → ℕ → Type 0
-RisingAt sets places = (i j : ℕ) → i ∈ places → j ∈ places → i < j → getD sets i 0 < getD sets j 0
+RisingAt layers places = (i j : ℕ) → i ∈ places → j ∈ places → i < j → getD layers i 0 < getD layers j 0
 
 -- what is chosen is one of the steps P of one kind, into the layer
 abbrev pub Picks : ℕ → (ℕ → ℕ → Type 0) → ℕ → Choice → Type 0

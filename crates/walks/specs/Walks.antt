@@ -6,7 +6,7 @@ use mathlib.Core.Logic.{_⊎_}
 use mathlib.Core.List.{List, [], _∷_}
 use lib.ListN.{length, getD}
 use Rattle.rows.specs.declared.Row.{Row}
-use Rattle.rows.specs.Rows.{sets}
+use Rattle.rows.specs.Rows.{standing-sets}
 use Rattle.orderings.specs.Steps.{Claim, Label, Step}
 use Rattle.machine.specs.Order.{Found, Candidate, Best}
 use Rattle.machine.specs.WellFormed.{Table}
@@ -61,5 +61,5 @@ pub record Answers (rows : List Row) (claims : List Claim) (w : FoundWalk) : Typ
 -- for all rows and claims that the arrays and the graph, which is turned round, stand for
 abbrev pub FirstWalk : List ℕ → List ℕ → ℕ → Graph → Claims → ℕ → ℕ → FoundWalk → Type 0
 FirstWalk high low n back force initials finals w = (g : Graph) (rows : List Row) (claims : List Claim) (k : ℕ) → TurnedGraph g back
-    → Stands g force rows claims k → length (sets rows) ≡ k → Keyed rows high low n → Table rows
+    → Stands g force rows claims k → length (standing-sets rows) ≡ k → Keyed rows high low n → Table rows
     → Initials rows initials → Finals rows finals → Answers rows claims w

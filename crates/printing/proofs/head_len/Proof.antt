@@ -7,21 +7,21 @@ use Rattle.printing.proofs.head_len.Statement.{statement}
 use Rattle.printing.proofs.head_len.Tie as tie
 
 -- the count of rounds is a byte
-low-count : (c : tie.Start) → c .args .rounds .count < 256
+low-count : (c : tie.Start) → c .args .rounds .rounds < 256
 low-count c = search needs
 
 add-result : tie.Need-add-result
 add-result c =
     let t = c .before .before .before in
     let s = t .before .before .before in
-    omega (arith, t .verdict-line-len .ensures, verdict-short (s .args .v) (s .args .rounds .count) (low-count s), c .openings-len .ensures .1, low-count s)
+    omega (arith, t .verdict-line-len .ensures, verdict-short (s .args .v) (s .args .rounds .rounds) (low-count s), c .openings-len .ensures .1, low-count s)
 
 returns : tie.Need-returns
 returns c =
     let t = c .before .before .before in
     let s = t .before .before .before in (
-      omega (arith, t .verdict-line-len .ensures, c .openings-len .ensures .0, head-length (s .args .words .now) (s .args .k) (s .args .rounds) (s .args .v)),
-      omega (arith, t .verdict-line-len .ensures, verdict-short (s .args .v) (s .args .rounds .count) (low-count s), c .openings-len .ensures .1, low-count s),
+      omega (arith, t .verdict-line-len .ensures, c .openings-len .ensures .0, head-length (s .args .sets .now) (s .args .k) (s .args .rounds) (s .args .v)),
+      omega (arith, t .verdict-line-len .ensures, verdict-short (s .args .v) (s .args .rounds .rounds) (low-count s), c .openings-len .ensures .1, low-count s),
     )
 
 pub head-len-spec : {M : Type 1} → statement M

@@ -11,7 +11,7 @@ returns : tie.Need-returns
 returns c =
     let h = c .before in
     let a = h .before .before .args in
-    tells-short (head-text Empty (a .words .now) (a .k) (a .rounds)) (a .buffer .now) (omega (arith, h .head-len .ensures .0, c .if1 .taken))
+    tells-short (head-text Empty (a .sets .now) (a .k) (a .rounds)) (a .buffer .now) (omega (arith, h .head-len .ensures .0, c .if1 .taken))
 
 returns-2 : tie.Need-returns-2
 returns-2 c =
@@ -19,7 +19,7 @@ returns-2 c =
     let e = p .before .before in
     let h = e .before in
     let a = h .before .before .args in
-    tells-text (head-text Empty (a .words .now) (a .k) (a .rounds)) (a .buffer .now) (omega (arith, h .head-len .ensures .0, e .if1 .left)) (p .put-head .ensures)
+    tells-text (head-text Empty (a .sets .now) (a .k) (a .rounds)) (a .buffer .now) (omega (arith, h .head-len .ensures .0, e .if1 .left)) (p .put-head .ensures)
 
 pub print-empty-spec : {M : Type 1} → statement M
 print-empty-spec =

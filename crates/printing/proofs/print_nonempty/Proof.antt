@@ -13,8 +13,8 @@ returns c =
     let l = c .before in
     let h = l .before in
     let a = h .before .before .args in
-    tells-short (walked-text (a .words .now) (a .k) (a .rounds) (a .walk)) (a .buffer .now)
-    (omega (arith, h .head-len .ensures .0, l .walk-len .ensures .0, walked-length (a .words .now) (a .k) (a .rounds) (a .walk), c .if1 .taken))
+    tells-short (walked-text (a .sets .now) (a .k) (a .rounds) (a .walk)) (a .buffer .now)
+    (omega (arith, h .head-len .ensures .0, l .walk-len .ensures .0, walked-length (a .sets .now) (a .k) (a .rounds) (a .walk), c .if1 .taken))
 
 returns-2 : tie.Need-returns-2
 returns-2 c =
@@ -24,10 +24,10 @@ returns-2 c =
     let l = e .before in
     let h = l .before in
     let a = h .before .before .args in
-    tells-text (walked-text (a .words .now) (a .k) (a .rounds) (a .walk)) (a .buffer .now)
-    (omega (arith, h .head-len .ensures .0, l .walk-len .ensures .0, walked-length (a .words .now) (a .k) (a .rounds) (a .walk), e .if1 .left))
-    (walked-wrote (a .words .now) (a .k) (a .rounds) (a .walk) (a .buffer .now) (w .walk-at .last .0)
-    (w .walk-at .ensures .follows (head-text NonEmpty (a .words .now) (a .k) (a .rounds)) (a .buffer .now) (p .put-head .ensures)))
+    tells-text (walked-text (a .sets .now) (a .k) (a .rounds) (a .walk)) (a .buffer .now)
+    (omega (arith, h .head-len .ensures .0, l .walk-len .ensures .0, walked-length (a .sets .now) (a .k) (a .rounds) (a .walk), e .if1 .left))
+    (walked-wrote (a .sets .now) (a .k) (a .rounds) (a .walk) (a .buffer .now) (w .walk-at .last .0)
+    (w .walk-at .ensures .follows (head-text NonEmpty (a .sets .now) (a .k) (a .rounds)) (a .buffer .now) (p .put-head .ensures)))
 
 pub print-nonempty-spec : {M : Type 1} → statement M
 print-nonempty-spec =

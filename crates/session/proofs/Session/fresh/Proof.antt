@@ -1,12 +1,12 @@
 -- `fresh` meets its contract: the arrays hold nothing but fillers.
 use mathlib.Core.Path.{refl}
-use Rattle.rows.specs.Rows.{sets}
+use Rattle.rows.specs.Rows.{standing-sets}
 use Rattle.session.specs.Record.{record-of}
 use Rattle.session.proofs.Session.fresh.Statement.{statement}
 use Rattle.session.proofs.Session.fresh.Tie as tie
 
 returns : tie.Need-returns
-unfolding record-of sets
+unfolding record-of standing-sets
 returns c = refl
 
 pub fresh-spec : {M : Type 1} → statement M

@@ -1,6 +1,6 @@
 -- `print_settled` meets its contract.
 use mathlib.Core.Path.{subst}
-use Rattle.rounds.specs.declared.Rounds.{Rounds}
+use Rattle.rounds.specs.declared.Progress.{Progress}
 use Rattle.printing.specs.Promise.{PrintsSheet}
 use Rattle.session.proofs.Written.{prints-settled}
 use borrow.Author.Needs.{needs}
@@ -18,7 +18,7 @@ returns c =
     let low = y .keys .result .low in
     let new = p .print .last .0 in
     prints-settled (s .self) (s .v) high low (y .keys .ensures) (a .automaton .result) (a .automaton .ensures) (s .buffer .now) new (p .print .result)
-    (subst (λ (r : Rounds). PrintsSheet (s .v) high low (s .self .«row_count») (s .self .sets) (s .self .«set_count») (a .automaton .result) r (s .buffer .now) new (p .print .result))
+    (subst (λ (r : Progress). PrintsSheet (s .v) high low (s .self .«row_count») (s .self .sets) (s .self .«set_count») (a .automaton .result) r (s .buffer .now) new (p .print .result))
     (k .kept .ensures) (p .print .ensures))
 
 pub print-settled-spec : {M : Type 1} → statement M

@@ -2,7 +2,7 @@
 use Prim.Native.Nat.{_<_}
 use mathlib.Core.Path.{sym, subst}
 use Rattle.search.specs.Graph.{graph-of}
-use Rattle.rounds.specs.declared.Rounds.{Rounds}
+use Rattle.rounds.specs.declared.Progress.{Progress}
 use Rattle.rounds.specs.Promises.{DoesRound}
 use Rattle.session.proofs.Phases.{round-done}
 use borrow.Author.Needs.{needs}
@@ -13,7 +13,7 @@ round-requires : tie.Need-round-requires
 round-requires c κs =
     let k = c .before .before .before in
     let start = k .before in
-    (start .pre .0 .few-sets, subst (λ (r : Rounds). r .count < 129) (sym (k .kept .ensures)) (start .pre .1))
+    (start .pre .0 .few-sets, subst (λ (r : Progress). r .rounds < 129) (sym (k .kept .ensures)) (start .pre .1))
 
 returns : tie.Need-returns
 returns c =
@@ -23,7 +23,7 @@ returns c =
     let s = k .before .args .self in
     let m = a .automaton .result in
     round-done s m (a .automaton .ensures) (d .round .result) (c .done-with .ensures)
-    (subst (λ (r : Rounds). DoesRound (graph-of (m .graph)) (m .initials) (m .finals) (s .«set_count») r (d .round .result)) (k .kept .ensures) (d .round .ensures))
+    (subst (λ (r : Progress). DoesRound (graph-of (m .graph)) (m .initials) (m .finals) (s .«set_count») r (d .round .result)) (k .kept .ensures) (d .round .ensures))
 
 pub round-running-spec : {M : Type 1} → statement M
 round-running-spec =

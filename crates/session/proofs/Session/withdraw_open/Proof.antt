@@ -17,7 +17,7 @@ returns c =
     let r = w .withdraw-rows .result in
     let high = w .withdraw-rows .last .0 in
     let low = w .withdraw-rows .last .1 .0 in
-    batch-keeps (withdraw-feeds (a .batch .now)) s (r .answer) (λ rows. Keyed rows high low (r .rows)) (Filed high low (f .collect-sets .result .words) (r .rows) (f .collect-sets .result .count))
+    batch-keeps (withdraw-feeds (a .batch .now)) s (r .answer) (λ rows. Keyed rows high low (r .rows)) (Filed high low (f .collect-sets .result .sets) (r .rows) (f .collect-sets .result .count))
     (λ m p. w .withdraw-rows .ensures .comes (m .rows) (p .formed .table) (keyed-of m s p (k .keys .result .high) (k .keys .result .low) (k .keys .ensures)))
     (λ rows t h. (h, f .collect-sets .ensures .holds rows t h)) (c .take-table .ensures)
 
