@@ -11,8 +11,8 @@ use native.Mathlib.Omega.{arith}
 use Rattle.lists.proofs.Deciding.{eqb·, ltb·, dec·}
 use Rattle.masks.specs.Mask.{member, _∈_}
 use Rattle.masks.proofs.Member.{with-same, with-cases, lt-or-le}
-use Rattle.sorted.specs.declared.Place.the-variants.{At, Gap}
-use Rattle.sorted.specs.Keys.{SearchesWord}
+use Rattle.sorted_keys.specs.declared.Place.the-variants.{At, Gap}
+use Rattle.sorted_keys.specs.Keys.{SearchesWord}
 use Rattle.automaton.specs.Promise.{Adds, AddsAt, HasSets, Places}
 
 pub added : (m s w : ℕ) → s < 64 → ((t : ℕ) → member t w ≡ (member t m || eqb t s)) → Adds m s w

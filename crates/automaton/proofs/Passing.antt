@@ -10,7 +10,7 @@ use Rattle.lists.specs.Tests.{_among_}
 use Rattle.lists.proofs.Deciding.{ltb·, dec·}
 use Rattle.masks.specs.Mask.{_∈_}
 use Rattle.masks.proofs.Member.{in-none}
-use Rattle.sorted.specs.Keys.{Rising}
+use Rattle.sorted_keys.specs.Keys.{Rising}
 use Rattle.rows.specs.declared.Row.{Row}
 use Rattle.rows.specs.declared.Row.the-variants.{Initial, Final, Successor, LeftLimit, RightLimit}
 use Rattle.rows.specs.Rows as Rows
@@ -18,7 +18,7 @@ use Rattle.rows.specs.Rows.{AllFit}
 use Rattle.rows.proofs.Sets.{words-rise}
 use Rattle.search.specs.Graph.{part, graph-of}
 use Rattle.search.proofs.Parts.{past-part, letters-at, sets-at, lefts-at, rights-at}
-use Rattle.table.specs.Arrays.{Worded}
+use Rattle.row_table.specs.Arrays.{Worded}
 use Rattle.automaton.specs.declared.Automaton.{Automaton}
 use Rattle.automaton.specs.Promise.{Adds, AddsAt, HasSets, Places, Gives}
 use Rattle.automaton.proofs.Adding.{put-iff}

@@ -5,13 +5,13 @@ use mathlib.Core.Logic.{_⊎_, _↔_, _≢_}
 use mathlib.Core.List.{List}
 use lib.ListN.{length, take, getD}
 use Rattle.masks.specs.Mask.{_∈_}
-use Rattle.sorted.specs.Keys.{Rising}
+use Rattle.sorted_keys.specs.Keys.{Rising}
 use Rattle.rows.specs.declared.Row.{Row}
 use Rattle.rows.specs.Rows.{AllFit}
 use Rattle.rows.specs.Rows as Rows
 use Rattle.search.specs.Graph.{graph-of}
 use Rattle.search.specs.Masked.{Masked, Initials, Finals}
-use Rattle.table.specs.Arrays.{Keyed}
+use Rattle.row_table.specs.Arrays.{Keyed}
 use Rattle.automaton.specs.declared.Automaton.{Automaton}
 
 -- the states of m, and s if that is below 64

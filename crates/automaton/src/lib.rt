@@ -3,7 +3,7 @@ use rows::Row;
 use search::graphs::LEFTS;
 use search::graphs::RIGHTS;
 use search::graphs::SETS;
-use sorted::Place;
+use sorted_keys::Place;
 ghost use Prim.Native.Nat.{_≤_};
 ghost use Rattle.automaton.specs.Promise.{Adds, AddsAt, HasSets, Places, GivesKeyed};
 
@@ -36,11 +36,11 @@ fn put(graph: &mut [u64; 256], base: usize, at: usize, s: u8)
 }
 
 // The place of `x` among the first `n` sets, or 64, which is none.
-fn place(sets: &[u64; 64], n: usize, x: u64) -> usize
-    requires { ⌜ n ≤ 64 ⌝ }
-    ensures { λ r. ⌜ Places (now (sets .entry)) n x r ⌝ }
+fn place(sets: &[u64; 64], set_count: usize, x: u64) -> usize
+    requires { ⌜ «set_count» ≤ 64 ⌝ }
+    ensures { λ r. ⌜ Places (now (sets .entry)) «set_count» x r ⌝ }
 {
-    match sorted::find_word(sets, n, x) {
+    match sorted_keys::find_word(sets, set_count, x) {
         Place::At(i) => i,
         Place::Gap(_) => 64,
     }
@@ -63,25 +63,25 @@ fn with_sets(sets: &[u64; 64]) -> [u64; 256]
 pub fn of_keys(
     high: &[u64; 256],
     low: &[u64; 256],
-    n: usize,
+    row_count: usize,
     sets: &[u64; 64],
-    k: usize,
+    set_count: usize,
 ) -> Automaton
-    requires { ⌜ (n ≤ 256) × (k ≤ 64) ⌝ }
-    ensures { λ r. ⌜ GivesKeyed (now (high .entry)) (now (low .entry)) n (now (sets .entry)) k r ⌝ }
+    requires { ⌜ («row_count» ≤ 256) × («set_count» ≤ 64) ⌝ }
+    ensures { λ r. ⌜ GivesKeyed (now (high .entry)) (now (low .entry)) «row_count» (now (sets .entry)) «set_count» r ⌝ }
 {
     let mut graph = with_sets(sets);
     let mut initials: u64 = 0;
     let mut finals: u64 = 0;
     let mut i = 0;
-    while i < n {
+    while i < row_count {
         let row = rows::row_of(high[i], low[i]);
         match row {
             Row::Initial(s) => initials = add(initials, s),
             Row::Final(s) => finals = add(finals, s),
             Row::Successor(p, _, q) => put(&mut graph, 0, p as usize, q),
-            Row::LeftLimit(set, q) => put(&mut graph, LEFTS, place(sets, k, set), q),
-            Row::RightLimit(q, set) => put(&mut graph, RIGHTS, place(sets, k, set), q),
+            Row::LeftLimit(set, q) => put(&mut graph, LEFTS, place(sets, set_count, set), q),
+            Row::RightLimit(q, set) => put(&mut graph, RIGHTS, place(sets, set_count, set), q),
         }
         i += 1;
     }

@@ -1,8 +1,8 @@
 // Runs the checker on stored batches, and compares each sheet with the stored one, byte by byte.
 // Its arguments are pairs of file names: a batch, and the sheet that it must give.
-use output::same;
-use output::say;
-use output::say_number;
+use program_output::same;
+use program_output::say;
+use program_output::say_number;
 ghost use Prim.Native.Nat.{_≤_};
 ghost use Rattle.io.specs.Counts.{Counts};
 

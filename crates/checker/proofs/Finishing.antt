@@ -21,9 +21,9 @@ use Rattle.automaton.specs.declared.Automaton.{Automaton}
 use Rattle.automaton.specs.Promise.{Gives, GivesKeyed}
 use Rattle.rounds.specs.declared.Progress.{Progress}
 use Rattle.rounds.specs.Promises.{Mirrors, Settles as SettlesRows}
-use Rattle.table.specs.Arrays.{Filed}
-use Rattle.printing.specs.Promise.{PrintsSheet}
-use Rattle.printing.proofs.Automata.{gives-filed, given-rows}
+use Rattle.row_table.specs.Arrays.{Filed}
+use Rattle.whole_sheet.specs.Promise.{PrintsSheet}
+use Rattle.whole_sheet.proofs.Automata.{gives-filed, given-rows}
 
 module _ (rows : List Row) (t : Table rows) (highs lows sets : List ℕ) (n k : ℕ) (f : Filed highs lows sets n k rows)
     (a : Automaton) (g : GivesKeyed highs lows n sets k a) (d : Progress) (s : SettlesRows (graph-of (a .graph)) (a .initials) (a .finals) k d) where

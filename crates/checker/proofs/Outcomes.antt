@@ -23,7 +23,7 @@ use Rattle.machine.proofs.Answers.{done-by, wrote-by, refused-by, tells-as, tel
 use Rattle.machine.proofs.Phases.{load-feeds}
 use Rattle.machine.proofs.Program.{outcome-size}
 use Rattle.texts.proofs.Digits.{number-short}
-use Rattle.table.specs.Arrays.{Filed, Comes}
+use Rattle.row_table.specs.Arrays.{Filed, Comes}
 use Rattle.checker.specs.Promise.{Checks, ShowsSheet}
 
 -- ---- the answer of the load

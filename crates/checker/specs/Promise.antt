@@ -10,7 +10,7 @@ use Rattle.machine.specs.Machine.{open-with}
 use Rattle.machine.specs.Calls.{print, call, run, settle, Tells}
 use Rattle.machine.specs.WellFormed.{Table}
 use Rattle.machine.specs.Program.{outcome, program}
-use Rattle.table.specs.Arrays.{Filed}
+use Rattle.row_table.specs.Arrays.{Filed}
 
 -- the answer is that of the machine with the rows that the arrays hold, closed, settled and printed; and the buffer holds its text, and
 -- beyond it the bytes that it had

@@ -13,34 +13,44 @@ ghost use Rattle.search.specs.Graph.{graph-of};
 ghost use Rattle.checker.specs.Promise.{Finishes, Checks, ShowsSheet};
 
 // The rounds of the automaton, until it is settled.
-fn settled(a: Automaton, k: usize) -> Progress
-    requires { ⌜ k ≤ 64 ⌝ }
-    ensures { λ r. ⌜ Settles (graph-of (a .graph)) (a .initials) (a .finals) k r ⌝ }
+fn settled(a: Automaton, set_count: usize) -> Progress
+    requires { ⌜ «set_count» ≤ 64 ⌝ }
+    ensures { λ r. ⌜ Settles (graph-of (a .graph)) (a .initials) (a .finals) «set_count» r ⌝ }
 {
     let graph = a.graph;
-    rounds::settle(&graph, a.initials, a.finals, k)
+    rounds::settle(&graph, a.initials, a.finals, set_count)
 }
 
 // Closes the table that the arrays hold, settles it and prints its sheet.
 fn finish(
     high: &[u64; MOST_ROWS],
     low: &[u64; MOST_ROWS],
-    n: usize,
+    row_count: usize,
     sets: &[u64; MOST_SETS],
-    k: usize,
+    set_count: usize,
     sheet: &mut [u8],
 ) -> Answer
-    requires { ⌜ (n ≤ 256) × (k ≤ 64) ⌝ }
-    ensures { λ r. ⌜ Finishes (now (high .entry)) (now (low .entry)) n (now (sets .entry)) k
+    requires { ⌜ («row_count» ≤ 256) × («set_count» ≤ 64) ⌝ }
+    ensures { λ r. ⌜ Finishes (now (high .entry)) (now (low .entry)) «row_count» (now (sets .entry)) «set_count»
         (now (sheet .entry)) (now (sheet .exit)) r ⌝ }
 {
-    let a = automaton::of_keys(high, low, n, sets, k);
-    let done = settled(a, k);
+    let a = automaton::of_keys(high, low, row_count, sets, set_count);
+    let done = settled(a, set_count);
     let phase = done.phase;
     match phase {
         Phase::Open => Answer::Refused(9, 0),
         Phase::Running => Answer::Refused(11, 0),
-        Phase::Settled(v) => printing::print(sheet, v, high, low, n, sets, k, a, done),
+        Phase::Settled(v) => whole_sheet::print(
+            sheet,
+            v,
+            high,
+            low,
+            row_count,
+            sets,
+            set_count,
+            a,
+            done,
+        ),
     }
 }
 
@@ -51,7 +61,7 @@ pub fn check(batch: &[u8], sheet: &mut [u8]) -> Answer
     let mut high = [0u64; MOST_ROWS];
     let mut low = [0u64; MOST_ROWS];
     let mut sets = [0u64; MOST_SETS];
-    let loaded = table::load_rows(&mut high, &mut low, &mut sets, 0, 0, batch);
+    let loaded = row_table::load_rows(&mut high, &mut low, &mut sets, 0, 0, batch);
     let answer = loaded.answer;
     match answer {
         Answer::Done => finish(&high, &low, loaded.rows, &sets, loaded.sets, sheet),
@@ -73,6 +83,6 @@ pub fn show(input: &[u8], out: &mut [u8]) -> usize
     match check(input, out) {
         Answer::Done => 0,
         Answer::Wrote(n) => n,
-        Answer::Refused(n, place) => lines::put_refusal_line(out, n as u64, place as u64),
+        Answer::Refused(n, place) => sheet_lines::put_refusal_line(out, n as u64, place as u64),
     }
 }

@@ -3,7 +3,7 @@ mod dice;
 mod generator;
 mod tally;
 
-use output::first;
+use program_output::first;
 
 // How many automata are tried.
 const AUTOMATA: u64 = 6000;

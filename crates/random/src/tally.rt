@@ -1,6 +1,6 @@
 // Comparing sheets, and counting what they say. The counts: 0 to 39 by rounds; then empty, non-empty, openings, longest walk, different.
-use output::say;
-use output::say_count;
+use program_output::say;
+use program_output::say_count;
 
 const EMPTY: usize = 40;
 
@@ -119,7 +119,7 @@ fn report_round(counts: &[u64], k: usize) {
         return;
     }
     say(b"rounds ");
-    output::say_number(k as u64);
+    program_output::say_number(k as u64);
     say_count(b": ", n);
 }
 
@@ -161,7 +161,7 @@ pub fn report(counts: &[u64]) {
 // The first difference: how many automata came before it, the batch and both sheets.
 fn show(batch: &[u8], ours: &[u8], theirs: &[u8], before: u64) {
     say_count(b"different after ", before);
-    output::say_hex(batch);
+    program_output::say_hex(batch);
     say(b"\nthe engine's sheet:\n");
     say(ours);
     say(b"the plain search's sheet:\n");
@@ -170,7 +170,7 @@ fn show(batch: &[u8], ours: &[u8], theirs: &[u8], before: u64) {
 
 // Compares the sheets, counts a difference, and shows the first.
 pub fn compare(batch: &[u8], ours: &[u8], theirs: &[u8], counts: &mut [u64]) {
-    if output::same(ours, theirs) {
+    if program_output::same(ours, theirs) {
         return;
     }
     if get(counts, DIFFERENT) == 0 {

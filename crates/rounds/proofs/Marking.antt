@@ -16,7 +16,7 @@ use Rattle.orderings.specs.Steps.{Claim}
 use Rattle.orderings.specs.Decide.{same-claim}
 use Rattle.orderings.proofs.Deciding.{same-claim·}
 use Rattle.machine.specs.Machine.{Opening, Machine, open-claims, openings-of, with-openings}
-use Rattle.table.specs.Arrays.{padded}
+use Rattle.row_table.specs.Arrays.{padded}
 use Rattle.rounds.specs.Arrays.{round-of, rounds-of, Marks}
 use Rattle.rounds.proofs.OpenClaims.{set-at, round-at}
 

@@ -25,7 +25,7 @@ use Rattle.machine.specs.declared.Phase.the-variants.{Open, Running, Settled}
 use Rattle.machine.specs.Machine.{Opening, Machine, open-with, open-claims}
 use Rattle.machine.specs.WellFormed.{Worked, Made, WellFormed}
 use Rattle.machine.proofs.Settling.{after-after}
-use Rattle.table.specs.Arrays.{padded}
+use Rattle.row_table.specs.Arrays.{padded}
 use Rattle.rounds.specs.Arrays.{round-of, rounds-of, OpenPlaces}
 
 -- ---- the mask of the places with a round

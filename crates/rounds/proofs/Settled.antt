@@ -23,7 +23,7 @@ use Rattle.search.specs.Graph.{Graph}
 use Rattle.search.specs.Hops.{WithNew, EndsBelow}
 use Rattle.search.specs.Masked.{Forced}
 use Rattle.search.specs.Promises.{AcceptsRight, OpensBelow}
-use Rattle.table.specs.Arrays.{Worded}
+use Rattle.row_table.specs.Arrays.{Worded}
 use Rattle.rounds.specs.Arrays.{rounds-of, OpenPlaces, Marks}
 use Rattle.rounds.specs.Promises.{Given, Mirrors}
 use Rattle.rounds.proofs.OpenClaims.{set-at, open-iff, no-rounds}

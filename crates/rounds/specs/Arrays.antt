@@ -10,7 +10,7 @@ use Rattle.rows.specs.Rows.{standing-sets}
 use Rattle.orderings.specs.Steps.{Claim}
 use Rattle.orderings.specs.Decide.{same-claim}
 use Rattle.machine.specs.Machine.{Opening, Machine}
-use Rattle.table.specs.Arrays.{padded}
+use Rattle.row_table.specs.Arrays.{padded}
 
 -- the round that opened the claim, 0 if none did
 abbrev pub round-of : List Opening → Claim → ℕ

@@ -10,7 +10,7 @@ use Rattle.machine.specs.Calls.{run, settle}
 use Rattle.machine.specs.WellFormed.{Table, WellFormed}
 use Rattle.search.specs.Graph.{Graph}
 use Rattle.search.specs.Masked.{Masked, Initials, Finals}
-use Rattle.table.specs.Arrays.{Worded}
+use Rattle.row_table.specs.Arrays.{Worded}
 use Rattle.rounds.specs.declared.Progress.{Progress}
 use Rattle.rounds.specs.Arrays.{rounds-of}
 

@@ -67,13 +67,13 @@ fn with_new(force: Claims, new: Claims) -> Claims
 }
 
 // The places below `n` whose round is not 0.
-pub fn open_mask(rounds: &[u8; 64], n: usize) -> u64
-    requires { ⌜ n ≤ 64 ⌝ }
-    ensures { λ r. ⌜ OpenPlaces (now (rounds .entry)) n r ⌝ }
+pub fn open_mask(rounds: &[u8; 64], set_count: usize) -> u64
+    requires { ⌜ «set_count» ≤ 64 ⌝ }
+    ensures { λ r. ⌜ OpenPlaces (now (rounds .entry)) «set_count» r ⌝ }
 {
     let mut r: u64 = 0;
     let mut i = 0;
-    while i < n {
+    while i < set_count {
         if rounds[i] != 0 {
             r = masks::with(r, i as u8);
         }
@@ -83,13 +83,13 @@ pub fn open_mask(rounds: &[u8; 64], n: usize) -> u64
 }
 
 // Round `k` at the places of `opened`, and at the others what `rounds` had.
-fn mark(rounds: &mut [u8; 64], opened: u64, k: u8)
-    ensures { λ _. ⌜ Marks (now (rounds .entry)) opened k (now (rounds .exit)) ⌝ }
+fn mark(rounds: &mut [u8; 64], opened: u64, round: u8)
+    ensures { λ _. ⌜ Marks (now (rounds .entry)) opened round (now (rounds .exit)) ⌝ }
 {
     let mut rest = opened;
     while rest != 0 {
         let next = masks::take_lowest(rest);
-        rounds[next.low as usize] = k;
+        rounds[next.low as usize] = round;
         rest = next.rest;
     }
 }
@@ -112,27 +112,33 @@ pub fn close(graph: &[u64; 256], initials: u64, finals: u64) -> Progress
 }
 
 // The claims that a round opens, with the claims in force before it.
-fn opened(graph: &[u64; 256], force: Claims, n: usize) -> Claims
-    requires { ⌜ n ≤ 64 ⌝ }
-    ensures { λ r. ⌜ OpensBelow (graph-of (now (graph .entry))) force n n r ⌝ }
+fn opened(graph: &[u64; 256], force: Claims, set_count: usize) -> Claims
+    requires { ⌜ «set_count» ≤ 64 ⌝ }
+    ensures { λ r. ⌜ OpensBelow (graph-of (now (graph .entry))) force «set_count» «set_count» r ⌝ }
 {
     let back = graphs::turned(graph);
-    let to = openings::all_ends(graph, force, n);
-    let from = openings::all_ends(&back, force, n);
-    openings::open_next(graph, &back, force, &to, &from, n)
+    let to = openings::all_ends(graph, force, set_count);
+    let from = openings::all_ends(&back, force, set_count);
+    openings::open_next(graph, &back, force, &to, &from, set_count)
 }
 
 // One round: what it opens depends on the claims that were open before it, and on no other.
-pub fn round(graph: &[u64; 256], initials: u64, finals: u64, n: usize, before: Progress) -> Progress
-    requires { ⌜ (n ≤ 64) × (before .rounds < 129) ⌝ }
-    ensures { λ r. ⌜ DoesRound (graph-of (now (graph .entry))) initials finals n before r ⌝ }
+pub fn round(
+    graph: &[u64; 256],
+    initials: u64,
+    finals: u64,
+    set_count: usize,
+    before: Progress,
+) -> Progress
+    requires { ⌜ («set_count» ≤ 64) × (before .rounds < 129) ⌝ }
+    ensures { λ r. ⌜ DoesRound (graph-of (now (graph .entry))) initials finals «set_count» before r ⌝ }
 {
     let mut loop_rounds = before.loop_rounds;
     let mut mix_rounds = before.mix_rounds;
-    let loops = open_mask(&loop_rounds, n);
-    let mixes = open_mask(&mix_rounds, n);
+    let loops = open_mask(&loop_rounds, set_count);
+    let mixes = open_mask(&mix_rounds, set_count);
     let force = Claims { loops, mixes };
-    let new = opened(graph, force, n);
+    let new = opened(graph, force, set_count);
     let all = with_new(force, new);
     let accepted = searches::accepts(graph, all, initials, finals);
     let phase = judge(accepted, nothing(new.loops, new.mixes));
@@ -148,16 +154,16 @@ pub fn round(graph: &[u64; 256], initials: u64, finals: u64, n: usize, before: P
 }
 
 // Close, and rounds until the automaton is settled: none needs more than 129.
-pub fn settle(graph: &[u64; 256], initials: u64, finals: u64, n: usize) -> Progress
-    requires { ⌜ n ≤ 64 ⌝ }
-    ensures { λ r. ⌜ Settles (graph-of (now (graph .entry))) initials finals n r ⌝ }
+pub fn settle(graph: &[u64; 256], initials: u64, finals: u64, set_count: usize) -> Progress
+    requires { ⌜ «set_count» ≤ 64 ⌝ }
+    ensures { λ r. ⌜ Settles (graph-of (now (graph .entry))) initials finals «set_count» r ⌝ }
 {
     let back = graphs::turned(graph);
     let none = Claims { loops: 0, mixes: 0 };
     let mut force = none;
     let mut new = none;
-    let mut to = openings::all_ends(graph, none, n);
-    let mut from = openings::all_ends(&back, none, n);
+    let mut to = openings::all_ends(graph, none, set_count);
+    let mut from = openings::all_ends(&back, none, set_count);
     let mut seen = searches::reached(graph, none, initials);
     let mut phase = judge(searches::accepted(initials, seen, finals), false);
     let mut loop_rounds = [0u8; 64];
@@ -167,8 +173,8 @@ pub fn settle(graph: &[u64; 256], initials: u64, finals: u64, n: usize) -> Progr
         if !is_running(phase) {
             break;
         }
-        openings::add_ends(&mut to, &mut from, graph, &back, new, n);
-        new = openings::open_next(graph, &back, force, &to, &from, n);
+        openings::add_ends(&mut to, &mut from, graph, &back, new, set_count);
+        new = openings::open_next(graph, &back, force, &to, &from, set_count);
         force = with_new(force, new);
         seen = searches::reached_more(graph, force, new, initials, seen);
         phase = judge(

@@ -14,7 +14,7 @@ use Rattle.lists.proofs.Deciding.{alike, not-so, yes·, eqb·, ltb·, and·, or
 use Rattle.lists.proofs.Sorting.{≺-irreflexive}
 use Rattle.rows.specs.Rows.{Bytes}
 use Rattle.rows.specs.Reading.{number}
-use Rattle.sorted.specs.Keys.{key-less}
+use Rattle.sorted_keys.specs.Keys.{key-less}
 use Rattle.rows.proofs.Reading.{bytes-take, bytes-drop}
 
 -- one byte more: the numbers ahead decide, then the bytes

@@ -13,7 +13,7 @@ use Rattle.rows.specs.declared.Row.{Row}
 use Rattle.rows.specs.declared.Row.the-variants.{Initial, Final, Successor, LeftLimit, RightLimit}
 use Rattle.rows.specs.Rows.{row-bytes, Fits, Bytes}
 use Rattle.rows.specs.Reading.{number, width}
-use Rattle.sorted.specs.Keys.{key-less}
+use Rattle.sorted_keys.specs.Keys.{key-less}
 use Rattle.rows.specs.Keys.{high, low, row-from}
 use Rattle.rows.proofs.Reading.{eight, some-bytes, bytes-append, byte-and, no-bytes, row-bytes-are-bytes}
 use Rattle.rows.proofs.ByteOrder.{split-order, before-filled}

@@ -13,7 +13,7 @@ use Rattle.lists.proofs.Deciding.{eqb·, has·, yes·, no·, dec·, gather-in, 
 use Rattle.lists.proofs.Counting.{once-length}
 use Rattle.lists.proofs.Places.{held-at, held-place, rising}
 use Rattle.lists.proofs.Sorting.{insert-iff, insert-sorted, insert-once, sorted-same}
-use Rattle.sorted.specs.Keys.{Rising}
+use Rattle.sorted_keys.specs.Keys.{Rising}
 use Rattle.rows.specs.declared.Row.{Row}
 use Rattle.rows.specs.declared.Row.the-variants.{Initial, Final, Successor, LeftLimit, RightLimit}
 use Rattle.rows.specs.Rows.{sets-of, SetOf, add-new, distinct, standing-sets}

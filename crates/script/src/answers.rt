@@ -4,9 +4,9 @@ use commands::Report;
 use machine::Answer;
 use machine::Phase;
 use machine::Verdict;
-use output::first;
-use output::say;
-use output::say_number;
+use program_output::first;
+use program_output::say;
+use program_output::say_number;
 
 fn say_verdict(verdict: Verdict) {
     match verdict {
@@ -41,7 +41,7 @@ fn say_done(answer: Answer, phase: Phase) {
 
 fn say_rows(rows: &[u8]) {
     say(b"rows ");
-    output::say_hex(rows);
+    program_output::say_hex(rows);
     say(b"\n");
 }
 

@@ -7,8 +7,8 @@ use commands::Command;
 use commands::Move;
 use commands::Report;
 use machine::Answer;
-use output::first;
-use output::say;
+use program_output::first;
+use program_output::say;
 use session::Reply;
 use session::Session;
 

@@ -2,8 +2,8 @@
 use crate::calls::report;
 use commands::Report;
 use machine::Answer;
-use output::same;
-use output::say;
+use program_output::same;
+use program_output::say;
 use session::Session;
 
 // The number of a refusal, 0 for none.

@@ -1,7 +1,7 @@
 // The lines of standard input.
 use crate::calls::run_line;
-use output::first;
-use output::say;
+use program_output::first;
+use program_output::say;
 use session::Session;
 ghost use Prim.Native.Nat.{_≤_};
 ghost use lib.ListN.{length};

@@ -60,14 +60,14 @@ fn ends(graph: &[u64; 256], force: Claims, p: u64) -> u64
 }
 
 // For each of the `n` sets the ends of all steps inside it.
-pub fn all_ends(graph: &[u64; 256], force: Claims, n: usize) -> [u64; 64]
-    requires { ⌜ n ≤ 64 ⌝ }
-    ensures ends { λ r. ⌜ EndsBelow (graph-of (now (graph .entry))) force n r ⌝ }
+pub fn all_ends(graph: &[u64; 256], force: Claims, set_count: usize) -> [u64; 64]
+    requires { ⌜ «set_count» ≤ 64 ⌝ }
+    ensures ends { λ r. ⌜ EndsBelow (graph-of (now (graph .entry))) force «set_count» r ⌝ }
     ensures sized { λ r. ⌜ length r ≡ 64 ⌝ }
 {
     let mut r = [0u64; 64];
     let mut i = 0;
-    while i < n {
+    while i < set_count {
         r[i] = ends(graph, force, set_at(graph, i));
         i += 1;
     }
@@ -81,14 +81,14 @@ pub fn add_ends(
     graph: &[u64; 256],
     back: &[u64; 256],
     new: Claims,
-    n: usize,
+    set_count: usize,
 )
-    requires { ⌜ (n ≤ 64) × TurnedGraph (graph-of (now graph)) (graph-of (now back)) ⌝ }
-    ensures forward { λ _. ⌜ AddsEnds (graph-of (now (graph .entry))) new n (now (to .entry)) (now (to .exit)) ⌝ }
-    ensures backward { λ _. ⌜ AddsEnds (graph-of (now (back .entry))) new n (now (from .entry)) (now (from .exit)) ⌝ }
+    requires { ⌜ («set_count» ≤ 64) × TurnedGraph (graph-of (now graph)) (graph-of (now back)) ⌝ }
+    ensures forward { λ _. ⌜ AddsEnds (graph-of (now (graph .entry))) new «set_count» (now (to .entry)) (now (to .exit)) ⌝ }
+    ensures backward { λ _. ⌜ AddsEnds (graph-of (now (back .entry))) new «set_count» (now (from .entry)) (now (from .exit)) ⌝ }
 {
     let mut i = 0;
-    while i < n {
+    while i < set_count {
         let p = set_at(graph, i);
         let parts = inner(graph, new, p);
         to[i] = union(to[i], claimed(graph, parts, p));
@@ -205,15 +205,15 @@ pub fn open_next(
     force: Claims,
     to: &[u64; 64],
     from: &[u64; 64],
-    n: usize,
+    set_count: usize,
 ) -> Claims
-    requires { ⌜ EndsBoth (graph-of (now graph)) (graph-of (now back)) force n (now to) (now from) ⌝ }
-    ensures { λ r. ⌜ OpensBelow (graph-of (now (graph .entry))) force n n r ⌝ }
+    requires { ⌜ EndsBoth (graph-of (now graph)) (graph-of (now back)) force «set_count» (now to) (now from) ⌝ }
+    ensures { λ r. ⌜ OpensBelow (graph-of (now (graph .entry))) force «set_count» «set_count» r ⌝ }
 {
     let mut loops: u64 = 0;
     let mut mixes: u64 = 0;
     let mut i = 0;
-    while i < n {
+    while i < set_count {
         let opened = opened_at(graph, back, force, to[i], from[i], i as u8);
         loops = union(loops, opened.loops);
         mixes = union(mixes, opened.mixes);

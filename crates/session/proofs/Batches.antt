@@ -11,7 +11,7 @@ use Rattle.machine.specs.Machine.{Machine}
 use Rattle.machine.specs.Calls.{Call, with-rows, call-in, call}
 use Rattle.machine.specs.WellFormed.{Table}
 use Rattle.machine.proofs.Phases.{Feeds}
-use Rattle.table.specs.Arrays.{Filed, Comes}
+use Rattle.row_table.specs.Arrays.{Filed, Comes}
 use Rattle.session.specs.declared.Slot.{Slot}
 use Rattle.session.specs.declared.Session.{Session}
 use Rattle.session.specs.declared.State.the-variants.{Open as IsOpen}

@@ -9,7 +9,7 @@ use Rattle.automaton.specs.declared.Automaton.{Automaton}
 use Rattle.rounds.specs.declared.Progress.{Progress}
 use Rattle.rounds.specs.Promises.{Given, Mirrors, Closes, DoesRound}
 use Rattle.rounds.proofs.OpenClaims.{no-rounds}
-use Rattle.printing.proofs.Automata.{given-rows}
+use Rattle.whole_sheet.proofs.Automata.{given-rows}
 use Rattle.session.specs.declared.Session.{Session}
 use Rattle.session.specs.Record.{record-of, Represents}
 use Rattle.session.specs.Standing.{rounds-in, with-rounds, Reads}

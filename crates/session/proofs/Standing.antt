@@ -9,8 +9,8 @@ use Rattle.rows.specs.declared.Row.{Row}
 use Rattle.rows.specs.declared.Row.the-variants.{Initial}
 use Rattle.rows.specs.Rows.{AllFit}
 use Rattle.rows.specs.Keys.{high, low, row-from}
-use Rattle.table.specs.Arrays.{padded, Keyed}
-use Rattle.table.proofs.Keys.{row-there}
+use Rattle.row_table.specs.Arrays.{padded, Keyed}
+use Rattle.row_table.proofs.Keys.{row-there}
 use Rattle.session.specs.declared.Slot.{Slot}
 use Rattle.session.specs.Record.{slot, blank}
 use Rattle.session.specs.Standing.{first-rows}

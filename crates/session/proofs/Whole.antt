@@ -11,7 +11,7 @@ use Rattle.machine.specs.declared.Phase.the-variants.{Open}
 use Rattle.machine.specs.Machine.{Machine, open-with}
 use Rattle.machine.specs.WellFormed.{Table, Made}
 use Rattle.machine.proofs.Outcomes.{rows-to}
-use Rattle.table.specs.Arrays.{padded, Keyed, Worded}
+use Rattle.row_table.specs.Arrays.{padded, Keyed, Worded}
 use Rattle.rounds.specs.Arrays.{rounds-of}
 use Rattle.rounds.proofs.OpenClaims.{no-rounds}
 use Rattle.session.specs.declared.Slot.{Slot}

@@ -13,13 +13,13 @@ use Rattle.machine.specs.Calls.{print, save, Next, write, saved, TellsText}
 use Rattle.machine.specs.Causes.{sheets, saves}
 use Rattle.machine.proofs.Tables.{sort-table}
 use Rattle.machine.proofs.Outcomes.{writing}
-use Rattle.table.specs.Arrays.{Keyed}
+use Rattle.row_table.specs.Arrays.{Keyed}
 use Rattle.automaton.specs.declared.Automaton.{Automaton}
 use Rattle.automaton.specs.Promise.{GivesKeyed}
-use Rattle.printing.specs.Promise.{PrintsSheet}
-use Rattle.printing.specs.Saving.{row-list}
-use Rattle.printing.proofs.Automata.{gives-filed}
-use Rattle.printing.proofs.Saving.{rows-held}
+use Rattle.whole_sheet.specs.Promise.{PrintsSheet}
+use Rattle.whole_sheet.specs.Saving.{row-list}
+use Rattle.whole_sheet.proofs.Automata.{gives-filed}
+use Rattle.whole_sheet.proofs.Saving.{rows-held}
 use Rattle.session.specs.declared.Session.{Session}
 use Rattle.session.specs.declared.State.the-variants.{Settled as IsSettled}
 use Rattle.session.specs.Record.{record-of, Represents}

@@ -8,7 +8,7 @@ use Rattle.rows.specs.Rows.{standing-sets}
 use Rattle.orderings.specs.Steps.{loops, mixes}
 use Rattle.machine.specs.Machine.{Machine}
 use Rattle.machine.specs.WellFormed.{WellFormed}
-use Rattle.table.specs.Arrays.{padded}
+use Rattle.row_table.specs.Arrays.{padded}
 use Rattle.rounds.specs.Arrays.{rounds-of}
 use Rattle.session.specs.declared.Slot.{Slot}
 use Rattle.session.specs.declared.Session.{Session}

@@ -9,7 +9,7 @@ use machine::MOST_SETS;
 ghost use Prim.Native.Nat.{_≤_};
 ghost use mathlib.Core.List.{[]};
 ghost use Rattle.machine.specs.Calls.{load, withdraw};
-ghost use Rattle.table.specs.Arrays.{Filed};
+ghost use Rattle.row_table.specs.Arrays.{Filed};
 ghost use Rattle.session.specs.Promise.{Ranged, Phased, Keeps, KeepsIn};
 ghost use Rattle.session.specs.Standing.{TakesTable};
 
@@ -61,7 +61,7 @@ impl Session {
         let mut sets = self.sets;
         let n = self.row_count;
         let k = self.set_count;
-        let loaded = table::load_rows(&mut high, &mut low, &mut sets, n, k, batch);
+        let loaded = row_table::load_rows(&mut high, &mut low, &mut sets, n, k, batch);
         let answer = loaded.answer;
         self.take_table(&high, &low, sets, loaded.rows, loaded.sets, answer)
     }
@@ -75,8 +75,8 @@ impl Session {
         let mut high = keys.high;
         let mut low = keys.low;
         let n = self.row_count;
-        let left = table::withdraw_rows(&mut high, &mut low, n, batch);
-        let found = table::collect_sets(&high, &low, left.rows);
+        let left = row_table::withdraw_rows(&mut high, &mut low, n, batch);
+        let found = row_table::collect_sets(&high, &low, left.rows);
         let sets = found.sets;
         let answer = left.answer;
         self.take_table(&high, &low, sets, left.rows, found.count, answer)

@@ -22,7 +22,7 @@ impl Session {
         let low = keys.low;
         let a = self.automaton();
         let kept = self.kept();
-        let answer = printing::print(buffer, v, &high, &low, n, &sets, k, a, kept);
+        let answer = whole_sheet::print(buffer, v, &high, &low, n, &sets, k, a, kept);
         Reply {
             session: self,
             answer,

@@ -17,7 +17,7 @@ impl Session {
         let keys = self.keys();
         let high = keys.high;
         let low = keys.low;
-        let answer = printing::saved::save(buffer, &high, &low, n);
+        let answer = whole_sheet::saved::save(buffer, &high, &low, n);
         Reply {
             session: self,
             answer,

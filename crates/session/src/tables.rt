@@ -8,7 +8,7 @@ use machine::MOST_SETS;
 use machine::Phase;
 use rows::Row;
 ghost use Prim.Native.Nat.{_≤_};
-ghost use Rattle.table.specs.Arrays.{Keyed};
+ghost use Rattle.row_table.specs.Arrays.{Keyed};
 ghost use Rattle.session.specs.Promise.{Fresh, Ranged};
 ghost use Rattle.session.specs.Standing.{standing, Slotted, Reads};
 

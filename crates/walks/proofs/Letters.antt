@@ -10,8 +10,8 @@ use lib.ListN.{getD}
 use borrow.Author.Tests.{eqb-true, ltb-true}
 use Rattle.masks.specs.Mask.{member, _∈_}
 use Rattle.masks.proofs.Member.{lt-or-le, or-cases, not-both}
-use Rattle.sorted.specs.declared.Place.the-variants.{At, Gap}
-use Rattle.sorted.specs.Keys.{key-less, Ascending, SearchesKey}
+use Rattle.sorted_keys.specs.declared.Place.the-variants.{At, Gap}
+use Rattle.sorted_keys.specs.Keys.{key-less, Ascending, SearchesKey}
 use Rattle.rows.specs.declared.Row.the-variants.{Successor}
 use Rattle.rows.specs.Keys.{high as high-of}
 use Rattle.rows.proofs.Keys.{letter-least, letter-between, letter-order}

@@ -25,8 +25,8 @@ use Rattle.search.specs.Graph.{Graph, TurnedGraph}
 use Rattle.search.specs.Hops.{Lettered, Claimed, all-mask}
 use Rattle.search.specs.Promises.{Stands}
 use Rattle.search.proofs.Accepting.{has-all}
-use Rattle.table.specs.Arrays.{Keyed}
-use Rattle.table.proofs.Keys.{none, ascending, row-at}
+use Rattle.row_table.specs.Arrays.{Keyed}
+use Rattle.row_table.proofs.Keys.{none, ascending, row-at}
 use Rattle.walks.specs.Layers.{Ahead}
 use Rattle.walks.specs.Choices.{Way, InOrder}
 

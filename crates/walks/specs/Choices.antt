@@ -6,7 +6,7 @@ use mathlib.Core.List.{List, [], _∷_}
 use lib.ListN.{getD}
 use Rattle.lists.specs.Order.{_≺_}
 use Rattle.masks.specs.Mask.{_∈_}
-use Rattle.sorted.specs.Keys.{Ascending}
+use Rattle.sorted_keys.specs.Keys.{Ascending}
 use Rattle.rows.specs.declared.Row.the-variants.{Successor}
 use Rattle.rows.specs.Keys.{row-from}
 use Rattle.orderings.specs.Steps.{Label, letter, ω, back, mix}

@@ -13,7 +13,7 @@ ghost use mathlib.Core.Logic.{_↔_};
 ghost use Prim.Native.Nat.{ℕ, _≤_, _<_};
 ghost use lib.ListN.{length};
 ghost use Rattle.masks.specs.Mask.{member, _∈_};
-ghost use Rattle.sorted.specs.Keys.{Ascending};
+ghost use Rattle.sorted_keys.specs.Keys.{Ascending};
 ghost use Rattle.search.specs.Graph.{graph-of};
 ghost use Rattle.walks.specs.Layers.{Ahead, Spread};
 ghost use Rattle.walks.specs.Choices.{LetterAt, Way, RowsFrom, Picked, PickedPass, InOrder, Chooses};
@@ -27,8 +27,8 @@ use masks::union;
 use rows::Row;
 use rows::high_of;
 use rows::row_of;
-use sorted::Place;
-use sorted::find_key;
+use sorted_keys::Place;
+use sorted_keys::find_key;
 
 // How many steps lead to the nearest final state, or that none do.
 enum Distance {
@@ -83,24 +83,24 @@ fn in_layer(layer: u64, t: u8) -> bool
 }
 
 // The place of the first row whose key is no less than `h`, where the keys stand in order.
-fn rows_from(high: &[u64; 256], low: &[u64; 256], n: usize, h: u64) -> usize
-    requires { ⌜ n ≤ 256 ⌝ }
-    ensures { λ r. ⌜ RowsFrom (now (high .entry)) (now (low .entry)) n h r ⌝ }
+fn rows_from(high: &[u64; 256], low: &[u64; 256], row_count: usize, h: u64) -> usize
+    requires { ⌜ «row_count» ≤ 256 ⌝ }
+    ensures { λ r. ⌜ RowsFrom (now (high .entry)) (now (low .entry)) «row_count» h r ⌝ }
 {
-    match find_key(high, low, n, h, 0) {
+    match find_key(high, low, row_count, h, 0) {
         Place::At(i) => i,
         Place::Gap(i) => i,
     }
 }
 
 // The first letter step from `a` into `layer`: the rows of `a` stand together, by letter and then by target.
-fn first_letter(high: &[u64; 256], low: &[u64; 256], n: usize, a: u8, layer: u64) -> Choice
-    requires { ⌜ (n ≤ 256) × (a < 64) ⌝ }
-    ensures { λ r. ⌜ Picked layer (LetterAt (now (high .entry)) n a) 0 (Ascending (now (high .entry)) (now (low .entry)) n) r ⌝ }
+fn first_letter(high: &[u64; 256], low: &[u64; 256], row_count: usize, a: u8, layer: u64) -> Choice
+    requires { ⌜ («row_count» ≤ 256) × (a < 64) ⌝ }
+    ensures { λ r. ⌜ Picked layer (LetterAt (now (high .entry)) «row_count» a) 0 (Ascending (now (high .entry)) (now (low .entry)) «row_count») r ⌝ }
 {
     let least = high_of(Row::Successor(a, 0, 0));
-    let mut i = rows_from(high, low, n, least);
-    while i < n {
+    let mut i = rows_from(high, low, row_count, least);
+    while i < row_count {
         // The second word of a letter row's key says nothing.
         let Row::Successor(from, letter, to) = row_of(high[i], 0) else {
             return Choice::Nothing;
@@ -158,17 +158,17 @@ fn first_pass(
 fn first_step(
     high: &[u64; 256],
     low: &[u64; 256],
-    n: usize,
+    row_count: usize,
     back: &[u64; 256],
     force: Claims,
     a: u8,
     layer: u64,
 ) -> Choice
-    requires { ⌜ (n ≤ 256) × (a < 64) ⌝ }
-    ensures { λ r. ⌜ Chooses layer (Way (now (high .entry)) n (graph-of (now (back .entry))) force a)
-        (InOrder (now (high .entry)) (now (low .entry)) n (graph-of (now (back .entry))) force) r ⌝ }
+    requires { ⌜ («row_count» ≤ 256) × (a < 64) ⌝ }
+    ensures { λ r. ⌜ Chooses layer (Way (now (high .entry)) «row_count» (graph-of (now (back .entry))) force a)
+        (InOrder (now (high .entry)) (now (low .entry)) «row_count» (graph-of (now (back .entry))) force) r ⌝ }
 {
-    let letter = first_letter(high, low, n, a, layer);
+    let letter = first_letter(high, low, row_count, a, layer);
     let Choice::Nothing = letter else {
         return letter;
     };
@@ -211,16 +211,16 @@ fn no_walk() -> FoundWalk
 fn follow(
     high: &[u64; 256],
     low: &[u64; 256],
-    n: usize,
+    row_count: usize,
     back: &[u64; 256],
     force: Claims,
     layers: &[u64; 64],
     start: u8,
     d: usize,
 ) -> FoundWalk
-    requires { ⌜ (n ≤ 256) × (start < 64) × (d ≤ 64) ⌝ }
-    ensures { λ r. ⌜ Follows (Way (now (high .entry)) n (graph-of (now (back .entry))) force)
-        (InOrder (now (high .entry)) (now (low .entry)) n (graph-of (now (back .entry))) force) (now (layers .entry)) start d r ⌝ }
+    requires { ⌜ («row_count» ≤ 256) × (start < 64) × (d ≤ 64) ⌝ }
+    ensures { λ r. ⌜ Follows (Way (now (high .entry)) «row_count» (graph-of (now (back .entry))) force)
+        (InOrder (now (high .entry)) (now (low .entry)) «row_count» (graph-of (now (back .entry))) force) (now (layers .entry)) start d r ⌝ }
 {
     let mut kinds = [0u8; 64];
     let mut values = [0u64; 64];
@@ -229,7 +229,7 @@ fn follow(
     let mut i = 0;
     while i < d {
         let layer = layers[d - 1 - i];
-        let step = first_step(high, low, n, back, force, a, layer);
+        let step = first_step(high, low, row_count, back, force, a, layer);
         let Choice::Taken(kind, value, target) = step else {
             break;
         };
@@ -253,22 +253,22 @@ fn follow(
 pub fn first_walk(
     high: &[u64; 256],
     low: &[u64; 256],
-    n: usize,
+    row_count: usize,
     back: &[u64; 256],
     force: Claims,
     initials: u64,
     finals: u64,
 ) -> FoundWalk
-    requires { ⌜ n ≤ 256 ⌝ }
+    requires { ⌜ «row_count» ≤ 256 ⌝ }
     ensures bounded { λ r. ⌜ Bounded r ⌝ }
-    ensures first { λ r. ⌜ FirstWalk (now (high .entry)) (now (low .entry)) n (graph-of (now (back .entry))) force
+    ensures first { λ r. ⌜ FirstWalk (now (high .entry)) (now (low .entry)) «row_count» (graph-of (now (back .entry))) force
         initials finals r ⌝ }
 {
     let mut layers = [0u64; 64];
     match spread(back, force, initials, finals, &mut layers) {
         Distance::At(d) => {
             let start = lowest(intersection(layers[d], initials));
-            follow(high, low, n, back, force, &layers, start, d)
+            follow(high, low, row_count, back, force, &layers, start, d)
         }
         Distance::Nowhere => no_walk(),
     }

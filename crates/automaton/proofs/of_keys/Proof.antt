@@ -11,18 +11,18 @@ use borrow.Author.Needs.{needs}
 use Rattle.rows.specs.declared.Row.{Row}
 use Rattle.rows.specs.declared.Row.the-variants.{Initial}
 use Rattle.rows.specs.Rows.{AllFit}
-use Rattle.table.specs.Arrays.{Keyed}
-use Rattle.table.proofs.Keys.{row-there}
+use Rattle.row_table.specs.Arrays.{Keyed}
+use Rattle.row_table.proofs.Keys.{row-there}
 use Rattle.automaton.proofs.Passing.{Passed, none-passed, pass-initial, pass-final, pass-step, pass-left, pass-right, passed-all}
 use Rattle.automaton.proofs.of_keys.Statement.{statement}
 use Rattle.automaton.proofs.of_keys.Tie as tie
 
 abbrev Inv-loop : tie.InvT-loop
-Inv-loop high low n sets k graph₀ initials₀ finals₀ i₀ graph initials finals i =
-    (i ≤ n) × ((rows : List Row) → AllFit rows → Keyed rows high low n → Passed sets k (take i rows) graph initials finals)
+Inv-loop high low row-count sets set-count graph₀ initials₀ finals₀ i₀ graph initials finals i =
+    (i ≤ row-count) × ((rows : List Row) → AllFit rows → Keyed rows high low row-count → Passed sets set-count (take i rows) graph initials finals)
 
 abbrev μ-loop : tie.MeasureT-loop
-μ-loop high low n sets k graph₀ initials₀ finals₀ i₀ graph initials finals i = n - i
+μ-loop high low row-count sets set-count graph₀ initials₀ finals₀ i₀ graph initials finals i = row-count - i
 
 loop-holds : tie.Need-loop-holds Inv-loop μ-loop
 loop-holds c = (omega arith, λ rows f key. none-passed _ _ _ (c .with-sets .ensures))
@@ -39,14 +39,14 @@ loop-again c =
       λ rows f key.
           let x = getD rows i (Initial 0) in
           let p = h .loop .inv .1 rows f key in
-          let there : x ≡ read .row-of .result = sym (read .row-of .ensures ∙ row-there rows f (a .high .now) (a .low .now) (a .n) key i (read .before .before .before .loop-test .taken)) in
+          let there : x ≡ read .row-of .result = sym (read .row-of .ensures ∙ row-there rows f (a .high .now) (a .low .now) (a .row-count) key i (read .before .before .before .loop-test .taken)) in
           rw (add-one i, take-suc rows i (Initial 0) (omega (arith, key .count)))
           (elim (c .match .came) [
-            | inl w ↦ rw (w .4, w .5, w .6) (pass-initial sets (a .k) few p x (there ∙ w .1 .given .1) (w .3 .ensures))
-            | inr (inl w) ↦ rw (w .4, w .5, w .6) (pass-final sets (a .k) few p x (there ∙ w .1 .given .1) (w .3 .ensures))
-            | inr (inr (inl w)) ↦ rw (w .5, w .6, w .7) (pass-step sets (a .k) few p x (there ∙ w .1 .given .1) (w .4 .ensures))
-            | inr (inr (inr (inl w))) ↦ rw (w .6, w .7, w .8) (pass-left sets (a .k) few p x (w .4 .result) (there ∙ w .1 .given .1) (w .4 .ensures) (w .5 .ensures))
-            | inr (inr (inr (inr w))) ↦ rw (w .6, w .7, w .8) (pass-right sets (a .k) few p x (w .4 .result) (there ∙ w .1 .given .1) (w .4 .ensures) (w .5 .ensures))
+            | inl w ↦ rw (w .4, w .5, w .6) (pass-initial sets (a .set-count) few p x (there ∙ w .1 .given .1) (w .3 .ensures))
+            | inr (inl w) ↦ rw (w .4, w .5, w .6) (pass-final sets (a .set-count) few p x (there ∙ w .1 .given .1) (w .3 .ensures))
+            | inr (inr (inl w)) ↦ rw (w .5, w .6, w .7) (pass-step sets (a .set-count) few p x (there ∙ w .1 .given .1) (w .4 .ensures))
+            | inr (inr (inr (inl w))) ↦ rw (w .6, w .7, w .8) (pass-left sets (a .set-count) few p x (w .4 .result) (there ∙ w .1 .given .1) (w .4 .ensures) (w .5 .ensures))
+            | inr (inr (inr (inr w))) ↦ rw (w .6, w .7, w .8) (pass-right sets (a .set-count) few p x (w .4 .result) (there ∙ w .1 .given .1) (w .4 .ensures) (w .5 .ensures))
           ]),
     )
 
@@ -54,7 +54,7 @@ returns : tie.Need-returns Inv-loop μ-loop
 returns c rows f key count are =
     let l = c .before .loop in
     let s = c .before .before .before in
-    passed-all rows f (s .args .sets .now) (s .args .k) count are (s .pre .1) _
+    passed-all rows f (s .args .sets .now) (s .args .set-count) count are (s .pre .1) _
     (rw (take-all (l .i) rows (omega (arith, key .count, c .loop-test .left))) at (l .inv .1 rows f key))
 
 pub of-keys-spec : {M : Type 1} → statement M

@@ -8,8 +8,8 @@ use Rattle.cases.proofs.main.Reads as reads
 use Rattle.cases.proofs.main.Lts as lts
 use Rattle.cases.proofs.run_case.Reads as run-case-reads
 use Rattle.os.proofs.arg_count.Reads as arg-count-reads
-use Rattle.output.proofs.say.Reads as say-reads
-use Rattle.output.proofs.say_number.Reads as say-number-reads
+use Rattle.program_output.proofs.say.Reads as say-reads
+use Rattle.program_output.proofs.say_number.Reads as say-number-reads
 
 abbrev Inv-loop : tie.InvT-loop
 Inv-loop count index₀ cases₀ different₀ t5 t6 t7 index cases different = (index ≤ 1001) × (cases ≤ index) × (different ≤ index)

@@ -3,7 +3,7 @@ use mathlib.Core.List.{List, []}
 use Rattle.rows.specs.declared.Row.{Row}
 use Rattle.machine.proofs.Answers.{wrote-not-done, refused-not-done}
 use Rattle.machine.proofs.Tables.{no-rows}
-use Rattle.table.specs.Arrays.{Filed}
+use Rattle.row_table.specs.Arrays.{Filed}
 use Rattle.checker.proofs.Outcomes.{empty-filed, load-refused, load-done}
 use borrow.Author.Needs.{needs}
 use Rattle.checker.proofs.check.Statement.{statement}

@@ -12,10 +12,10 @@ use Rattle.rounds.proofs.mark.Statement.{statement}
 use Rattle.rounds.proofs.mark.Tie as tie
 
 abbrev Inv-loop : tie.InvT-loop
-Inv-loop rounds₀ opened k rest₀ rounds rest = Storing (λ j x. x ≡ k) rounds₀ opened rest rounds
+Inv-loop rounds₀ opened round rest₀ rounds rest = Storing (λ j x. x ≡ round) rounds₀ opened rest rounds
 
 abbrev μ-loop : tie.MeasureT-loop
-μ-loop rounds₀ opened k rest₀ rounds rest = ones rest
+μ-loop rounds₀ opened round rest₀ rounds rest = ones rest
 
 loop-holds : tie.Need-loop-holds Inv-loop μ-loop
 loop-holds c = storing-start
@@ -24,7 +24,7 @@ loop-less : tie.Need-loop-less Inv-loop μ-loop
 loop-less c = c .before .take-lowest .ensures .fewer
 
 loop-again : tie.Need-loop-again Inv-loop μ-loop
-loop-again c = let low = c .before in let at = low .before .before in storing-more (at .loop .rounds) (at .before .args .k) (low .take-lowest .ensures) (at .loop .inv) refl
+loop-again c = let low = c .before in let at = low .before .before in storing-more (at .loop .rounds) (at .before .args .round) (low .take-lowest .ensures) (at .loop .inv) refl
 
 returns : tie.Need-returns Inv-loop μ-loop
 returns c =
@@ -34,8 +34,8 @@ returns c =
     record {
       length-is = inv .length-is;
       rounds-are = λ e i l. ⊎-elim
-          (λ h. storing-end inv (c .loop-test .left) e i h ∙ sym (ap (λ (b : Bool). cond b (a .k) (getD (a .rounds .now) i 0)) h))
-          (λ h. inv .beyond i h ∙ sym (ap (λ (b : Bool). cond b (a .k) (getD (a .rounds .now) i 0)) h)) (true-or-false (member i (a .opened)));
+          (λ h. storing-end inv (c .loop-test .left) e i h ∙ sym (ap (λ (b : Bool). cond b (a .round) (getD (a .rounds .now) i 0)) h))
+          (λ h. inv .beyond i h ∙ sym (ap (λ (b : Bool). cond b (a .round) (getD (a .rounds .now) i 0)) h)) (true-or-false (member i (a .opened)));
     }
 
 pub mark-spec : {M : Type 1} → statement M

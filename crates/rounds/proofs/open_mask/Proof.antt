@@ -11,11 +11,11 @@ use Rattle.rounds.proofs.open_mask.Statement.{statement}
 use Rattle.rounds.proofs.open_mask.Tie as tie
 
 abbrev Inv-loop : tie.InvT-loop
-Inv-loop rounds n r₀ i₀ r i =
-    (i ≤ n) × ((k : ℕ) → (k ∈ r) ↔ ((k < i) × (0 < getD rounds k 0)))
+Inv-loop rounds set-count r₀ i₀ r i =
+    (i ≤ set-count) × ((k : ℕ) → (k ∈ r) ↔ ((k < i) × (0 < getD rounds k 0)))
 
 abbrev μ-loop : tie.MeasureT-loop
-μ-loop rounds n r₀ i₀ r i = n - i
+μ-loop rounds set-count r₀ i₀ r i = set-count - i
 
 loop-holds : tie.Need-loop-holds Inv-loop μ-loop
 loop-holds c = (omega arith, λ k. ((λ h. absurd (in-none k h)), λ p. absurd (omega (arith, p .0))))

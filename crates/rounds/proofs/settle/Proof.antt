@@ -21,13 +21,13 @@ use Rattle.rounds.proofs.settle.Statement.{statement}
 use Rattle.rounds.proofs.settle.Tie as tie
 
 abbrev Inv-loop : tie.InvT-loop
-Inv-loop graph initials finals n back force₀ new₀ to₀ from₀ seen₀ phase₀ loop-rounds₀ mix-rounds₀ count₀ force new to from seen phase loop-rounds mix-rounds count =
-    (count ≤ 129) × (length to ≡ 64) × (length from ≡ 64) × TurnedGraph (graph-of graph) (graph-of back) × Tracked (graph-of graph) (graph-of back) n force new to from
+Inv-loop graph initials finals set-count back force₀ new₀ to₀ from₀ seen₀ phase₀ loop-rounds₀ mix-rounds₀ count₀ force new to from seen phase loop-rounds mix-rounds count =
+    (count ≤ 129) × (length to ≡ 64) × (length from ≡ 64) × TurnedGraph (graph-of graph) (graph-of back) × Tracked (graph-of graph) (graph-of back) set-count force new to from
     × Reached (graph-of graph) force initials seen
-    × ((rows : List Row) → Given rows (graph-of graph) initials finals n → Stage rows (graph-of graph) n force loop-rounds mix-rounds phase count)
+    × ((rows : List Row) → Given rows (graph-of graph) initials finals set-count → Stage rows (graph-of graph) set-count force loop-rounds mix-rounds phase count)
 
 abbrev μ-loop : tie.MeasureT-loop
-μ-loop graph initials finals n back force₀ new₀ to₀ from₀ seen₀ phase₀ loop-rounds₀ mix-rounds₀ count₀ force new to from seen phase loop-rounds mix-rounds count = 129 - count
+μ-loop graph initials finals set-count back force₀ new₀ to₀ from₀ seen₀ phase₀ loop-rounds₀ mix-rounds₀ count₀ force new to from seen phase loop-rounds mix-rounds count = 129 - count
 
 abbrev start : (c : tie.At-loop Inv-loop μ-loop) → tie.Start Inv-loop μ-loop
 start c = c .before .before .before .before .before .before .before .before
@@ -54,7 +54,7 @@ loop-holds c =
         backward = turned-ends .all-ends2 .ensures .0;
       },
       first .reached .ensures,
-      λ rows g. subst (λ (p : Phase). Stage rows (graph-of (a .graph .now)) (a .n) none (replicate 64 0) (replicate 64 0) p 0) (sym (c .judge .ensures))
+      λ rows g. subst (λ (p : Phase). Stage rows (graph-of (a .graph .now)) (a .set-count) none (replicate 64 0) (replicate 64 0) p 0) (sym (c .judge .ensures))
           (stage-start rows g (tested .accepted .result) (tested .accepted .ensures (graph-of (a .graph .now)) none (first .reached .ensures))),
     )
 
@@ -67,12 +67,12 @@ at-turn c = c .before .before .before .before .before .before .before
 
 -- the ends of all steps with the claims in force
 forward : (c : tie.After-add-ends Inv-loop μ-loop) → let at = at-turn c in let a = start at .args in
-    EndsBelow (graph-of (a .graph .now)) (at .loop .force) (a .n) (c .add-ends .last .0)
+    EndsBelow (graph-of (a .graph .now)) (at .loop .force) (a .set-count) (c .add-ends .last .0)
 forward c i l = let at = at-turn c in let t = at .loop .inv .4 in
     c .add-ends .ensures .0 .ends-are (at .loop .inv .1) i l (t .old) (at .loop .force) (t .with-new) (t .forward i l)
 
 backward : (c : tie.After-add-ends Inv-loop μ-loop) → let at = at-turn c in
-    EndsBelow (graph-of (back at)) (at .loop .force) (start at .args .n) (c .add-ends .last .1 .0)
+    EndsBelow (graph-of (back at)) (at .loop .force) (start at .args .set-count) (c .add-ends .last .1 .0)
 backward c i l = let at = at-turn c in let t = at .loop .inv .4 in
     c .add-ends .ensures .1 .ends-are (at .loop .inv .2) i l (t .old) (at .loop .force) (t .with-new) (t .backward i l)
 
@@ -112,7 +112,7 @@ loop-again c =
       inv .3,
       record { old = old; with-new = all .with-new .ensures; forward = forward ends; backward = backward ends },
       seen .reached-more .ensures,
-      λ rows g. subst (λ (p : Phase). Stage rows (graph-of (a .graph .now)) (a .n) both (looped .mark .last .0) (c .mark2 .last .0) p (at .loop .count + 1)) (sym (judged .judge2 .ensures))
+      λ rows g. subst (λ (p : Phase). Stage rows (graph-of (a .graph .now)) (a .set-count) both (looped .mark .last .0) (c .mark2 .last .0) p (at .loop .count + 1)) (sym (judged .judge2 .ensures))
           (stage-more rows g (inv .6 rows g) (test .is-running .ensures .to (not-false (test .is-running .result) (ends .before .before .before .before .if1 .left))) (record {
             opens = new .open-next .ensures;
             with-new = all .with-new .ensures;

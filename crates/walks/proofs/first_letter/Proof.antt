@@ -13,15 +13,15 @@ use Rattle.walks.proofs.first_letter.Statement.{statement}
 use Rattle.walks.proofs.first_letter.Tie as tie
 
 abbrev Inv-loop : tie.InvT-loop
-Inv-loop high low n a layer least i₀ i = Passed high low n a layer i
+Inv-loop high low row-count a layer least i₀ i = Passed high low row-count a layer i
 
 abbrev μ-loop : tie.MeasureT-loop
-μ-loop high low n a layer least i₀ i = n - i
+μ-loop high low row-count a layer least i₀ i = row-count - i
 
 loop-holds : tie.Need-loop-holds Inv-loop μ-loop
 loop-holds c =
     let a = c .before .before .args in
-    passed-start (now (a .high)) (now (a .low)) (a .n) (a .a) (a .layer) (c .rows-from .result) (rw (c .before .high-of .ensures) at (c .rows-from .ensures))
+    passed-start (now (a .high)) (now (a .low)) (a .row-count) (a .a) (a .layer) (c .rows-from .result) (rw (c .before .high-of .ensures) at (c .rows-from .ensures))
 
 element-copy-out-row-of : tie.Need-element-copy-out-row-of Inv-loop μ-loop
 element-copy-out-row-of c = omega (arith, c .before .before .before .before .pre)
@@ -34,7 +34,7 @@ returns c =
     let a = p .before .before .before .args in
     record {
       is = tt;
-      first = passed-stop (now (a .high)) (now (a .low)) (a .n) (a .a) (a .layer) (p .loop .i) (p .loop .inv) (c .before .before .before .loop-test .taken)
+      first = passed-stop (now (a .high)) (now (a .low)) (a .row-count) (a .a) (a .layer) (p .loop .i) (p .loop .inv) (c .before .before .before .loop-test .taken)
           (λ x t r. let e : row .result ≡ Successor (a .a) x t = row .ensures ∙ r in miss (0 ∷ 1 ∷ 3 ∷ 4 ∷ []) 2 tt (rw e at (c .match .keys2)));
     }
 
@@ -47,7 +47,7 @@ returns-2 c =
     let a = p .before .before .before .args in
     record {
       is = tt;
-      first = passed-stop (now (a .high)) (now (a .low)) (a .n) (a .a) (a .layer) (p .loop .i) (p .loop .inv) (known .before .before .before .before .loop-test .taken)
+      first = passed-stop (now (a .high)) (now (a .low)) (a .row-count) (a .a) (a .layer) (p .loop .i) (p .loop .inv) (known .before .before .before .before .loop-test .taken)
           (λ x t r. let e : row .result ≡ Successor (a .a) x t = row .ensures ∙ r in let k = known .from .given .1 in c .if1 .taken (cc));
     }
 
@@ -67,7 +67,7 @@ returns-3 c =
     let row = here (c .before .before) in
     record {
       is = (refl, (p .loop .i, within, row), sym (c .before .in-layer .ensures) ∙ c .if2 .taken);
-      first = λ asc. letter-first (now (a .high)) (now (a .low)) (a .n) (a .a) (a .layer) (p .loop .i) _ _ (p .loop .inv) within row asc 0;
+      first = λ asc. letter-first (now (a .high)) (now (a .low)) (a .row-count) (a .a) (a .layer) (p .loop .i) _ _ (p .loop .inv) within row asc 0;
     }
 
 loop-again : tie.Need-loop-again Inv-loop μ-loop
@@ -75,14 +75,14 @@ loop-again c =
     let known = c .before .before .before .before in
     let p = known .before .before .before .before .before in
     let a = p .before .before .before .args in
-    passed-more (now (a .high)) (now (a .low)) (a .n) (a .a) (a .layer) (p .loop .i) _ _ (p .loop .inv) (known .before .before .before .before .loop-test .taken) (here (c .before .before))
+    passed-more (now (a .high)) (now (a .low)) (a .row-count) (a .a) (a .layer) (p .loop .i) _ _ (p .loop .inv) (known .before .before .before .before .loop-test .taken) (here (c .before .before))
     (sym (c .before .in-layer .ensures) ∙ c .if2 .left)
 
 returns-4 : tie.Need-returns-4 Inv-loop μ-loop
 returns-4 c =
     let p = c .before in
     let a = p .before .before .before .args in
-    record { is = tt; first = passed-end (now (a .high)) (now (a .low)) (a .n) (a .a) (a .layer) (p .loop .i) (p .loop .inv) (c .loop-test .left) }
+    record { is = tt; first = passed-end (now (a .high)) (now (a .low)) (a .row-count) (a .a) (a .layer) (p .loop .i) (p .loop .inv) (c .loop-test .left) }
 
 pub first-letter-spec : {M : Type 1} → statement M
 first-letter-spec =

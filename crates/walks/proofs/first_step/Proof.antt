@@ -11,10 +11,10 @@ use Rattle.walks.proofs.first_step.Tie as tie
 
 -- the steps from the state, and the order that the contract assumes
 abbrev ways : tie.Start → Label → ℕ → Type 0
-ways s = let a = s .args in Way (now (a .high)) (a .n) (graph-of (now (a .back))) (a .force) (a .a)
+ways s = let a = s .args in Way (now (a .high)) (a .row-count) (graph-of (now (a .back))) (a .force) (a .a)
 
 abbrev ordered : tie.Start → Type 0
-ordered s = let a = s .args in InOrder (now (a .high)) (now (a .low)) (a .n) (graph-of (now (a .back))) (a .force)
+ordered s = let a = s .args in InOrder (now (a .high)) (now (a .low)) (a .row-count) (graph-of (now (a .back))) (a .force)
 
 abbrev lacking : (s : tie.Start) → ℕ → Type 0
 lacking s k = ordered s → Lacks (s .args .layer) (ways s) (ordered s) k

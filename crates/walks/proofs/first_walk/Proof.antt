@@ -53,7 +53,7 @@ returns c =
     let low = c .before .before .lowest in
     let layer = getD (left-by t) (t .before .d .given .0 .0) 0 in
     let low-start : low .result < 64 = member-lt (low .result) r (low .ensures .0) in (
-      bounded (now (a .high)) (a .n) (graph-of (now (a .back))) (a .force) (left-by t) (low .result) (t .before .d .given .0 .0) (c .follow .result) (c .follow .ensures)
+      bounded (now (a .high)) (a .row-count) (graph-of (now (a .back))) (a .force) (left-by t) (low .result) (t .before .d .given .0 .0) (c .follow .result) (c .follow .ensures)
           low-start (laid t .0),
       λ g rows claims k turned is count keyed table is-initials is-finals.
           answer-best turned is count keyed table (a .initials) (a .finals) is-initials is-finals (left-by t) (t .before .d .given .0 .0) (low .result) (c .follow .result) (laid t)

@@ -12,11 +12,11 @@ use Rattle.walks.proofs.follow.Statement.{statement}
 use Rattle.walks.proofs.follow.Tie as tie
 
 abbrev Inv-loop : tie.InvT-loop
-Inv-loop high low n back force layers start d kinds₀ values₀ targets₀ a₀ i₀ kinds values targets a i =
-    Taking (Way high n (graph-of back) force) (InOrder high low n (graph-of back) force) layers start d kinds values targets a i
+Inv-loop high low row-count back force layers start d kinds₀ values₀ targets₀ a₀ i₀ kinds values targets a i =
+    Taking (Way high row-count (graph-of back) force) (InOrder high low row-count (graph-of back) force) layers start d kinds values targets a i
 
 abbrev μ-loop : tie.MeasureT-loop
-μ-loop high low n back force layers start d kinds₀ values₀ targets₀ a₀ i₀ kinds values targets a i =
+μ-loop high low row-count back force layers start d kinds₀ values₀ targets₀ a₀ i₀ kinds values targets a i =
     d - i
 
 loop-holds : tie.Need-loop-holds Inv-loop μ-loop
@@ -36,7 +36,7 @@ loop-again c =
     let a = p .before .args in
     let at = p .loop in
     let x = c .before .step .given in
-    take-more (Way (now (a .high)) (a .n) (graph-of (now (a .back))) (a .force)) (InOrder (now (a .high)) (now (a .low)) (a .n) (graph-of (now (a .back))) (a .force)) (now (a .layers)) (a .start) (a .d)
+    take-more (Way (now (a .high)) (a .row-count) (graph-of (now (a .back))) (a .force)) (InOrder (now (a .high)) (now (a .low)) (a .row-count) (graph-of (now (a .back))) (a .force)) (now (a .layers)) (a .start) (a .d)
     (at .kinds) (at .values) (at .targets) (at .a) (at .i) (x .0 .0) (x .0 .1 .0) (x .0 .1 .1 .0) (c .before .before .before .before .before .loop-test .taken) (p .before .pre .2) (at .inv) (rw (x .1) at (c .before .before .before .first-step .ensures))
 
 returns : tie.Need-returns Inv-loop μ-loop

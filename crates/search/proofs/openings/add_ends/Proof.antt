@@ -11,11 +11,11 @@ use Rattle.search.proofs.openings.add_ends.Statement.{statement}
 use Rattle.search.proofs.openings.add_ends.Tie as tie
 
 abbrev Inv-loop : tie.InvT-loop
-Inv-loop to₀ from₀ graph back new n i₀ to from i =
-    (i ≤ n) × Added (graph-of graph) new i to₀ to × Added (graph-of back) new i from₀ from
+Inv-loop to₀ from₀ graph back new set-count i₀ to from i =
+    (i ≤ set-count) × Added (graph-of graph) new i to₀ to × Added (graph-of back) new i from₀ from
 
 abbrev μ-loop : tie.MeasureT-loop
-μ-loop to₀ from₀ graph back new n i₀ to from i = n - i
+μ-loop to₀ from₀ graph back new set-count i₀ to from i = set-count - i
 
 loop-holds : tie.Need-loop-holds Inv-loop μ-loop
 loop-holds c = let a = c .args in
@@ -46,7 +46,7 @@ loop-again c =
 returns : tie.Need-returns Inv-loop μ-loop
 returns c =
     let at = c .before in
-    let e : at .loop .i ≡ at .before .args .n = omega arith in (
+    let e : at .loop .i ≡ at .before .args .set-count = omega arith in (
       record { length-is = at .loop .inv .1 .length-is; ends-are = λ h i l. at .loop .inv .1 .done h i (omega (arith, e, l)) },
       record { length-is = at .loop .inv .2 .length-is; ends-are = λ h i l. at .loop .inv .2 .done h i (omega (arith, e, l)) },
     )

@@ -11,10 +11,10 @@ use Rattle.search.proofs.openings.all_ends.Statement.{statement}
 use Rattle.search.proofs.openings.all_ends.Tie as tie
 
 abbrev Inv-loop : tie.InvT-loop
-Inv-loop graph force n r₀ i₀ r i = (i ≤ n) × (length r ≡ 64) × EndsBelow (graph-of graph) force i r
+Inv-loop graph force set-count r₀ i₀ r i = (i ≤ set-count) × (length r ≡ 64) × EndsBelow (graph-of graph) force i r
 
 abbrev μ-loop : tie.MeasureT-loop
-μ-loop graph force n r₀ i₀ r i = n - i
+μ-loop graph force set-count r₀ i₀ r i = set-count - i
 
 loop-holds : tie.Need-loop-holds Inv-loop μ-loop
 loop-holds c = (omega arith, refl, λ j l. absurd (omega arith))
@@ -32,7 +32,7 @@ loop-again c =
 
 returns : tie.Need-returns Inv-loop μ-loop
 returns c =
-    let e : c .before .loop .i ≡ c .before .before .args .n = omega arith in
+    let e : c .before .loop .i ≡ c .before .before .args .set-count = omega arith in
     (rw e at (c .before .loop .inv .2), c .before .loop .inv .1)
 
 pub all-ends-spec : {M : Type 1} → statement M

@@ -11,11 +11,11 @@ use Rattle.search.proofs.openings.open_next.Statement.{statement}
 use Rattle.search.proofs.openings.open_next.Tie as tie
 
 abbrev Inv-loop : tie.InvT-loop
-Inv-loop graph back force to from n loops₀ mixes₀ i₀ loops mixes i =
-    (i ≤ n) × OpensBelow (graph-of graph) force n i (record { loops = loops; mixes = mixes })
+Inv-loop graph back force to from set-count loops₀ mixes₀ i₀ loops mixes i =
+    (i ≤ set-count) × OpensBelow (graph-of graph) force set-count i (record { loops = loops; mixes = mixes })
 
 abbrev μ-loop : tie.MeasureT-loop
-μ-loop graph back force to from n loops₀ mixes₀ i₀ loops mixes i = n - i
+μ-loop graph back force to from set-count loops₀ mixes₀ i₀ loops mixes i = set-count - i
 
 loop-holds : tie.Need-loop-holds Inv-loop μ-loop
 loop-holds c = (
@@ -56,7 +56,7 @@ loop-again c =
 
 returns : tie.Need-returns Inv-loop μ-loop
 returns c =
-    let e : c .before .loop .i ≡ c .before .before .args .n = omega arith in
+    let e : c .before .loop .i ≡ c .before .before .args .set-count = omega arith in
     rw e at (c .before .loop .inv .1)
 
 pub open-next-spec : {M : Type 1} → statement M

@@ -5,7 +5,7 @@ use native.Mathlib.Omega.{arith}
 use borrow.Author.Needs.{needs}
 use lib.ListN.{length, length-map, length-set}
 use Rattle.session.specs.Standing.{first-rows}
-use Rattle.table.specs.Arrays.{Keyed}
+use Rattle.row_table.specs.Arrays.{Keyed}
 use Rattle.session.proofs.Standing.{no-key, key-more}
 use Rattle.session.proofs.Session.keys.Statement.{statement}
 use Rattle.session.proofs.Session.keys.Tie as tie

@@ -1,5 +1,5 @@
 -- `load_open` meets its contract: what the arrays come to is what the machine comes to.
-use Rattle.table.specs.Arrays.{Filed}
+use Rattle.row_table.specs.Arrays.{Filed}
 use mathlib.Core.List.{List}
 use Rattle.rows.specs.declared.Row.{Row}
 use Rattle.machine.proofs.Phases.{load-feeds}

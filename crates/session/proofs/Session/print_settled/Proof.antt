@@ -1,7 +1,7 @@
 -- `print_settled` meets its contract.
 use mathlib.Core.Path.{subst}
 use Rattle.rounds.specs.declared.Progress.{Progress}
-use Rattle.printing.specs.Promise.{PrintsSheet}
+use Rattle.whole_sheet.specs.Promise.{PrintsSheet}
 use Rattle.session.proofs.Written.{prints-settled}
 use borrow.Author.Needs.{needs}
 use Rattle.session.proofs.Session.print_settled.Statement.{statement}

@@ -1,7 +1,7 @@
 -- `take_table` meets its contract, by the answer.
 use mathlib.Core.Path.{refl, sym, subst}
 use Rattle.machine.specs.declared.Answer.{Answer}
-use Rattle.table.specs.Arrays.{Filed}
+use Rattle.row_table.specs.Arrays.{Filed}
 use Rattle.session.specs.Standing.{reply, TakesTable}
 use Rattle.session.proofs.Batches.{takes-done}
 use borrow.Author.Needs.{needs}

@@ -1,5 +1,5 @@
 -- `withdraw_open` meets its contract: what the arrays come to is what the machine comes to.
-use Rattle.table.specs.Arrays.{Keyed, Filed}
+use Rattle.row_table.specs.Arrays.{Keyed, Filed}
 use Rattle.machine.proofs.Phases.{withdraw-feeds}
 use Rattle.session.proofs.Whole.{keyed-of}
 use Rattle.session.proofs.Batches.{batch-keeps}

@@ -8,7 +8,7 @@ use lib.ListN.{length, take, set}
 use lib.Seq.{take-length}
 use Rattle.rows.specs.declared.Row.{Row}
 use Rattle.rows.specs.Rows.{AllFit}
-use Rattle.table.specs.Arrays.{padded, Keyed}
+use Rattle.row_table.specs.Arrays.{padded, Keyed}
 use Rattle.session.specs.declared.Slot.{Slot}
 use Rattle.session.specs.Record.{slot, blank}
 use Rattle.session.proofs.Standing.{slot-more}

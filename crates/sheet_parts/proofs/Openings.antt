@@ -1,0 +1,223 @@
+-- The openings that arrays have are those of the machine, in the order of the sheet.
+use Prim.Native.Nat.{ℕ, zero, suc, _+_, _-_, _<_}
+use mathlib.Core.Path.{_≡_, refl, ap, sym, _∙_, subst}
+use mathlib.Core.Bool.{Bool, true, false, cond}
+use mathlib.Core.Logic.{_⊎_, inl, inr, ⊎-elim}
+use mathlib.Core.List.{List, [], _∷_, _++_, map, List·Memᴰ·head, List·Memᴰ·tail, List·Memᴰ·not-nil, List·Memᴰ·cases-cons, List·Memᴰ·append-cases, List·Memᴰ·eq-of-singleton, Memᴰ·append-left, Memᴰ·append-right}
+use native.Mathlib.Omega.{arith}
+use native.Mathlib.Decide.{decLt}
+use lib.Dec.{eqb}
+use lib.ListN.{length, getD}
+use Rattle.lists.specs.Tests.{Decides, _among_, _part-of_, Once}
+use Rattle.lists.specs.Order.{_≺_, Sorted}
+use Rattle.lists.proofs.Deciding.{eqb·, yes·, no·, map-in}
+use Rattle.lists.proofs.Places.{place-of, rising}
+use Rattle.lists.proofs.Counting.{once-append}
+use Rattle.lists.proofs.Sorting.{before·, ≺-irreflexive, ≺-trans, sorted-append, sorted-same}
+use Rattle.rows.specs.declared.Row.{Row}
+use Rattle.rows.specs.Rows as Rows
+use Rattle.rows.specs.Rows.{SetOf}
+use Rattle.rows.proofs.Sets.{sets-iff, sets-sorted, sets-once}
+use Rattle.orderings.specs.Steps.{Claim, loops, mixes, set-of}
+use Rattle.orderings.specs.Rounds.{Opens}
+use Rattle.orderings.specs.Timelines.{timelines}
+use Rattle.orderings.proofs.Depths.{opens-iff-least}
+use Rattle.orderings.proofs.Timelines.{lawful}
+use Rattle.machine.specs.Machine.{Opening, Machine, open-claims}
+use Rattle.machine.specs.WellFormed.{Worked, WellFormed}
+use Rattle.machine.specs.Statements.{loop-first, opening-key, Listed}
+use Rattle.machine.proofs.Statements.{worked-listed}
+use Rattle.sheet_parts.specs.Openings.{upto, opened, opening-in, openings-at, openings-below, openings-in, Noted, Recorded}
+
+-- ---- lists one after another
+
+upto-out : {A : Type 0} (f : ℕ → List A) (x : A) (n : ℕ) → x among upto f n → (i : ℕ) × (i < n) × x among f i
+unfolding upto
+upto-out f x zero m = absurd (List·Memᴰ·not-nil m)
+upto-out f x (suc n) m = ⊎-elim (λ i. let r = upto-out f x n i in (r .0, omega (arith, r .1), r .2)) (λ i. (n, omega arith, i)) (List·Memᴰ·append-cases (upto f n) m)
+
+upto-in : {A : Type 0} (f : ℕ → List A) (x : A) (i n : ℕ) → i < n → x among f i → x among upto f n
+unfolding upto
+upto-in f x i zero h m = absurd (omega arith)
+upto-in f x i (suc n) h m = go (decLt i n) (λ l. upto-in f x i n l m)
+  where
+    go : Dec (i < n) → (i < n → x among upto f n) → x among (upto f n ++ f n)
+    go (yes l) r = Memᴰ·append-left _ (r l)
+    go (no l) r = let e : i ≡ n = omega arith in Memᴰ·append-right (upto f n) (subst (λ (j : ℕ). x among f j) e m)
+
+-- in order, and none twice
+abbrev Ordered : {A : Type 0} → (A → List ℕ) → List A → Type 0
+Ordered key l = Sorted key l × Once l
+
+module _ {A : Type 0} (key : A → List ℕ) where
+  ordered-append : (l m : List A) → Ordered key l → Ordered key m → ((x y : A) → x among l → y among m → key x ≺ key y) → Ordered key (l ++ m)
+  ordered-append l m p q f = (
+    sorted-append key l m (p .0) (q .0) (λ x y i j h. ≺-irreflexive (key x) (≺-trans (key x) (key y) (key x) (f x y i j) h)),
+    once-append l m (p .1) (q .1) (λ x i j. ≺-irreflexive (key x) (f x x i j)),
+  )
+
+  upto-ordered : (f : ℕ → List A) (n : ℕ) → ((i : ℕ) → i < n → Ordered key (f i)) → ((i j : ℕ) (x y : A) → i < j → j < n → x among f i → y among f j → key x ≺ key y) → Ordered key (upto f n)
+  unfolding upto
+  upto-ordered f zero o b = (tt, tt)
+  upto-ordered f (suc n) o b = ordered-append (upto f n) (f n) (upto-ordered f n (λ i h. o i (omega arith)) (λ i j x y h l. b i j x y h (omega arith))) (o n (omega arith))
+      (λ x y i j. let r = upto-out f x n i in b (r .0) n x y (r .1) (omega arith) (r .2) j)
+
+first-less : {x y : ℕ} (l m : List ℕ) → x < y → (x ∷ l) ≺ (y ∷ m)
+first-less {x} {y} l m h = before· x y l m .of (inl h)
+
+next-less : {x y : ℕ} (l m : List ℕ) → x ≡ y → l ≺ m → (x ∷ l) ≺ (y ∷ m)
+next-less {x} {y} l m e h = before· x y l m .of (inr (e, h))
+
+-- by round, then by set
+round-less : (x y : Opening) → x .round < y .round → opening-key x ≺ opening-key y
+round-less x y h = first-less (set-of (x .claim) ∷ loop-first (x .claim) ∷ []) (set-of (y .claim) ∷ loop-first (y .claim) ∷ []) h
+
+set-less : (x y : Opening) → x .round ≡ y .round → set-of (x .claim) < set-of (y .claim) → opening-key x ≺ opening-key y
+set-less x y e h = next-less (set-of (x .claim) ∷ loop-first (x .claim) ∷ []) (set-of (y .claim) ∷ loop-first (y .claim) ∷ []) e (first-less (loop-first (x .claim) ∷ []) (loop-first (y .claim) ∷ []) h)
+
+-- ---- openings
+
+in-out : (k round : ℕ) (c : Claim) (o : Opening) → o among opening-in k round c → (round ≡ k) × (o ≡ opened k c)
+unfolding opening-in
+in-out k round c o m = go (eqb round k) (eqb· round k) m
+  where
+    go : (b : Bool) → Decides b (round ≡ k) → o among cond b (opened k c ∷ []) [] → (round ≡ k) × (o ≡ opened k c)
+    go true d i = (yes· d, List·Memᴰ·eq-of-singleton i)
+    go false d i = absurd (List·Memᴰ·not-nil i)
+
+in-in : (k round : ℕ) (c : Claim) → round ≡ k → opened k c among opening-in k round c
+unfolding opening-in
+in-in k round c e = go (eqb round k) (eqb· round k)
+  where
+    go : (b : Bool) → Decides b (round ≡ k) → opened k c among cond b (opened k c ∷ []) []
+    go true d = List·Memᴰ·head refl
+    go false d = absurd (no· d e)
+
+in-ordered : (k round : ℕ) (c : Claim) → Ordered opening-key (opening-in k round c)
+unfolding opening-in
+in-ordered k round c = go (eqb round k)
+  where
+    go : (b : Bool) → Ordered opening-key (cond b (opened k c ∷ []) [])
+    go true = (((λ y m. absurd (List·Memᴰ·not-nil m)), tt), ((λ m. List·Memᴰ·not-nil m), tt))
+    go false = (tt, tt)
+
+claim-apart : (c d : Claim) → set-of c ≡ set-of d → loop-first c ≡ loop-first d → c ≡ d
+claim-apart (loops P) (loops Q) e f = ap loops e
+claim-apart (loops P) (mixes Q) e f = absurd (omega arith)
+claim-apart (mixes P) (loops Q) e f = absurd (omega arith)
+claim-apart (mixes P) (mixes Q) e f = ap mixes e
+
+-- the key tells openings apart
+key-apart : (o p : Opening) → opening-key o ≡ opening-key p → o ≡ p
+key-apart o p e =
+    let r : o .round ≡ p .round = cc in
+    let s : set-of (o .claim) ≡ set-of (p .claim) = cc in
+    let f : loop-first (o .claim) ≡ loop-first (p .claim) = cc in
+    same-opening o p r (claim-apart (o .claim) (p .claim) s f)
+  where
+    same-opening : (o p : Opening) → o .round ≡ p .round → o .claim ≡ p .claim → o ≡ p
+    same-opening o p r c = ap (λ (n : ℕ). opened n (o .claim)) r ∙ ap (λ (d : Claim). opened (p .round) d) c
+
+-- no claim is opened twice
+once-claims : (l : List Opening) → Once (map (λ (o : Opening). o .claim) l) → (o p : Opening) → o among l → p among l → o .claim ≡ p .claim → o ≡ p
+once-claims [] u o p i j e = absurd (List·Memᴰ·not-nil i)
+once-claims (x ∷ l) u o p i j e =
+    ⊎-elim
+    (λ a. ⊎-elim (λ b. a ∙ sym b) (λ b. absurd (twice p b (sym (ap (λ (q : Opening). q .claim) a) ∙ e))) (List·Memᴰ·cases-cons j))
+    (λ a. ⊎-elim (λ b. absurd (twice o a (sym (ap (λ (q : Opening). q .claim) b) ∙ sym e))) (λ b. once-claims l (u .1) o p a b e) (List·Memᴰ·cases-cons j))
+    (List·Memᴰ·cases-cons i)
+  where
+    twice : (q : Opening) → q among l → x .claim ≡ q .claim → ⊥
+    twice q m f = u .0 (subst (λ (c : Claim). c among map (λ (o : Opening). o .claim) l) (sym f) (map-in (λ (o : Opening). o .claim) m))
+
+-- a claim that a round opens is about a set of a standing row, and the round is not 0
+subject : (rows : List Row) (k : ℕ) (c : Claim) → Opens (timelines rows) k c → (0 < k) × SetOf rows (set-of c)
+subject rows zero c o = absurd o
+subject rows (suc k) c o = (omega arith, o .0 .0)
+
+module _ (m : Machine) (loop-rounds mix-rounds sets : List ℕ) (n : ℕ) (a : Recorded m loop-rounds mix-rounds sets n) where
+  abbrev at : ℕ → ℕ → List Opening
+  at k i = openings-at loop-rounds mix-rounds sets k i
+
+  at-out : (k i : ℕ) (o : Opening) → o among at k i
+      → ((getD loop-rounds i 0 ≡ k) × (o ≡ opened k (loops (getD sets i 0)))) ⊎ ((getD mix-rounds i 0 ≡ k) × (o ≡ opened k (mixes (getD sets i 0))))
+  at-out k i o m = ⊎-elim (λ j. inl (in-out k (getD loop-rounds i 0) (loops (getD sets i 0)) o j)) (λ j. inr (in-out k (getD mix-rounds i 0) (mixes (getD sets i 0)) o j))
+      (List·Memᴰ·append-cases (opening-in k (getD loop-rounds i 0) (loops (getD sets i 0))) m)
+
+  at-round : (k i : ℕ) (o : Opening) → o among at k i → o .round ≡ k
+  at-round k i o m = ⊎-elim (λ p. ap (λ (q : Opening). q .round) (p .1)) (λ p. ap (λ (q : Opening). q .round) (p .1)) (at-out k i o m)
+
+  at-set : (k i : ℕ) (o : Opening) → o among at k i → set-of (o .claim) ≡ getD sets i 0
+  at-set k i o m = ⊎-elim (λ p. ap (λ (q : Opening). set-of (q .claim)) (p .1)) (λ p. ap (λ (q : Opening). set-of (q .claim)) (p .1)) (at-out k i o m)
+
+  at-ordered : (k i : ℕ) → Ordered opening-key (at k i)
+  at-ordered k i = ordered-append opening-key _ _ (in-ordered k (getD loop-rounds i 0) (loops (getD sets i 0))) (in-ordered k (getD mix-rounds i 0) (mixes (getD sets i 0)))
+      (λ x y p q. let P = getD sets i 0 in
+      rw (in-out k (getD loop-rounds i 0) (loops P) x p .1, in-out k (getD mix-rounds i 0) (mixes P) y q .1) (next-less {x = k} (P ∷ 0 ∷ []) (P ∷ 1 ∷ []) refl (next-less {x = P} (0 ∷ []) (1 ∷ []) refl (first-less {x = 0} {y = 1} [] [] (omega arith)))))
+
+  words-rise : (i j : ℕ) → i < j → j < n → getD sets i 0 < getD sets j 0
+  words-rise i j h l = rw (a .words-are i (omega arith), a .words-are j l) (rising (Rows.standing-sets (m .rows)) (sets-sorted (m .rows)) (sets-once (m .rows)) i j h (omega (arith, a .count)))
+
+  below-ordered : (k : ℕ) → Ordered opening-key (openings-below loop-rounds mix-rounds sets n k)
+  below-ordered k = upto-ordered opening-key (at k) n (λ i h. at-ordered k i) (λ i j x y h l p q.
+      set-less x y (at-round k i x p ∙ sym (at-round k j y q)) (omega (arith, at-set k i x p, at-set k j y q, words-rise i j h l)))
+
+  in-round : (k : ℕ) (o : Opening) → o among openings-below loop-rounds mix-rounds sets n k → o .round ≡ k
+  in-round k o m = let r = upto-out (at k) o n m in at-round k (r .0) o (r .2)
+
+  all-ordered : (rounds : ℕ) → Ordered opening-key (openings-in loop-rounds mix-rounds sets n rounds)
+  all-ordered rounds = upto-ordered opening-key _ rounds (λ k h. below-ordered (k + 1)) (λ i j x y h l p q.
+      round-less x y (omega (arith, in-round (i + 1) x p, in-round (j + 1) y q)))
+
+  -- a round that is not 0 is that of an opening
+  noted-out : (c : Claim) (round k : ℕ) (o : Opening) → Noted m c round → round ≡ k + 1 → o ≡ opened (k + 1) c → o among m .openings
+  noted-out c round k o d e f = ⊎-elim (λ p. absurd (omega (arith, p .1)))
+      (λ i. subst (λ (x : Opening). x among m .openings) (ap (λ (r : ℕ). opened r c) e ∙ sym f) i) d
+
+  all-open : (rounds : ℕ) → openings-in loop-rounds mix-rounds sets n rounds part-of m .openings
+  all-open rounds o i =
+      let r = upto-out (λ k. openings-below loop-rounds mix-rounds sets n (k + 1)) o rounds i in
+      let q = upto-out (at (r .0 + 1)) o n (r .2) in
+      ⊎-elim
+      (λ p. noted-out (loops (getD sets (q .0) 0)) (getD loop-rounds (q .0) 0) (r .0) o (a .loops-are (q .0) (q .1)) (p .0) (p .1))
+      (λ p. noted-out (mixes (getD sets (q .0) 0)) (getD mix-rounds (q .0) 0) (r .0) o (a .mixes-are (q .0) (q .1)) (p .0) (p .1))
+      (at-out (r .0 + 1) (q .0) o (q .2))
+
+  module _ (d : Listed m) where
+    -- the round of a claim that is open is that of its opening
+    noted-in : (o : Opening) (c : Claim) (round : ℕ) → o among m .openings → o .claim ≡ c → Noted m c round → opened round c ≡ o
+    noted-in o c round i e t = ⊎-elim (λ p. absurd (p .0 (subst (λ (x : Claim). x among open-claims m) e (map-in (λ (o : Opening). o .claim) i))))
+        (λ j. once-claims (m .openings) (d .once) (opened round c) o j i (sym e)) t
+
+    at-place-in : (o : Opening) (c : Claim) (i : ℕ) → o among m .openings → i < n → getD sets i 0 ≡ set-of c → o .claim ≡ c → o among at (o .round) i
+    at-place-in o (loops P) i j h e f = let q = noted-in o (loops (getD sets i 0)) (getD loop-rounds i 0) j (f ∙ ap loops (sym e)) (a .loops-are i h) in
+        let r : getD loop-rounds i 0 ≡ o .round = ap (λ (x : Opening). x .round) q in
+        subst (λ (x : Opening). x among at (o .round) i) (ap (λ (k : ℕ). opened k (loops (getD sets i 0))) (sym r) ∙ q)
+        (Memᴰ·append-left _ (in-in (o .round) (getD loop-rounds i 0) (loops (getD sets i 0)) r))
+    at-place-in o (mixes P) i j h e f = let q = noted-in o (mixes (getD sets i 0)) (getD mix-rounds i 0) j (f ∙ ap mixes (sym e)) (a .mixes-are i h) in
+        let r : getD mix-rounds i 0 ≡ o .round = ap (λ (x : Opening). x .round) q in
+        subst (λ (x : Opening). x among at (o .round) i) (ap (λ (k : ℕ). opened k (mixes (getD sets i 0))) (sym r) ∙ q)
+        (Memᴰ·append-right (opening-in (o .round) (getD loop-rounds i 0) (loops (getD sets i 0))) (in-in (o .round) (getD mix-rounds i 0) (mixes (getD sets i 0)) r))
+
+    open-all : m .openings part-of openings-in loop-rounds mix-rounds sets n (m .rounds)
+    open-all o i =
+        let t = d .depths o .0 i in
+        let s = subject (m .rows) (o .round) (o .claim) (opens-iff-least (timelines (m .rows)) (lawful (m .rows)) (o .round) (o .claim) .1 (t .1)) in
+        let p = place-of (Rows.standing-sets (m .rows)) (set-of (o .claim)) (sets-iff (m .rows) (set-of (o .claim)) .1 (s .1)) in
+        let h : p .0 < n = omega (arith, p .1, a .count) in
+        let k : o .round ≡ o .round - 1 + 1 = omega (arith, s .0) in
+        let j = at-place-in o (o .claim) (p .0) i h (a .words-are (p .0) h ∙ p .2) refl in
+        upto-in (λ k. openings-below loop-rounds mix-rounds sets n (k + 1)) o (o .round - 1) (m .rounds) (omega (arith, s .0, t .0))
+        (upto-in (at (o .round - 1 + 1)) o (p .0) n h (subst (λ (x : ℕ). o among at x (p .0)) k j))
+
+    listed-are : openings-in loop-rounds mix-rounds sets n (m .rounds) ≡ m .openings
+    listed-are = sorted-same opening-key _ _ (λ x y i j. key-apart x y) (all-ordered (m .rounds) .0) (d .order) (all-ordered (m .rounds) .1) (once-openings (m .openings) (d .once)) (all-open (m .rounds)) open-all
+      where
+        once-openings : (l : List Opening) → Once (map (λ (o : Opening). o .claim) l) → Once l
+        once-openings [] u = tt
+        once-openings (o ∷ l) u = ((λ i. u .0 (map-in (λ (o : Opening). o .claim) i)), once-openings l (u .1))
+
+-- arrays that hold a machine's rounds have its openings, as its sheet lists them
+pub openings-are : (m : Machine) → WellFormed m → Worked m → (loop-rounds mix-rounds sets : List ℕ) (n : ℕ) → Recorded m loop-rounds mix-rounds sets n
+    → openings-in loop-rounds mix-rounds sets n (m .rounds) ≡ m .openings
+openings-are m w k loop-rounds mix-rounds sets n a = listed-are m loop-rounds mix-rounds sets n a (worked-listed m w k)

@@ -1,0 +1,125 @@
+-- What print answers, and what it leaves in the buffer.
+use Prim.Native.Nat.{ℕ, _+_, _<_, _≤_}
+use mathlib.Core.Path.{_≡_, refl, ap, sym, _∙_}
+use mathlib.Core.Bool.{Bool, true, false, cond}
+use mathlib.Core.Logic.{_⊎_, inl, inr, ⊎-elim}
+use mathlib.Core.Option.{some}
+use mathlib.Core.List.{List, [], _∷_, _++_, map, append-assoc, List·Memᴰ·head, List·Memᴰ·tail, List·Memᴰ·not-nil, List·Memᴰ·cases-cons}
+use native.Mathlib.Omega.{arith}
+use lib.ListN.{length, length-append}
+use Rattle.lists.specs.Tests.{Decides, _among_, gather}
+use Rattle.lists.specs.Writing as Writing
+use Rattle.lists.proofs.Deciding.{yes·, no·}
+use Rattle.orderings.specs.Steps.{Claim}
+use Rattle.orderings.specs.Decide.{same-claim}
+use Rattle.orderings.proofs.Deciding.{same-claim·}
+use Rattle.machine.specs.declared.Answer.{Answer}
+use Rattle.machine.specs.declared.Verdict.{Verdict}
+use Rattle.machine.specs.declared.Verdict.the-variants.{NonEmpty, Empty}
+use Rattle.machine.specs.declared.Phase.the-variants.{Settled}
+use Rattle.machine.specs.Machine.{Opening, Machine, open-claims}
+use Rattle.machine.specs.WellFormed.{WellFormed}
+use Rattle.machine.specs.Sheet.{verdict-line, opening-line, walk-lines, sheet}
+use Rattle.machine.specs.Calls.{Next, print, written, call, Tells, TellsText}
+use Rattle.machine.specs.Causes.{sheets}
+use Rattle.machine.proofs.Answers.{tells-as}
+use Rattle.machine.proofs.Outcomes.{writing}
+use Rattle.machine.proofs.Text.{number-length}
+use Rattle.row_table.specs.Arrays.{Worded}
+use Rattle.search.specs.declared.Claims.{Claims}
+use Rattle.search.specs.Graph.{Graph, graph-of, TurnedGraph}
+use Rattle.automaton.specs.declared.Automaton.{Automaton}
+use Rattle.automaton.proofs.Passing.{graph-worded}
+use Rattle.rounds.specs.declared.Progress.{Progress}
+use Rattle.rounds.specs.Arrays.{round-of, OpenPlaces}
+use Rattle.rounds.specs.Promises.{Mirrors}
+use Rattle.rounds.proofs.Settled.{forced-of}
+use Rattle.walks.specs.declared.FoundWalk.{FoundWalk}
+use Rattle.walks.specs.Walks.{as-found, Answers, FirstWalk}
+use Rattle.sheet_parts.specs.Openings.{opened, openings-in, Recorded}
+use Rattle.sheet_parts.proofs.Sheet.{recorded, sheet-empty, sheet-nonempty}
+use Rattle.whole_sheet.specs.Text.{openings-text, head-text, walked-text}
+use Rattle.whole_sheet.specs.Promise.{FindsWalk, PrintsSheet}
+
+-- ---- the walk
+
+pub finds : (highs lows : List ℕ) (n k : ℕ) (a : Automaton) (rounds : Progress) (back : Graph) (force : Claims) (w : FoundWalk) → TurnedGraph (graph-of (a .graph)) back
+    → OpenPlaces (rounds .«loop_rounds») k (force .loops) → OpenPlaces (rounds .«mix_rounds») k (force .mixes)
+    → FirstWalk highs lows n back force (a .initials) (a .finals) w → FindsWalk highs lows n k a rounds w
+finds highs lows n k a rounds back force w turned h g f m sets formed filed gives kept =
+    f (graph-of (a .graph)) (m .rows) (open-claims m) k turned
+    (record {
+      masked = gives .masked;
+      forced = forced-of m formed (graph-of (a .graph)) k (graph-worded (m .rows) sets k a gives (filed .1))
+          (rounds .«loop_rounds») (rounds .«mix_rounds») (kept .loops-are) (kept .mixes-are) force h g;
+    })
+    (sym (filed .1 .count)) (filed .0) (formed .table) (gives .initial-iff) (gives .final-iff)
+
+-- ---- the text
+
+-- the round of a claim is that of its opening, or 0
+noted-in : (c : Claim) (l : List Opening) → (¬ (c among map (λ (o : Opening). o .claim) l) × (round-of l c ≡ 0)) ⊎ (opened (round-of l c) c among l)
+noted-in c [] = inl ((λ m. List·Memᴰ·not-nil m), refl)
+noted-in c (o ∷ l) = go (same-claim c (o .claim)) (same-claim· c (o .claim)) (noted-in c l)
+  where
+    go : (b : Bool) → Decides b (c ≡ o .claim) → (¬ (c among map (λ (o : Opening). o .claim) l) × (round-of l c ≡ 0)) ⊎ (opened (round-of l c) c among l)
+        → (¬ (c among (o .claim ∷ map (λ (o : Opening). o .claim) l)) × (cond b (o .round) (round-of l c) ≡ 0)) ⊎ (opened (cond b (o .round) (round-of l c)) c among (o ∷ l))
+    go true d r = inr (List·Memᴰ·head (ap (λ (e : Claim). opened (o .round) e) (yes· d)))
+    go false d r = ⊎-elim (λ p. inl ((λ m. ⊎-elim (λ e. no· d e) (λ i. p .0 i) (List·Memᴰ·cases-cons m)), p .1)) (λ i. inr (List·Memᴰ·tail i)) r
+
+module _ (m : Machine) (formed : WellFormed m) (sets : List ℕ) (k : ℕ) (worded : Worded (m .rows) sets k)
+    (rounds : Progress) (kept : Mirrors m (rounds .«loop_rounds») (rounds .«mix_rounds») (rounds .phase) (rounds .rounds)) where
+  recorded-of : Recorded m (rounds .«loop_rounds») (rounds .«mix_rounds») sets k
+  recorded-of = rw (kept .loops-are, kept .mixes-are, worded .words-are, worded .count) (recorded m (round-of (m .openings)) (λ c. noted-in c (m .openings)) 64)
+
+  pub empty-sheet : m .phase ≡ Settled Empty → sheet Empty m ≡ head-text Empty sets k rounds
+  unfolding head-text
+  empty-sheet e = sheet-empty m formed (rounds .«loop_rounds») (rounds .«mix_rounds») sets k recorded-of e
+      ∙ ap (λ (c : ℕ). verdict-line Empty c ++ gather opening-line (openings-in (rounds .«loop_rounds») (rounds .«mix_rounds») sets k c)) (sym (kept .count-is))
+
+  pub nonempty-sheet : (w : FoundWalk) → Answers (m .rows) (open-claims m) w → m .phase ≡ Settled NonEmpty → sheet NonEmpty m ≡ walked-text sets k rounds w
+  unfolding head-text walked-text
+  nonempty-sheet w f e =
+      let l = walk-lines (some (as-found w)) in
+      sheet-nonempty m formed (rounds .«loop_rounds») (rounds .«mix_rounds») sets k recorded-of e w f
+      ∙ ap (λ (c : ℕ). verdict-line NonEmpty c ++ (gather opening-line (openings-in (rounds .«loop_rounds») (rounds .«mix_rounds») sets k c) ++ l)) (sym (kept .count-is))
+      ∙ sym (append-assoc (verdict-line NonEmpty (rounds .rounds)) (openings-text sets k rounds) l)
+
+-- how long the verdict's line is
+pub verdict-short : (v : Verdict) (k : ℕ) → k < 256 → length (verdict-line v k) ≤ 64
+verdict-short NonEmpty k h = simp length-append (omega (arith, number-length 3 k (omega arith) (omega arith)))
+verdict-short Empty k h = simp length-append (omega (arith, number-length 3 k (omega arith) (omega arith)))
+
+module _ (sets : List ℕ) (k : ℕ) (rounds : Progress) where
+  pub head-length : (v : Verdict) → length (head-text v sets k rounds) ≡ length (verdict-line v (rounds .rounds)) + length (openings-text sets k rounds)
+  unfolding head-text
+  head-length v = length-append (verdict-line v (rounds .rounds)) (openings-text sets k rounds)
+
+  pub walked-length : (w : FoundWalk) → length (walked-text sets k rounds w) ≡ length (head-text NonEmpty sets k rounds) + length (walk-lines (some (as-found w)))
+  unfolding walked-text
+  walked-length w = length-append (head-text NonEmpty sets k rounds) (walk-lines (some (as-found w)))
+
+  -- the openings after the verdict, and the walk after both
+  pub head-wrote : (v : Verdict) (old new : List ℕ) {r : ℕ} → Writing.Wrote (verdict-line v (rounds .rounds) ++ openings-text sets k rounds) old new r → Writing.Wrote (head-text v sets k rounds) old new r
+  unfolding head-text
+  head-wrote v old new p = p
+
+  pub walked-wrote : (w : FoundWalk) (old new : List ℕ) {r : ℕ} → Writing.Wrote (head-text NonEmpty sets k rounds ++ walk-lines (some (as-found w))) old new r → Writing.Wrote (walked-text sets k rounds w) old new r
+  unfolding walked-text
+  walked-wrote w old new p = p
+
+-- ---- what is answered
+
+-- a text that is the machine's sheet
+prints-text : (m : Machine) (v : Verdict) (text old new : List ℕ) (r : Answer) → m .phase ≡ Settled v → sheet v m ≡ text → TellsText text old new r
+    → Tells (call m (print (length old)) .answer) old new r
+prints-text m v text old new r e is t =
+    tells-as (ap (written (length old)) (sym is) ∙ sym (ap (λ (x : Next). x .answer) (writing m (sheets v (length old) e)))) t
+
+module _ (highs lows : List ℕ) (n : ℕ) (sets : List ℕ) (k : ℕ) (a : Automaton) (rounds : Progress) (old new : List ℕ) (r : Answer) where
+  pub prints-empty : TellsText (head-text Empty sets k rounds) old new r → PrintsSheet Empty highs lows n sets k a rounds old new r
+  prints-empty p m formed e filed gives kept = prints-text m Empty (head-text Empty sets k rounds) old new r e (empty-sheet m formed sets k (filed .1) rounds kept e) p
+
+  pub prints-nonempty : (w : FoundWalk) → FindsWalk highs lows n k a rounds w → TellsText (walked-text sets k rounds w) old new r → PrintsSheet NonEmpty highs lows n sets k a rounds old new r
+  prints-nonempty w f p m formed e filed gives kept =
+      prints-text m NonEmpty (walked-text sets k rounds w) old new r e (nonempty-sheet m formed sets k (filed .1) rounds kept w (f m sets formed filed gives kept) e) p

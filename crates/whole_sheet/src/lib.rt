@@ -1,0 +1,172 @@
+// The sheet of a settled automaton, written from its keys, its sets, its masks and its rounds into a lent buffer; in `saved`, its rows.
+pub mod saved;
+
+use automaton::Automaton;
+use machine::Answer;
+use machine::MOST_ROWS;
+use machine::MOST_SETS;
+use machine::Verdict;
+use rounds::Progress;
+use search::Claims;
+use search::graphs;
+use walks::FoundWalk;
+ghost use mathlib.Core.Path.{_≡_};
+ghost use mathlib.Core.Option.{some};
+ghost use Prim.Native.Nat.{_≤_, _+_};
+ghost use lib.ListN.{length};
+ghost use Rattle.lists.specs.Tests.{gather};
+ghost use Rattle.lists.specs.Writing.{Wrote, WroteAt};
+ghost use Rattle.machine.specs.declared.Verdict.the-variants.{NonEmpty, Empty};
+ghost use Rattle.machine.specs.Sheet.{opening-line, walk-lines};
+ghost use Rattle.machine.specs.Calls.{TellsText};
+ghost use Rattle.walks.specs.Walks.{as-found, Bounded};
+ghost use Rattle.sheet_parts.specs.Openings.{openings-in};
+ghost use Rattle.whole_sheet.specs.Text.{head-text, walked-text};
+ghost use Rattle.whole_sheet.specs.Promise.{FindsWalk, PrintsSheet};
+
+// Writes the lines of the openings from `at` on, and returns the next place.
+fn openings_at(
+    buf: &mut [u8],
+    at: usize,
+    looped: &[u8; MOST_SETS],
+    mixed: &[u8; MOST_SETS],
+    sets: &[u64; MOST_SETS],
+    set_count: usize,
+    count: u8,
+) -> usize
+    requires { ⌜ («set_count» ≤ 64)
+        × (at + length (gather opening-line (openings-in (now looped) (now mixed) (now sets) «set_count» count)) ≤ length (now buf)) ⌝ }
+    ensures { λ r. ⌜ WroteAt
+        (gather opening-line (openings-in (now (looped .entry)) (now (mixed .entry)) (now (sets .entry)) «set_count» count))
+        (now (buf .entry)) (now (buf .exit)) at r ⌝ }
+{
+    at + sheet_parts::put_openings(&mut buf[at..], looped, mixed, sets, set_count, count)
+}
+
+// Writes the lines of a walk from `at` on, and returns the next place.
+fn walk_at(buf: &mut [u8], at: usize, walk: FoundWalk) -> usize
+    requires { ⌜ Bounded walk × (at + length (walk-lines (some (as-found walk))) ≤ length (now buf)) ⌝ }
+    ensures { λ r. ⌜ WroteAt (walk-lines (some (as-found walk))) (now (buf .entry)) (now (buf .exit)) at r ⌝ }
+{
+    at + sheet_parts::put_walk(&mut buf[at..], walk)
+}
+
+// How long the lines of the verdict and of the openings are.
+fn head_len(v: Verdict, sets: &[u64; MOST_SETS], set_count: usize, rounds: Progress) -> usize
+    requires { ⌜ «set_count» ≤ 64 ⌝ }
+    ensures { λ r. ⌜ (r ≡ length (head-text v (now (sets .entry)) «set_count» rounds)) × (r ≤ 1100000) ⌝ }
+{
+    let looped = rounds.loop_rounds;
+    let mixed = rounds.mix_rounds;
+    let count = rounds.rounds;
+    let first = sheet_lines::verdict_line_len(v, count as u64);
+    first + sheet_parts::openings_len(&looped, &mixed, sets, set_count, count)
+}
+
+// Writes the lines of the verdict and of the openings.
+fn put_head(
+    buffer: &mut [u8],
+    v: Verdict,
+    sets: &[u64; MOST_SETS],
+    set_count: usize,
+    rounds: Progress,
+) -> usize
+    requires { ⌜ («set_count» ≤ 64) × (length (head-text v (now sets) «set_count» rounds) ≤ length (now buffer)) ⌝ }
+    ensures { λ r. ⌜ Wrote (head-text v (now (sets .entry)) «set_count» rounds)
+        (now (buffer .entry)) (now (buffer .exit)) r ⌝ }
+{
+    let looped = rounds.loop_rounds;
+    let mixed = rounds.mix_rounds;
+    let count = rounds.rounds;
+    let at = sheet_lines::put_verdict_line(buffer, v, count as u64);
+    openings_at(buffer, at, &looped, &mixed, sets, set_count, count)
+}
+
+// The first of the shortest walks from an initial to a final state, with the claims that are open.
+fn first_walk(
+    high: &[u64; MOST_ROWS],
+    low: &[u64; MOST_ROWS],
+    row_count: usize,
+    set_count: usize,
+    a: Automaton,
+    rounds: Progress,
+) -> FoundWalk
+    requires { ⌜ («row_count» ≤ 256) × («set_count» ≤ 64) ⌝ }
+    ensures bounded { λ r. ⌜ Bounded r ⌝ }
+    ensures finds { λ r. ⌜ FindsWalk (now (high .entry)) (now (low .entry)) «row_count» «set_count» a rounds r ⌝ }
+{
+    let graph = a.graph;
+    let looped = rounds.loop_rounds;
+    let mixed = rounds.mix_rounds;
+    let back = graphs::turned(&graph);
+    let loops = rounds::open_mask(&looped, set_count);
+    let mixes = rounds::open_mask(&mixed, set_count);
+    let force = Claims { loops, mixes };
+    walks::first_walk(high, low, row_count, &back, force, a.initials, a.finals)
+}
+
+// The sheet of an empty automaton: the verdict and the openings.
+fn print_empty(
+    buffer: &mut [u8],
+    sets: &[u64; MOST_SETS],
+    set_count: usize,
+    rounds: Progress,
+) -> Answer
+    requires { ⌜ «set_count» ≤ 64 ⌝ }
+    ensures { λ r. ⌜ TellsText (head-text Empty (now (sets .entry)) «set_count» rounds)
+        (now (buffer .entry)) (now (buffer .exit)) r ⌝ }
+{
+    let head = head_len(Verdict::Empty, sets, set_count, rounds);
+    if buffer.len() < head {
+        return Answer::Refused(12, 0);
+    }
+    let wrote = put_head(buffer, Verdict::Empty, sets, set_count, rounds);
+    Answer::Wrote(wrote)
+}
+
+// The sheet of a non-empty one: the verdict, the openings and the walk.
+fn print_nonempty(
+    buffer: &mut [u8],
+    sets: &[u64; MOST_SETS],
+    set_count: usize,
+    rounds: Progress,
+    walk: FoundWalk,
+) -> Answer
+    requires { ⌜ («set_count» ≤ 64) × Bounded walk ⌝ }
+    ensures { λ r. ⌜ TellsText (walked-text (now (sets .entry)) «set_count» rounds walk)
+        (now (buffer .entry)) (now (buffer .exit)) r ⌝ }
+{
+    let head = head_len(Verdict::NonEmpty, sets, set_count, rounds);
+    let len = head + sheet_parts::walk_len(walk);
+    if buffer.len() < len {
+        return Answer::Refused(12, 0);
+    }
+    let at = put_head(buffer, Verdict::NonEmpty, sets, set_count, rounds);
+    let wrote = walk_at(buffer, at, walk);
+    Answer::Wrote(wrote)
+}
+
+// The sheet of the automaton, settled with the verdict, into the buffer; nothing where the buffer is too short.
+pub fn print(
+    buffer: &mut [u8],
+    verdict: Verdict,
+    high: &[u64; MOST_ROWS],
+    low: &[u64; MOST_ROWS],
+    row_count: usize,
+    sets: &[u64; MOST_SETS],
+    set_count: usize,
+    a: Automaton,
+    rounds: Progress,
+) -> Answer
+    requires { ⌜ («row_count» ≤ 256) × («set_count» ≤ 64) ⌝ }
+    ensures { λ r. ⌜ PrintsSheet verdict (now (high .entry)) (now (low .entry)) «row_count» (now (sets .entry)) «set_count» a rounds
+        (now (buffer .entry)) (now (buffer .exit)) r ⌝ }
+{
+    match verdict {
+        Verdict::NonEmpty => {
+            let walk = first_walk(high, low, row_count, set_count, a, rounds);
+            print_nonempty(buffer, sets, set_count, rounds, walk)
+        }
+        Verdict::Empty => print_empty(buffer, sets, set_count, rounds),
+    }
+}
