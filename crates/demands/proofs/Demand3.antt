@@ -11,6 +11,7 @@ use Rattle.machine.specs.Machine.{Machine}
 use Rattle.machine.specs.Sheet.{sheet}
 use Rattle.machine.specs.Calls.{print, Outcome, done, wrote, refused, answer-of, call, second, buffer-after}
 use Rattle.machine.specs.WellFormed.{WellFormed}
+use Rattle.machine.proofs.Second.{second-works}
 use Rattle.machine.proofs.Outcomes.{Done, comes}
 use Rattle.machine.proofs.Statements.{second-is, print-accepts, prints}
 use Rattle.demands.specs.Trace.{plain-after}
@@ -36,6 +37,7 @@ module _ (m : Machine) (w : WellFormed m) where
             (g ∙ ap length k, rw g (j ∙ ap (λ (t : List ℕ). t ++ drop (length l) old) k));
         sheet-is = second-prints;
         kept = λ x. absurd (x (length l, i));
+        worked = second-works (m .rows) (w .table);
         numbered = p .numbered;
       }
   at-print old new (refused n place) b e i j = let p = prints m w (length old) in
@@ -47,6 +49,7 @@ module _ (m : Machine) (w : WellFormed m) where
         exact = λ k v x y. let z : _≡_ {A = ℕ} 0 1 = cc in absurd (omega arith);
         sheet-is = second-prints;
         kept = λ x. j;
+        worked = second-works (m .rows) (w .table);
         numbered = p .numbered;
       }
 

@@ -21,7 +21,7 @@ use Rattle.machine.specs.Search.{shortest}
 use Rattle.machine.specs.Sheet.{verdict-line, opening-line, walk-lines, sheet}
 use Rattle.machine.specs.Calls.{Call, load, print, save, wrote, answer-of, call, second}
 use Rattle.machine.specs.Causes.{Cause}
-use Rattle.machine.specs.Statements.{Listed, Number}
+use Rattle.machine.specs.Statements.{Listed, Number, SecondWorks}
 use Rattle.session.specs.declared.Session.{Session}
 use Rattle.session.specs.declared.Reply.{Reply}
 use Rattle.session.specs.Record.{record-of}
@@ -93,7 +93,9 @@ pub record ExactPrint (m : Machine) (old new : List ℕ) (a : Answer) : Type 0 w
       → call (second (m .rows)) (print size) .answer ≡ wrote (sheet v (second (m .rows)))
   -- else the buffer is as it was
   pub kept : ¬ ((n : ℕ) × (a ≡ Wrote n)) → new ≡ old
-  -- the second machine is settled with the same verdict, and its round number is the depth that the demand names, at most 129
+  -- the second machine comes from the open machine with these rows by close and rounds as document 01 states them, and no other machine does
+  pub worked : SecondWorks (m .rows)
+  -- it is settled with the same verdict, and its round number is the depth that the demand names, at most 129
   pub numbered : (v : Verdict) → m .phase ≡ Settled v
       → (second (m .rows) .phase ≡ Settled v) × Number (m .rows) v (second (m .rows) .rounds) × (second (m .rows) .rounds ≤ 129)
 

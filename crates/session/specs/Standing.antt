@@ -58,7 +58,7 @@ with-rounds s r =
       «loop_rounds» = r .«loop_rounds»;
       «mix_rounds» = r .«mix_rounds»;
       phase = r .phase;
-      rounds = r .count;
+      rounds = r .rounds;
     }
 
 -- the array of the rows that have the first n keys
