@@ -4,7 +4,9 @@ use search::graphs::LEFTS;
 use search::graphs::RIGHTS;
 use search::graphs::SETS;
 use sorted_keys::Place;
+ghost use mathlib.Core.Path.{_≡_};
 ghost use Prim.Native.Nat.{_≤_};
+ghost use lib.ListN.{replicate};
 ghost use Rattle.automaton.specs.Promise.{Adds, AddsAt, HasSets, Places, GivesKeyed};
 
 // The graph of some rows as one array of masks; their initial and their final states.
@@ -46,17 +48,15 @@ fn place(sets: &[u64; 64], set_count: usize, x: u64) -> usize
     }
 }
 
-// The graph with these sets and nothing else.
-fn with_sets(sets: &[u64; 64]) -> [u64; 256]
-    ensures { λ r. ⌜ HasSets (now (sets .entry)) 64 r ⌝ }
+// Puts the sets into their part of a graph that has nothing yet.
+fn put_sets(graph: &mut [u64; 256], sets: &[u64; 64])
+    ensures { λ _. ⌜ (now (graph .entry) ≡ replicate 256 0 → HasSets (now (sets .entry)) 64 (now (graph .exit))) ⌝ }
 {
-    let mut graph = [0u64; 256];
     let mut i = 0;
     while i < 64 {
         graph[SETS + i] = sets[i];
         i += 1;
     }
-    graph
 }
 
 // The automaton of the rows that have the first `n` keys, whose sets are the first `k`: each row adds one state to one mask.
@@ -70,7 +70,8 @@ pub fn of_keys(
     requires { ⌜ («row_count» ≤ 256) × («set_count» ≤ 64) ⌝ }
     ensures { λ r. ⌜ GivesKeyed (now (high .entry)) (now (low .entry)) «row_count» (now (sets .entry)) «set_count» r ⌝ }
 {
-    let mut graph = with_sets(sets);
+    let mut graph = [0u64; 256];
+    put_sets(&mut graph, sets);
     let mut initials: u64 = 0;
     let mut finals: u64 = 0;
     let mut i = 0;

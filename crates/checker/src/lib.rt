@@ -17,8 +17,7 @@ fn settled(a: Automaton, set_count: usize) -> Progress
     requires { ⌜ «set_count» ≤ 64 ⌝ }
     ensures { λ r. ⌜ Settles (graph-of (a .graph)) (a .initials) (a .finals) «set_count» r ⌝ }
 {
-    let graph = a.graph;
-    rounds::settle(&graph, a.initials, a.finals, set_count)
+    rounds::settle(&a.graph, a.initials, a.finals, set_count)
 }
 
 // Closes the table that the arrays hold, settles it and prints its sheet.

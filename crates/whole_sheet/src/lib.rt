@@ -95,10 +95,9 @@ fn first_walk(
     ensures bounded { λ r. ⌜ Bounded r ⌝ }
     ensures finds { λ r. ⌜ FindsWalk (now (high .entry)) (now (low .entry)) «row_count» «set_count» a rounds r ⌝ }
 {
-    let graph = a.graph;
     let looped = rounds.loop_rounds;
     let mixed = rounds.mix_rounds;
-    let back = graphs::turned(&graph);
+    let back = graphs::turned(&a.graph);
     let loops = rounds::open_mask(&looped, set_count);
     let mixes = rounds::open_mask(&mixed, set_count);
     let force = Claims { loops, mixes };

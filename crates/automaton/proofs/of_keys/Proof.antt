@@ -1,6 +1,6 @@
 -- `of_keys` meets its contract. The loop's invariant: the masks are those of the rows below i.
 use Prim.Native.Nat.{_-_, _≤_}
-use mathlib.Core.Path.{_≡_, sym, _∙_}
+use mathlib.Core.Path.{_≡_, refl, sym, _∙_}
 use mathlib.Core.Logic.{inl, inr}
 use mathlib.Core.List.{List}
 use native.Mathlib.Omega.{arith}
@@ -25,14 +25,14 @@ abbrev μ-loop : tie.MeasureT-loop
 μ-loop high low row-count sets set-count graph₀ initials₀ finals₀ i₀ graph initials finals i = row-count - i
 
 loop-holds : tie.Need-loop-holds Inv-loop μ-loop
-loop-holds c = (omega arith, λ rows f key. none-passed _ _ _ (c .with-sets .ensures))
+loop-holds c = (omega arith, λ rows f key. none-passed _ _ _ (c .put-sets .ensures refl))
 
 loop-again : tie.Need-loop-again Inv-loop μ-loop
 loop-again c =
     let read = c .before in
     let h = read .before .before .before .before in
-    let a = h .before .before .args in
-    let few = h .before .before .pre .1 in
+    let a = h .before .before .before .args in
+    let few = h .before .before .before .pre .1 in
     let sets = a .sets .now in
     let i = h .loop .i in (
       omega arith,
@@ -53,7 +53,7 @@ loop-again c =
 returns : tie.Need-returns Inv-loop μ-loop
 returns c rows f key count are =
     let l = c .before .loop in
-    let s = c .before .before .before in
+    let s = c .before .before .before .before in
     passed-all rows f (s .args .sets .now) (s .args .set-count) count are (s .pre .1) _
     (rw (take-all (l .i) rows (omega (arith, key .count, c .loop-test .left))) at (l .inv .1 rows f key))
 

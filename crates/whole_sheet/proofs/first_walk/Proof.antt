@@ -12,7 +12,7 @@ returns c =
     let turned = loops .before .before in
     let a = turned .before .before .before .before .before .args in (
       c .first-walk .ensures .0,
-      finds (a .high .now) (a .low .now) (a .row-count) (a .set-count) (a .a) (a .rounds) (graph-of (turned .turned .result)) (record { loops = loops .open-mask .result; mixes = mixes .open-mask2 .result }) (c .first-walk .result)
+      finds (a .high .now) (a .low .now) (a .row-count) (a .set-count) (a .t5) (a .rounds) (graph-of (turned .turned .result)) (record { loops = loops .open-mask .result; mixes = mixes .open-mask2 .result }) (c .first-walk .result)
           (turned .turned .ensures) (loops .open-mask .ensures) (mixes .open-mask2 .ensures) (c .first-walk .ensures .1),
     )
 
