@@ -116,7 +116,8 @@ fn opened(graph: &[u64; 256], force: Claims, set_count: usize) -> Claims
     requires { ⌜ «set_count» ≤ 64 ⌝ }
     ensures { λ r. ⌜ OpensBelow (graph-of (now (graph .entry))) force «set_count» «set_count» r ⌝ }
 {
-    let back = graphs::turned(graph);
+    let mut back = [0u64; 256];
+    graphs::turn(graph, &mut back);
     let to = openings::all_ends(graph, force, set_count);
     let from = openings::all_ends(&back, force, set_count);
     openings::open_next(graph, &back, force, &to, &from, set_count)
@@ -158,7 +159,8 @@ pub fn settle(graph: &[u64; 256], initials: u64, finals: u64, set_count: usize) 
     requires { ⌜ «set_count» ≤ 64 ⌝ }
     ensures { λ r. ⌜ Settles (graph-of (now (graph .entry))) initials finals «set_count» r ⌝ }
 {
-    let back = graphs::turned(graph);
+    let mut back = [0u64; 256];
+    graphs::turn(graph, &mut back);
     let none = Claims { loops: 0, mixes: 0 };
     let mut force = none;
     let mut new = none;

@@ -3,7 +3,7 @@ use Prim.Native.Nat.{ℕ, _+_, _≤_, _<_}
 use mathlib.Core.Path.{_≡_, refl, ap, sym, subst, _∙_}
 use mathlib.Core.Logic.{_⊎_, inl, inr, ⊎-elim}
 use mathlib.Core.List.{List}
-use lib.ListN.{length, drop, getD, set, replicate, length-set}
+use lib.ListN.{length, drop, getD, set, length-set}
 use lib.Seq.{getD-take, getD-set-same, getD-set-other}
 use borrow.Author.Count.{below-more}
 use native.Mathlib.Omega.{arith}
@@ -70,9 +70,9 @@ pub record Turning (g back : List ℕ) (i : ℕ) (r : List ℕ) : Type 0 where
   pub lefts : (j : ℕ) → j < i → getD r (128 + j) 0 ≡ getD g (192 + j) 0
   pub rights : (j : ℕ) → j < i → getD r (192 + j) 0 ≡ getD g (128 + j) 0
 
-pub turning-none : (g back : List ℕ) → Turning g back 0 (replicate 256 0)
-turning-none g back = record {
-  size = refl;
+pub turning-none : (g back r : List ℕ) → length r ≡ 256 → Turning g back 0 r
+turning-none g back r e = record {
+  size = e;
   letters = λ j h. absurd (omega arith);
   sets = λ j h. absurd (omega arith);
   lefts = λ j h. absurd (omega arith);

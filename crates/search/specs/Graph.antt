@@ -2,7 +2,7 @@
 use Prim.Native.Nat.{ℕ}
 use mathlib.Core.Path.{_≡_}
 use mathlib.Core.List.{List}
-use lib.ListN.{take, drop, getD}
+use lib.ListN.{length, take, drop, getD}
 use Rattle.masks.specs.Graph.{Turned}
 
 -- for each state the targets of its letter steps; the sets by place; for each set the states r with row P → r, and with row r → P
@@ -26,3 +26,7 @@ pub record TurnedGraph (g back : Graph) : Type 0 where
   pub sets-are : (i : ℕ) → getD (back .sets) i 0 ≡ getD (g .sets) i 0
   pub lefts-are : (i : ℕ) → getD (back .lefts) i 0 ≡ getD (g .rights) i 0
   pub rights-are : (i : ℕ) → getD (back .rights) i 0 ≡ getD (g .lefts) i 0
+
+-- an array of 256 masks becomes the graph turned round
+abbrev pub TurnsInto : List ℕ → List ℕ → List ℕ → Type 0
+TurnsInto l old new = length old ≡ 256 → TurnedGraph (graph-of l) (graph-of new)

@@ -2,7 +2,7 @@
 ghost use mathlib.Core.Path.{_≡_};
 ghost use Prim.Native.Nat.{_≤_, _<_};
 ghost use lib.ListN.{getD};
-ghost use Rattle.search.specs.Graph.{part, graph-of, TurnedGraph};
+ghost use Rattle.search.specs.Graph.{part, graph-of, TurnsInto};
 
 // Where the parts begin; the letters stand first.
 pub const SETS: usize = 64;
@@ -43,19 +43,17 @@ pub fn rights_at(graph: &[u64; 256], i: usize) -> u64
     mask_at(graph, RIGHTS, i)
 }
 
-// The graph with every step turned round.
-pub fn turned(graph: &[u64; 256]) -> [u64; 256]
-    ensures { λ r. ⌜ TurnedGraph (graph-of (now (graph .entry))) (graph-of r) ⌝ }
+// Writes the graph with every step turned round.
+pub fn turn(graph: &[u64; 256], back: &mut [u64; 256])
+    ensures { λ _. ⌜ TurnsInto (now (graph .entry)) (now (back .entry)) (now (back .exit)) ⌝ }
 {
-    let back = masks::transpose(graph);
-    let mut r = [0u64; 256];
+    let letters = masks::transpose(graph);
     let mut i = 0;
     while i < 64 {
-        r[i] = back[i];
-        r[SETS + i] = graph[SETS + i];
-        r[LEFTS + i] = graph[RIGHTS + i];
-        r[RIGHTS + i] = graph[LEFTS + i];
+        back[i] = letters[i];
+        back[SETS + i] = graph[SETS + i];
+        back[LEFTS + i] = graph[RIGHTS + i];
+        back[RIGHTS + i] = graph[LEFTS + i];
         i += 1;
     }
-    r
 }

@@ -97,7 +97,8 @@ fn first_walk(
 {
     let looped = rounds.loop_rounds;
     let mixed = rounds.mix_rounds;
-    let back = graphs::turned(&a.graph);
+    let mut back = [0u64; 256];
+    graphs::turn(&a.graph, &mut back);
     let loops = rounds::open_mask(&looped, set_count);
     let mixes = rounds::open_mask(&mixed, set_count);
     let force = Claims { loops, mixes };

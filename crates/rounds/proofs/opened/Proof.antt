@@ -1,4 +1,5 @@
 -- `opened` meets its contract.
+use mathlib.Core.Path.{refl}
 use borrow.Author.Needs.{needs}
 use Rattle.rounds.proofs.opened.Statement.{statement}
 use Rattle.rounds.proofs.opened.Tie as tie
@@ -8,7 +9,7 @@ open-next-requires c κs =
     let from = c .before .before .before in
     let to = from .before .before in
     let back = to .before in
-    record { few = back .before .pre; turned = back .turned .ensures; forward = to .all-ends .ensures .0; backward = from .all-ends2 .ensures .0 }
+    record { few = back .before .before .pre; turned = back .turn .ensures refl; forward = to .all-ends .ensures .0; backward = from .all-ends2 .ensures .0 }
 
 returns : tie.Need-returns
 returns c = c .open-next .ensures

@@ -30,10 +30,10 @@ abbrev μ-loop : tie.MeasureT-loop
 μ-loop graph initials finals set-count back force₀ new₀ to₀ from₀ seen₀ phase₀ loop-rounds₀ mix-rounds₀ count₀ force new to from seen phase loop-rounds mix-rounds count = 129 - count
 
 abbrev start : (c : tie.At-loop Inv-loop μ-loop) → tie.Start Inv-loop μ-loop
-start c = c .before .before .before .before .before .before .before .before
+start c = c .before .before .before .before .before .before .before .before .before
 
 abbrev back : (c : tie.At-loop Inv-loop μ-loop) → List ℕ
-back c = c .before .before .before .before .before .before .before .turned .result
+back c = c .before .before .before .before .before .before .before .turn .last .1 .0
 
 loop-holds : tie.Need-loop-holds Inv-loop μ-loop
 loop-holds c =
@@ -42,11 +42,11 @@ loop-holds c =
     let turned-ends = first .before in
     let ends = turned-ends .before .before in
     let back = ends .before in
-    let a = back .before .args in (
+    let a = back .before .before .args in (
       omega arith,
       ends .all-ends .ensures .1,
       turned-ends .all-ends2 .ensures .1,
-      back .turned .ensures,
+      back .turn .ensures refl,
       record {
         old = none;
         with-new = record { loops-are = λ t. rw (member-none t) refl; mixes-are = λ t. rw (member-none t) refl };

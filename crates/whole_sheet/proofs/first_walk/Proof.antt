@@ -1,5 +1,6 @@
 -- `first_walk` meets its contract: the arrays stand for the rows and the open claims of the machine.
 use Rattle.whole_sheet.proofs.Printing.{finds}
+use mathlib.Core.Path.{refl}
 use borrow.Author.Needs.{needs}
 use Rattle.search.specs.Graph.{graph-of}
 use Rattle.whole_sheet.proofs.first_walk.Statement.{statement}
@@ -10,10 +11,10 @@ returns c =
     let mixes = c .before .before in
     let loops = mixes .before .before in
     let turned = loops .before .before in
-    let a = turned .before .before .before .before .before .args in (
+    let a = turned .before .before .before .before .before .before .args in (
       c .first-walk .ensures .0,
-      finds (a .high .now) (a .low .now) (a .row-count) (a .set-count) (a .t5) (a .rounds) (graph-of (turned .turned .result)) (record { loops = loops .open-mask .result; mixes = mixes .open-mask2 .result }) (c .first-walk .result)
-          (turned .turned .ensures) (loops .open-mask .ensures) (mixes .open-mask2 .ensures) (c .first-walk .ensures .1),
+      finds (a .high .now) (a .low .now) (a .row-count) (a .set-count) (a .t5) (a .rounds) (graph-of (turned .turn .last .1 .0)) (record { loops = loops .open-mask .result; mixes = mixes .open-mask2 .result }) (c .first-walk .result)
+          (turned .turn .ensures refl) (loops .open-mask .ensures) (mixes .open-mask2 .ensures) (c .first-walk .ensures .1),
     )
 
 pub first-walk-spec : {M : Type 1} → statement M
