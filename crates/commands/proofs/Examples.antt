@@ -2,7 +2,7 @@
 use mathlib.Core.Path.{_≡_, refl}
 use mathlib.Core.List.{[], _∷_, map}
 use Rattle.machine.specs.Text.{text}
-use Rattle.commands.specs.declared.Change.the-variants.{Load, Withdraw}
+use Rattle.commands.specs.declared.Change.the-variants.{Load}
 use Rattle.commands.specs.declared.Report.the-variants.{Print, Save}
 use Rattle.commands.specs.declared.Move.the-variants.{Close}
 use Rattle.commands.specs.Digits.{between, digit-value, digits, pairs, bytes, number-from, at-most}

@@ -2,15 +2,16 @@
 use Prim.Native.Nat.{ℕ, zero, suc, _+_, _<_, _≤_}
 use mathlib.Core.Path.{_≡_, refl, ap, sym, _∙_, subst}
 use mathlib.Core.Bool.{Bool, true, false, not, _&&_, cond}
-use mathlib.Core.List.{List, [], _∷_, _++_, map}
-use lib.Dec.{eqb, ltb, leb}
-use lib.ListN.{length, getD, drop}
+use mathlib.Core.List.{List, [], _∷_, _++_}
+use lib.Dec.{eqb, leb}
+use lib.ListN.{length, getD, drop, drop-of-length-le}
 use lib.Seq.{drop-cons}
 use native.Mathlib.Numerals.{add-one}
 use native.Mathlib.Decide.{decLt}
 use native.Mathlib.Omega.{arith}
 use borrow.Author.Tests.{eq-eqb, ne-eqb, lt-ltb, le-ltb, leb-true}
 use Rattle.lists.specs.Tests.{all}
+use Rattle.lists.proofs.Deciding.{test·, and·}
 use types.Run.{OneOf, miss}
 use denote.Enum.Declared.{tagOf}
 use Rattle.commands.specs.declared.Change.{Change}
@@ -22,7 +23,6 @@ use Rattle.commands.specs.declared.Found.{Found}
 use Rattle.commands.specs.Meaning.{Meaning, change, report, move, nothing, bad-hex, too-long, unknown, Word, says, words, batch, lends, with-text, starts, behind, called}
 use Rattle.commands.specs.Table.{table, alone-at, command-of, ends, further, seek}
 use Rattle.commands.specs.Promise.{Means, Asks, TellsWord, Extends}
-use Rattle.commands.proofs.Values.{drop-all}
 use Rattle.commands.proofs.Texts.{nothing-held}
 
 -- one byte more of the table, and its end
@@ -40,7 +40,7 @@ seek-found l t at k i h g e = rw (drop-cons t at 0 h, eq-eqb (getD t at 0) 10 g,
 
 pub seek-end : (l t : List ℕ) (at k i : ℕ) → length t ≤ at → seek l (drop at t) k i ≡ record { place = k; end = length l }
 unfolding seek
-seek-end l t at k i h = rw (drop-all t at h)
+seek-end l t at k i h = rw (drop-of-length-le t h)
 
 -- where the line is behind the bytes of a word
 along : List ℕ → List ℕ → ℕ → ℕ
@@ -95,7 +95,7 @@ module _ (l : List ℕ) where
     where
       go : Dec (i < length l) → (ends l i ≡ starts [] (drop i l)) × (starts [] (drop i l) ≡ true → i ≡ i + 0)
       go (yes g) = (rw (drop-cons l i 0 g, lt-ltb i (length l) g), λ e. omega arith)
-      go (no g) = (rw (drop-all l i (omega arith), le-ltb i (length l) (omega arith)) (eq-eqb i (length l) (omega arith)), λ e. omega arith)
+      go (no g) = (rw (drop-of-length-le l {i = i} (omega arith), le-ltb i (length l) (omega arith)) (eq-eqb i (length l) (omega arith)), λ e. omega arith)
   reaches (c ∷ w) i h = go (decLt i (length l)) (reaches w (suc i))
     where
       Goal : ℕ → List ℕ → Type 0
@@ -115,11 +115,10 @@ module _ (l : List ℕ) where
           → (suc i ≤ length l → (ends l (along l w (suc i)) ≡ starts w (drop (suc i) l)) × (starts w (drop (suc i) l) ≡ true → along l w (suc i) ≡ suc i + length w))
           → Goal (further l i c) (drop i l)
       go (yes g) p = here (eqb (getD l i 0) c) refl g (p (omega arith))
-      go (no g) p = rw (past i c (omega arith), drop-all l i (omega arith)) (lost-ends w, never)
+      go (no g) p = rw (past i c (omega arith), drop-of-length-le l {i = i} (omega arith)) (lost-ends w, never)
 
 both : (a b : Bool) → a && b ≡ true → (a ≡ true) × (b ≡ true)
-both true b e = (refl, e)
-both false b e = never e
+both a b = and· (test· a) (test· b) .to
 
 -- what seeking from word k on finds among words
 Finds : List ℕ → List Word → ℕ → Found → Type 0
@@ -132,7 +131,7 @@ frees (says w m ∷ ws) = free w && frees ws
 -- in turn: the first word, or one of those behind it
 finds : (l : List ℕ) (ws : List Word) (k : ℕ) → frees ws ≡ true → Finds l ws k (seek l (table ws) k 0)
 unfolding Finds frees table called seek
-finds l [] k f = (0, omega arith, omega arith, λ room. rw (drop-all l (length l) (omega arith)))
+finds l [] k f = (0, omega arith, omega arith, λ room. rw (drop-of-length-le l {i = length l} (omega arith)))
 finds l (says w m ∷ ws) k f = by-test (starts w l) refl (reaches l w 0 (omega arith)) (finds l ws (k + 1))
   where
     by-test : (b : Bool) → starts w l ≡ b → (ends l (along l w 0) ≡ starts w l) × (starts w l ≡ true → along l w 0 ≡ 0 + length w)
@@ -202,7 +201,7 @@ asks k word e = subst (λ x. Asks (alone-at words k) x) (sym e) (asks-at words r
 pub called-alone : (l : List ℕ) (r : Found) (room : ℕ) (word : Command) (buffer : List ℕ) → TellsWord l r → r .end ≡ length l → word ≡ command-of (alone-at words (r .place))
     → Means (called words room l) buffer word
 called-alone l r room word buffer t h e =
-    let f : called words room l ≡ alone-at words (r .place) = t .told room ∙ rw (drop-all l (r .end) (omega arith)) in
+    let f : called words room l ≡ alone-at words (r .place) = t .told room ∙ rw (drop-of-length-le l {i = r .end} (omega arith)) in
     subst (λ x. Means x buffer word) (sym f) (asks (r .place) word e buffer)
 
 pub called-text : (l text : List ℕ) (r : Found) (room : ℕ) (word : Command) (buffer : List ℕ) (answer : Command) → TellsWord l r → ¬ (r .end ≡ length l)

@@ -1,14 +1,13 @@
 -- Laws of lines and texts.
 use Prim.Native.Nat.{ℕ, zero, suc, _+_, _/_, _%_, _-_, _<_, _≤_}
 use mathlib.Core.Path.{_≡_, refl, sym}
-use mathlib.Core.Bool.{Bool, true, false, _&&_}
+use mathlib.Core.Bool.{true, false}
 use mathlib.Core.List.{List, [], _∷_}
 use lib.Dec.{eqb}
 use lib.ListN.{length, getD, take, drop, length-drop}
-use lib.Seq.{drop-cons, take-all, length-take-le}
+use lib.Seq.{take-all, length-take-le}
 use native.Mathlib.Omega.{arith}
 use borrow.Author.Tests.{eq-eqb, ne-eqb, le-leb, lt-leb}
-use Rattle.machine.specs.Text.{text}
 use Rattle.commands.specs.declared.Change.{Change}
 use Rattle.commands.specs.declared.Report.{Report}
 use Rattle.commands.specs.Digits.{digits, pairs, bytes, number-from, at-most}

@@ -1,15 +1,16 @@
 -- Laws of digits, bytes and numbers.
 use Prim.Native.Nat.{ℕ, zero, suc, _+_, _*_, _-_, _/_, _%_, _<_, _≤_}
 use mathlib.Core.Path.{_≡_, refl, ap, sym, _∙_}
-use mathlib.Core.Bool.{Bool, true, false, _&&_}
+use mathlib.Core.Bool.{Bool, true, false}
 use mathlib.Core.List.{List, [], _∷_, _++_, append-assoc, append-nil}
 use mathlib.Core.Logic.{_⊎_, inl, inr, ⊎-elim}
 use lib.Dec.{ltb}
-use lib.ListN.{length, getD, set, take, drop, length-set}
+use lib.ListN.{length, getD, set, take, drop, length-set, drop-of-length-le}
 use lib.Seq.{drop-cons, take-suc-set}
 use native.Mathlib.Numerals.{add-one}
 use native.Mathlib.Omega.{arith}
 use borrow.Author.Tests.{le-leb, lt-leb, lt-ltb, le-ltb, ltb-true, ltb-false}
+use Rattle.lists.proofs.Deciding.{test·, ltb·, and·}
 use Rattle.machine.specs.Text.{digit}
 use Rattle.commands.specs.Digits.{between, digit-value, digits, bytes, encoded, number-from, at-most}
 
@@ -71,12 +72,6 @@ sides n = by-test (ltb 6400 n) refl
 pub at-most-small : (n : ℕ) → at-most n ≤ 6400
 at-most-small n = ⊎-elim (λ h. let e = at-most-over n h in omega arith) (λ h. let e = at-most-under n h in omega arith) (sides n)
 
-pub drop-all : (l : List ℕ) (i : ℕ) → length l ≤ i → drop i l ≡ []
-drop-all [] zero h = refl
-drop-all [] (suc i) h = refl
-drop-all (x ∷ l) zero h = absurd (omega arith)
-drop-all (x ∷ l) (suc i) h = drop-all l i (omega arith)
-
 -- digits up to a place and from it on
 pub digits-more : (base : ℕ) (l : List ℕ) (i : ℕ) → i < length l → digit-value (getD l i 0) < base → digits base (drop i l) ≡ digits base (drop (suc i) l)
 unfolding digits
@@ -88,22 +83,14 @@ digits-fail base l i h g = rw (drop-cons l i 0 h, le-ltb (digit-value (getD l i 
 
 pub digits-end : (base : ℕ) (l : List ℕ) (i : ℕ) → length l ≤ i → digits base (drop i l) ≡ true
 unfolding digits
-digits-end base l i h = rw (drop-all l i h)
+digits-end base l i h = rw (drop-of-length-le l h)
 
 -- each of them is one
 pub digits-at : (base : ℕ) (l : List ℕ) (i : ℕ) → digits base l ≡ true → i < length l → digit-value (getD l i 0) < base
 unfolding digits
 digits-at base [] i e h = absurd (omega arith)
-digits-at base (x ∷ l) zero e h = ltb-true (digit-value x) base (first (ltb (digit-value x) base) _ e)
-  where
-    first : (a b : Bool) → a && b ≡ true → a ≡ true
-    first true b e = refl
-    first false b e = e
-digits-at base (x ∷ l) (suc i) e h = digits-at base l i (second (ltb (digit-value x) base) _ e) (omega arith)
-  where
-    second : (a b : Bool) → a && b ≡ true → b ≡ true
-    second true b e = e
-    second false b e = let z : _≡_ {A = ℕ} 0 1 = cc in absurd (omega arith)
+digits-at base (x ∷ l) zero e h = and· (ltb· (digit-value x) base) (test· (digits base l)) .to e .0
+digits-at base (x ∷ l) (suc i) e h = digits-at base l i (and· (ltb· (digit-value x) base) (test· (digits base l)) .to e .1) (omega arith)
 
 -- a number that is cut on the way is the same in the end
 at-most-step : (n v : ℕ) → at-most (n * 10 + v) ≡ at-most (at-most n * 10 + v)
@@ -127,7 +114,7 @@ number-more n l i h = rw (drop-cons l i 0 h) (number-cut (n * 10 + digit-value (
 
 pub number-end : (n : ℕ) (l : List ℕ) (i : ℕ) → length l ≤ i → n ≤ 6400 → at-most (number-from n (drop i l)) ≡ n
 unfolding number-from
-number-end n l i h g = rw (drop-all l i h) (at-most-under n g)
+number-end n l i h g = rw (drop-of-length-le l h) (at-most-under n g)
 
 -- the bytes from a place on
 pub bytes-more : (l : List ℕ) (i : ℕ) → suc i < length l → bytes (drop i l) ≡ (digit-value (getD l i 0) * 16 + digit-value (getD l (suc i) 0)) ∷ bytes (drop (suc (suc i)) l)
@@ -138,7 +125,7 @@ bytes-more l i h =
 
 pub bytes-end : (l : List ℕ) (i : ℕ) → length l ≤ i → bytes (drop i l) ≡ []
 unfolding bytes
-bytes-end l i h = rw (drop-all l i h)
+bytes-end l i h = rw (drop-of-length-le l h)
 
 -- one pair more, at the place behind the bytes
 pub bytes-put : (l b : List ℕ) (i at : ℕ) → at + 1 < length l → i < length b → bytes l ≡ take i b ++ bytes (drop at l)
@@ -173,4 +160,4 @@ encoded-put l t i at h g e =
 
 pub encoded-done : (l t : List ℕ) (i at : ℕ) → length l ≤ i → encoded l ≡ take at t ++ encoded (drop i l) → take at t ≡ encoded l
 unfolding encoded
-encoded-done l t i at h e = sym (e ∙ ap (λ (m : List ℕ). take at t ++ encoded m) (drop-all l i h) ∙ append-nil (take at t))
+encoded-done l t i at h e = sym (e ∙ ap (λ (m : List ℕ). take at t ++ encoded m) (drop-of-length-le l h) ∙ append-nil (take at t))

@@ -15,7 +15,7 @@ use Rattle.masks.specs.Mask.{member, _∈_}
 use Rattle.masks.proofs.Member.{with-same, with-cases}
 use Rattle.rows.specs.declared.Row.{Row}
 use Rattle.rows.specs.Rows.{standing-sets}
-use Rattle.orderings.specs.Steps.{Claim, loops, mixes}
+use Rattle.orderings.specs.Steps.{Claim}
 use Rattle.orderings.specs.Decide.{same-claim}
 use Rattle.orderings.specs.Rounds.{Opens}
 use Rattle.orderings.specs.Timelines.{timelines}

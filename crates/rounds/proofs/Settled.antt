@@ -90,10 +90,7 @@ module _ (m : Machine) {g : Graph} {initials finals n : ℕ} (given : Given (m .
 
   pub next-kept : Mirrors (next-round m) loop-marks mix-marks (judged accepted vain) (k + 1)
   next-kept = let e : m .rounds + 1 ≡ k + 1 = omega (arith, kept .count-is) in
-      subst (Mirrors (next-round m) loop-marks mix-marks (judged accepted vain)) e (turn-kept m g initials finals n force new all accepted vain loop-marks mix-marks turn)
-
-  pub next-forced : Forced (λ c. c among open-claims (next-round m)) g n all
-  next-forced = turn-forced m g initials finals n force new all accepted vain loop-marks mix-marks turn
+      subst (Mirrors (next-round m) loop-marks mix-marks (judged accepted vain)) e (turn-kept turn)
 
 -- ---- from round to round
 
@@ -127,7 +124,7 @@ module _ (rows : List Row) {g : Graph} {initials finals n : ℕ} (given : Given 
       let here = subst (λ (l : List Row). Given l g initials finals n) (sym (after-after rows k .same-rows)) given in
       subst (λ (j : ℕ). Stage rows g n all loop-marks mix-marks (judged accepted vain) j) e (record {
         kept = subst (Mirrors (next-round (after rows k)) loop-marks mix-marks (judged accepted vain)) (sym e) (next-kept (after rows k) here (s .kept) (s .forced) r);
-        forced = next-forced (after rows k) here (s .kept) (s .forced) r;
+        forced = turn-forced (turn (after rows k) here (s .kept) (s .forced) r);
         before = λ j l. ⊎-elim (λ x. subst (λ (i : ℕ). after rows i .phase ≡ Running) (sym x) (sym (s .kept .phase-is) ∙ running)) (s .before j) (eq-or-lt-of-le (le-of-suc-le-suc l));
       })
 

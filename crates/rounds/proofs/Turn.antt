@@ -1,13 +1,13 @@
 -- One round on masks and arrays: what they come to is what the machine comes to.
-use Prim.Native.Nat.{ℕ, zero, suc, _+_, _<_, _≤_}
+use Prim.Native.Nat.{ℕ, zero, suc, _+_, _<_}
 use mathlib.Core.Path.{_≡_, refl, ap, sym, _∙_, subst}
-use mathlib.Core.Bool.{Bool, true, false, _||_}
+use mathlib.Core.Bool.{Bool, _||_}
 use mathlib.Core.Logic.{⊎-elim, _↔_}
 use mathlib.Core.List.{List, [], _∷_, _++_, map, List·Memᴰ·head, List·Memᴰ·not-nil, List·Memᴰ·append-cases, Memᴰ·append-left, Memᴰ·append-right}
 use lib.ListN.{length, getD}
 use native.Mathlib.Omega.{arith}
 use Rattle.lists.specs.Tests.{Decides, _among_}
-use Rattle.lists.proofs.Deciding.{yes·, no·, not-so, iff·}
+use Rattle.lists.proofs.Deciding.{alike}
 use Rattle.masks.specs.Mask.{member, _∈_}
 use Rattle.masks.proofs.Member.{in-none, union-left, union-right, union-cases}
 use Rattle.rows.specs.declared.Row.{Row}
@@ -28,14 +28,6 @@ use Rattle.rounds.specs.Arrays.{rounds-of, Marks}
 use Rattle.rounds.specs.Promises.{Given, Mirrors}
 use Rattle.rounds.proofs.OpenClaims.{set-at}
 use Rattle.rounds.proofs.Marking.{marked}
-
--- two tests of one statement
-alike : {a b : Bool} {A : Type 0} → Decides a A → Decides b A → a ≡ b
-alike {a} {b} {A} d e = go a d
-  where
-    go : (x : Bool) → Decides x A → x ≡ b
-    go true f = sym (e .of (yes· f))
-    go false f = sym (not-so e (no· f))
 
 none· : {A : Type 0} (l : List A) → Decides (nothing? l) ((x : A) → ¬ (x among l))
 none· [] = record { to = λ e x. List·Memᴰ·not-nil; of = λ h. refl }
@@ -65,7 +57,7 @@ union-iff old new n a b r is i c p q = (
 pub walk-test : (rows : List Row) {g : Graph} {initials finals n : ℕ} → Given rows g initials finals n
     → (claims : List Claim) {force : Claims} (b : Bool) → Forced (λ c. c among claims) g n force → AcceptsRight g force initials finals b → b ≡ accepts? rows claims
 walk-test rows {n = n} given claims b f r = alike
-    (r rows claims n (record { masked = given .masked; forced = f }) (given .table .fit) (given .initial-iff) (given .final-iff)) (accepts· rows claims)
+    (r rows claims n (record { masked = given .masked; forced = f }) (given .table .fit) (given .initial-iff) (given .final-iff)) (accepts· rows claims) (λ x. x) (λ x. x)
 
 -- ---- a round
 
@@ -81,7 +73,7 @@ pub record Turn (m : Machine) (g : Graph) (initials finals n : ℕ) (force new a
   pub mix-marked : Marks (rounds-of m mixes) (new .mixes) (m .rounds + 1) mix-marks
 
 -- what it comes to: the rounds of the claims, the phase and the claims in force of the machine after the round
-module _ (m : Machine) (g : Graph) (initials finals n : ℕ) (force new all : Claims) (accepted vain : Bool) (loop-marks mix-marks : List ℕ)
+module _ {m : Machine} {g : Graph} {initials finals n : ℕ} {force new all : Claims} {accepted vain : Bool} {loop-marks mix-marks : List ℕ}
     (d : Turn m g initials finals n force new all accepted vain loop-marks mix-marks) where
   -- the set at a place
   abbrev P : ℕ → ℕ
@@ -100,7 +92,7 @@ module _ (m : Machine) (g : Graph) (initials finals n : ℕ) (force new all : Cl
 
   -- the round is vain just where the machine opens nothing
   vain-test : vain ≡ nothing? (opened-next m)
-  vain-test = alike (d .vain-iff) (iff· (λ h t. ((λ k. h _ (new-loops t .0 k .1)), λ k. h _ (new-mixes t .0 k .1))) vainly (none· (opened-next m)))
+  vain-test = alike (d .vain-iff) (none· (opened-next m)) vainly (λ h t. ((λ k. h _ (new-loops t .0 k .1)), λ k. h _ (new-mixes t .0 k .1)))
     where
       vainly : ((t : ℕ) → (¬ (t ∈ new .loops)) × (¬ (t ∈ new .mixes))) → (c : Claim) → ¬ (c among opened-next m)
       vainly h (loops Q) k = let r = set-place (m .rows) (g .sets) n (d .given .masked .sets-are) Q (opened-next-iff m (loops Q) .0 k .0 .0) in

@@ -20,7 +20,7 @@ use Rattle.orderings.proofs.Timelines.{members-iff}
 use Rattle.search.specs.declared.Claims.{Claims}
 use Rattle.search.specs.Graph.{Graph}
 use Rattle.search.specs.Masked.{Masked, Initials, Finals, Forced}
-use Rattle.search.specs.Hops.{Chain, all-mask, Reached, Inner, InnerClaims}
+use Rattle.search.specs.Hops.{all-mask, Reached, Inner, InnerClaims}
 use Rattle.search.proofs.Chains.{chain-map}
 use Rattle.search.proofs.Steps.{step-hop}
 use Rattle.search.proofs.Walks.{rest-of}

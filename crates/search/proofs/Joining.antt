@@ -6,7 +6,7 @@ use mathlib.Core.Logic.{inl, inr, ⊎-elim, _↔_}
 use lib.Dec.{eqb}
 use Rattle.masks.specs.Mask.{member, _∈_}
 use Rattle.masks.proofs.Member.{with-same, with-none, union-left, union-right, union-cases, intersection-left, intersection-right, intersection-both, same}
-use Rattle.search.specs.Hops.{Chain, Onward, Joined, Between, Covered}
+use Rattle.search.specs.Hops.{Chain, Onward, Joined, Between}
 use Rattle.search.proofs.Chains.{chain-append, chain-back, chain-end}
 
 -- a search inside p from one state s

@@ -8,6 +8,7 @@ use Rattle.orderings.specs.Steps.{Claim, Step, Walk, Leads, Inside, On}
 use Rattle.orderings.specs.Claims.{Through}
 use Rattle.orderings.specs.Systems.{Allowed, AtHand}
 use Rattle.orderings.specs.Timelines.{timelines}
+use Rattle.orderings.proofs.Steps.{on-start, on-middle, on-end}
 use Rattle.search.specs.Masked.{StepInside}
 use Rattle.search.specs.Hops.{Chain, one, more, Between}
 use Rattle.search.proofs.Chains.{chain-append}
@@ -76,18 +77,6 @@ module _ (rows : List Row) (In : Claim → Type 0) (P : ℕ) where
   pub leg-between : (a b s : ℕ) → (t : Leg a b) × On s a (t .0) → Between Pass a b s
   leg-between a b s (t, o) = ⊎-elim (λ e. inl (e, subst (λ (x : ℕ). Chain Pass x b) (sym e) (leg-chain a b t))) inr
       (cut s a (t .0) b (t .2, t .1 .1, t .3) o)
-
-  on-start : (s a : ℕ) (w : Walk) → s ≡ a → On s a w
-  on-start s a [] e = e
-  on-start s a (t ∷ w) e = inl e
-
-  on-middle : (s a : ℕ) (v w : Walk) → Leads a v s → On s a (v ++ w)
-  on-middle s a [] w h = on-start s a w (sym h)
-  on-middle s a (t ∷ v) w h = inr (on-middle s (t .to) v w (h .1))
-
-  on-end : (s a : ℕ) (v : Walk) → Leads a v s → On s a v
-  on-end s a [] h = sym h
-  on-end s a (t ∷ v) h = inr (on-end s (t .to) v (h .1))
 
   pub between-leg : (a b s : ℕ) → Between Pass a b s → (t : Leg a b) × On s a (t .0)
   between-leg a b s (inl k) =

@@ -1,7 +1,7 @@
 -- The walk that goes down one layer at each step, by the first step into it, is the first of the shortest.
 use Prim.Native.Nat.{ℕ, zero, suc, _+_, _-_, _≤_, _<_}
 use mathlib.Core.Path.{_≡_, refl, ap, subst}
-use mathlib.Core.Logic.{_⊎_, inl, inr, ⊎-elim}
+use mathlib.Core.Logic.{_⊎_, ⊎-elim}
 use mathlib.Core.List.{List, [], _∷_}
 use native.Mathlib.Omega.{arith}
 use lib.ListN.{length, getD}
@@ -15,19 +15,12 @@ use Rattle.orderings.specs.Steps.{Claim, Label, Step, Walk, Leads}
 use Rattle.orderings.specs.Systems.{Allowed}
 use Rattle.orderings.specs.Timelines.{timelines, IsFinal}
 use Rattle.machine.specs.Order.{kind, value, step-key, Found, Candidate, Best}
+use Rattle.machine.proofs.Search.{split-three}
 use Rattle.search.specs.Masked.{Initials, Finals}
 use Rattle.walks.specs.Layers.{Layered, Apart}
 use Rattle.walks.specs.Choices.{named}
 use Rattle.walks.specs.Walks.{state-at, steps-from}
 use Rattle.walks.proofs.Standing.{Can}
-
--- where the key of a walk is less, its first step's is less, or that leads to the same state and the rest's is less
-split : (a b c x y z : ℕ) (l m : List ℕ) → (a ∷ b ∷ c ∷ l) ≺ (x ∷ y ∷ z ∷ m) → ((a ∷ b ∷ c ∷ []) ≺ (x ∷ y ∷ z ∷ [])) ⊎ ((c ≡ z) × l ≺ m)
-split a b c x y z l m h = let d = before· a x (b ∷ c ∷ []) (y ∷ z ∷ []) in let e = before· b y (c ∷ []) (z ∷ []) in
-    ⊎-elim (λ i. inl (d .of (inl i))) (λ p. ⊎-elim
-    (λ i. inl (d .of (inr (p .0, e .of (inl i)))))
-    (λ q. ⊎-elim (λ i. inl (d .of (inr (p .0, e .of (inr (q .0, before· c z [] [] .of (inl i))))))) inr (before· c z l m .to (q .1)))
-    (before· b y (c ∷ l) (z ∷ m) .to (p .1))) (before· a x (b ∷ c ∷ l) (y ∷ z ∷ m) .to h)
 
 module _ (rows : List Row) (claims : List Claim) (E : ℕ → ℕ → Type 0) (to : (s : ℕ) (l : Label) (t : ℕ) → Can rows claims s l t → E s t)
     (initials finals : ℕ) (is-initials : Initials rows initials) (is-finals : Finals rows finals) where
@@ -106,7 +99,7 @@ module _ (rows : List Row) (claims : List Claim) (E : ℕ → ℕ → Type 0) (t
             ⊎-elim
             (g .first (t .label) (t .to) (first-can (state-at start targets i) t w (l .0) h) (subst (λ (x : ℕ). t .to ∈ getD layers x 0) z there))
             (λ q. least (suc i) k (omega arith) (into-at i k e) w b f (subst (λ (x : ℕ). Leads x w b) (q .0) (l .1)) (h .2) (omega arith) (q .1))
-            (split (kind (t .label)) (value (t .label)) (t .to) (kind (named (getD kinds i 0) (getD values i 0))) (value (named (getD kinds i 0) (getD values i 0))) (getD targets i 0)
+            (split-three (kind (t .label)) (value (t .label)) (t .to) (kind (named (getD kinds i 0) (getD values i 0))) (value (named (getD kinds i 0) (getD values i 0))) (getD targets i 0)
             (gather step-key w) (gather step-key (rest (suc i) k)) p)
 
         module _ (apart : Apart initials layers d) (in-layer : start ∈ getD layers d 0) (in-initials : start ∈ initials)

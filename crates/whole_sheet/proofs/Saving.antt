@@ -10,20 +10,12 @@ use lib.ListN.{length, getD, take, length-append}
 use lib.Seq.{take-suc, take-all}
 use Rattle.lists.proofs.Places.{gather-append}
 use Rattle.rows.specs.declared.Row.{Row}
-use Rattle.rows.specs.declared.Row.the-variants.{Initial, Final, Successor, LeftLimit, RightLimit}
+use Rattle.rows.specs.declared.Row.the-variants.{Initial}
 use Rattle.rows.specs.Rows.{row-bytes, batch-of, AllFit}
 use Rattle.rows.specs.Keys.{row-from}
 use Rattle.row_table.specs.Arrays.{Keyed}
 use Rattle.row_table.proofs.Keys.{row-there}
 use Rattle.whole_sheet.specs.Saving.{row-list}
-
-pub row-short : (r : Row) → length (row-bytes r) ≤ 10
-unfolding row-bytes
-row-short (Initial s) = omega arith
-row-short (Final s) = omega arith
-row-short (Successor p a q) = omega arith
-row-short (LeftLimit P q) = omega arith
-row-short (RightLimit q P) = omega arith
 
 module _ (highs lows : List ℕ) where
   abbrev row : ℕ → Row

@@ -1,5 +1,4 @@
 -- `ends` meets its contract: within the line, and past it.
-use native.Mathlib.Omega.{arith}
 use borrow.Author.Tests.{lt-ltb, le-ltb}
 use Rattle.commands.specs.Table.{ends}
 use borrow.Author.Needs.{needs}

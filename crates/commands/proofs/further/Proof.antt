@@ -1,5 +1,4 @@
 -- `further` meets its contract: past the line, at another byte, and at the byte.
-use native.Mathlib.Omega.{arith}
 use borrow.Author.Tests.{lt-ltb, le-ltb, eq-eqb, ne-eqb}
 use Rattle.commands.specs.Table.{further}
 use borrow.Author.Needs.{needs}

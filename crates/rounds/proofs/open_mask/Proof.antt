@@ -1,4 +1,4 @@
--- `automaton::open_mask` meets its contract. The loop's invariant: the mask has the places below i whose round is not 0.
+-- `rounds::open_mask` meets its contract. The loop's invariant: the mask has the places below i whose round is not 0.
 use Prim.Native.Nat.{ℕ, _-_, _≤_, _<_}
 use mathlib.Core.Logic.{⊎-elim, _↔_}
 use native.Mathlib.Omega.{arith}

@@ -1,5 +1,5 @@
 -- `walks::first_pass` meets its contract. The loop's invariant: no place that is taken from the rest has a step.
-use mathlib.Core.Path.{_≡_, refl, subst}
+use mathlib.Core.Path.{refl, subst}
 use Prim.Native.Nat.{ℕ}
 use lib.Count.{ones}
 use borrow.Author.Needs.{needs}

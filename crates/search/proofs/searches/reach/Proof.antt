@@ -1,6 +1,5 @@
 -- `search::searches::reach` meets its contract: nothing is found yet.
 use Rattle.search.proofs.Chains.{followed-none, explored-reach}
-use borrow.Author.Needs.{needs}
 use Rattle.search.proofs.searches.reach.Statement.{statement}
 use Rattle.search.proofs.searches.reach.Tie as tie
 

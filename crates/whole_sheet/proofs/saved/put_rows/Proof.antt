@@ -1,12 +1,10 @@
 -- `put_rows` meets its contract. The invariant: the bytes of the rows passed are written.
 use Prim.Native.Nat.{_-_, _≤_}
-use mathlib.Core.Path.{_≡_, refl, ap, sym, _∙_, subst}
+use mathlib.Core.Path.{_≡_, refl, ap, _∙_}
 use native.Mathlib.Omega.{arith}
 use borrow.Author.Needs.{needs}
-use mathlib.Core.List.{List}
-use Prim.Native.Nat.{ℕ}
-use lib.ListN.{length, drop}
-use Rattle.lists.specs.Writing.{Wrote, WroteAt}
+use lib.ListN.{length}
+use Rattle.lists.specs.Writing.{Wrote}
 use Rattle.rows.specs.declared.Row.{Row}
 use Rattle.rows.specs.Rows.{row-bytes, batch-of}
 use Rattle.whole_sheet.specs.Saving.{row-list}

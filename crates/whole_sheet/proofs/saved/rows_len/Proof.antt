@@ -6,8 +6,9 @@ use borrow.Author.Needs.{needs}
 use lib.ListN.{length, length-append}
 use Rattle.rows.specs.declared.Row.{Row}
 use Rattle.rows.specs.Rows.{row-bytes, batch-of}
+use Rattle.rows.proofs.Reading.{row-short}
 use Rattle.whole_sheet.specs.Saving.{row-list}
-use Rattle.whole_sheet.proofs.Saving.{row-short, no-bytes, bytes-more}
+use Rattle.whole_sheet.proofs.Saving.{no-bytes, bytes-more}
 use Rattle.whole_sheet.proofs.saved.rows_len.Statement.{statement}
 use Rattle.whole_sheet.proofs.saved.rows_len.Tie as tie
 
