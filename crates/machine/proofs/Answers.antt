@@ -1,6 +1,6 @@
 -- What the machine came to, from what the engine answered; and a text that is written, or for which the buffer is too short.
 use Prim.Native.Nat.{ℕ, _<_, _≤_}
-use mathlib.Core.Path.{_≡_, refl, ap, sym}
+use mathlib.Core.Path.{_≡_, refl, ap}
 use mathlib.Core.List.{List}
 use lib.ListN.{length}
 use native.Mathlib.Omega.{arith}
@@ -8,7 +8,7 @@ use borrow.Author.Tests.{lt-ltb, le-ltb}
 use Rattle.lists.specs.Writing as Writing
 use Rattle.machine.specs.declared.Answer.{Answer}
 use Rattle.machine.specs.declared.Answer.the-variants.{Done, Wrote, Refused}
-use Rattle.machine.specs.Calls.{Outcome, done, wrote, refused, answer-of, buffer-after, Tells, TellsText}
+use Rattle.machine.specs.Calls.{Outcome, done, wrote, refused, answer-of, Tells, TellsText}
 
 pub done-by : (o : Outcome) → answer-of o ≡ Done → o ≡ done
 done-by done e = refl

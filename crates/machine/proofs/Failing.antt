@@ -1,15 +1,15 @@
 -- The first row of a batch that fails: by the machine's rule of a row (`Fails`) exactly as by the table of causes (`FirstFailure`), in
 -- which no rule computes: `load-fails-iff`, `withdraw-fails-iff`.
-use Prim.Native.Nat.{ℕ, _≤_, _<_}
-use mathlib.Core.Path.{_≡_, refl, ap, sym, _∙_, subst}
+use Prim.Native.Nat.{ℕ}
+use mathlib.Core.Path.{_≡_, refl, ap, sym}
 use mathlib.Core.Logic.{_⊎_, inl, inr, ⊎-elim, _↔_}
 use mathlib.Core.List.{List, [], _∷_, _++_, append-assoc, append-nil, List·Memᴰ·head, List·Memᴰ·tail, List·Memᴰ·not-nil, List·Memᴰ·append-cases, List·Memᴰ·eq-of-singleton, Memᴰ·append-left, Memᴰ·append-right}
 use lib.ListN.{length, length-append}
 use native.Mathlib.Omega.{arith}
-use Rattle.lists.specs.Tests.{_among_, _part-of_, Once}
+use Rattle.lists.specs.Tests.{_part-of_, Once}
 use Rattle.lists.proofs.Counting.{once-length}
 use Rattle.rows.specs.declared.Row.{Row}
-use Rattle.rows.specs.Rows.{row-bytes, Fits, AllFit, standing-sets}
+use Rattle.rows.specs.Rows.{row-bytes, Fits, AllFit}
 use Rattle.rows.specs.Reading.{Malformed}
 use Rattle.rows.specs.Batch.{Turn, go, stop, run-rows, Fails}
 use Rattle.rows.proofs.Sets.{sets-same}

@@ -8,7 +8,7 @@ use mathlib.Core.List.{List, [], _∷_, List·Memᴰ·head, List·Memᴰ·tail}
 use lib.ListN.{replicate}
 use native.Mathlib.Omega.{arith}
 use native.Mathlib.Decide.{decLt}
-use native.Mathlib.Nat.{eq-or-lt-of-le, le-of-suc-le-suc}
+use native.Mathlib.Nat.{eq-or-lt-of-le}
 use Rattle.lists.specs.Tests.{_among_}
 use Rattle.lists.proofs.Deciding.{so, ltb·}
 use Rattle.rows.specs.declared.Row.{Row}
@@ -19,7 +19,7 @@ use Rattle.machine.specs.declared.Phase.the-variants.{Open, Running, Set
 use Rattle.machine.specs.Machine.{Machine, open-with, fresh, judged, closed, opened-next, nothing?, next-round, open-claims}
 use Rattle.machine.specs.Calls.{Call, round, Outcome, done, wrote, refused, Next, accept, refuse, call-in, call, run, Brings, settle}
 use Rattle.machine.specs.WellFormed.{Table, after, Worked, Made, WellFormed}
-use Rattle.machine.proofs.Settling.{after-after, Settles}
+use Rattle.machine.proofs.Settling.{below-next, after-after, Settles}
 use Rattle.machine.proofs.Tables.{no-rows, load-keeps, withdraw-keeps}
 use Rattle.machine.proofs.Outcomes.{Done, load-done, withdraw-done, close-done, round-done, reopen-done, Comes, comes}
 
@@ -48,7 +48,7 @@ round-formed m e w = let k : Worked m = subst (Made m) e (w .made) in
       made = made-judged (next-round m) (accepts? (m .rows) (open-claims (next-round m))) (nothing? (opened-next m)) refl (
         suc (k .0),
         ap next-round (k .1),
-        λ j l. ⊎-elim (λ x. subst (λ i. after (m .rows) i .phase ≡ Running) (sym x) (sym (ap (λ (x : Machine). x .phase) (k .1)) ∙ e)) (k .2 j) (eq-or-lt-of-le (le-of-suc-le-suc l)),
+        below-next {P = λ i. after (m .rows) i .phase ≡ Running} (k .0) (k .2) (sym (ap (λ (x : Machine). x .phase) (k .1)) ∙ e),
       );
     }
 

@@ -1,9 +1,9 @@
 -- The second machine of demand 3 comes from the open machine with its rows by close and rounds until settled, and no other machine does.
-use Prim.Native.Nat.{ℕ, zero, suc, _≤_, _+_}
+use Prim.Native.Nat.{ℕ, zero, suc, _+_}
 use mathlib.Core.Path.{_≡_, refl, ap, sym, _∙_, subst}
-use mathlib.Core.List.{List, [], _∷_, map, List·Memᴰ·cases-cons}
+use mathlib.Core.List.{List, [], _∷_, map}
 use native.Mathlib.Omega.{arith}
-use Rattle.lists.specs.Tests.{_among_, _part-of_, Once}
+use Rattle.lists.specs.Tests.{_part-of_, Once}
 use Rattle.lists.proofs.Deciding.{map-in}
 use Rattle.lists.proofs.Sorting.{sorted-same}
 use Rattle.rows.specs.declared.Row.{Row}
@@ -12,7 +12,6 @@ use Rattle.orderings.specs.Timelines.{timelines}
 use Rattle.orderings.proofs.Verdicts.{least-accepted-unique, greatest-least-unique}
 use Rattle.machine.specs.declared.Verdict.{Verdict}
 use Rattle.machine.specs.declared.Verdict.the-variants.{NonEmpty, Empty}
-use Rattle.machine.specs.declared.Phase.{Phase}
 use Rattle.machine.specs.declared.Phase.the-variants.{Settled}
 use Rattle.machine.specs.Machine.{Opening, Machine, open-with}
 use Rattle.machine.specs.Calls.{run, settle, second}
@@ -33,7 +32,7 @@ number-unique rows Empty NonEmpty j k a b = absurd (a .0 (b .0))
 number-unique rows Empty Empty j k a b = (refl, omega (arith, greatest-least-unique (timelines rows) (a .1 .0) (b .1 .0) (a .1 .2) (b .1 .2), a .1 .1, b .1 .1))
 
 -- an opening is its key
-opening-apart : (x y : Opening) → opening-key x ≡ opening-key y → x ≡ y
+pub opening-apart : (x y : Opening) → opening-key x ≡ opening-key y → x ≡ y
 opening-apart x y e = let i : x .round ≡ y .round = cc in let j : set-of (x .claim) ≡ set-of (y .claim) = cc in let k : loop-first (x .claim) ≡ loop-first (y .claim) = cc in
     by (x .claim) (y .claim) i j k
   where
@@ -43,7 +42,8 @@ opening-apart x y e = let i : x .round ≡ y .round = cc in let j : set-of (x .c
     by (loops P) (mixes Q) i j k = absurd (omega arith)
     by (mixes P) (loops Q) i j k = absurd (omega arith)
 
-openings-once : (l : List Opening) → Once (map (λ (o : Opening). o .claim) l) → Once l
+-- no opening is listed twice where no claim is
+pub openings-once : (l : List Opening) → Once (map (λ (o : Opening). o .claim) l) → Once l
 openings-once [] h = tt
 openings-once (o ∷ l) h = ((λ m. h .0 (map-in (λ (x : Opening). x .claim) m)), openings-once l (h .1))
 

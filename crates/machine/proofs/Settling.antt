@@ -32,6 +32,10 @@ use Rattle.machine.specs.WellFormed.{after}
 use Rattle.machine.specs.Statements.{SomeWalk, Closed, Rounded, Number}
 use Rattle.machine.proofs.Rounding.{close-closed, opened-next-iff, round-news, round-rounded}
 
+-- what holds of the numbers below k, and of k
+pub below-next : {P : ℕ → Type 0} (k : ℕ) → ((j : ℕ) → j < k → P j) → P k → (j : ℕ) → j < suc k → P j
+below-next {P} k f p j l = ⊎-elim (λ x. subst P (sym x) p) (f j) (eq-or-lt-of-le (le-of-suc-le-suc l))
+
 module _ (rows : List Row) where
   abbrev S : System
   S = timelines rows
@@ -190,9 +194,6 @@ module _ (rows : List Row) where
       unreached : (j : ℕ) → j < k → ¬ Reached S j
       prior : (g : ℕ) → k ≡ suc g → Opened S g
 
-    next : {P : ℕ → Type 0} (k : ℕ) → ((j : ℕ) → j < k → P j) → P k → (j : ℕ) → j < suc k → P j
-    next {P} k f p j l = ⊎-elim (λ x. subst P (sym x) p) (f j) (eq-or-lt-of-le (le-of-suc-le-suc l))
-
     one-more : (k : ℕ) → Running-to k → Settles ⊎ Running-to (suc k)
     one-more k t = go (after rows k .phase) refl (told k)
       where
@@ -218,8 +219,8 @@ module _ (rows : List Row) where
         })
         go Running f (goes-on m o) = inr (record {
           most = omega (arith, opened-few k o);
-          before = next k (t .before) f;
-          unreached = next k (t .unreached) m;
+          before = below-next k (t .before) f;
+          unreached = below-next k (t .unreached) m;
           prior = λ g i. let j : k ≡ g = omega arith in subst (Opened S) j o;
         })
 

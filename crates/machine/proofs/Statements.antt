@@ -20,7 +20,7 @@ use Rattle.machine.specs.Machine.{Machine, open-with, fresh, open-claims
 use Rattle.machine.specs.Order.{Found, Best}
 use Rattle.machine.specs.Search.{shortest}
 use Rattle.machine.specs.Sheet.{sheet}
-use Rattle.machine.specs.Calls.{Call, load, print, Outcome, wrote, refused, Next, refuse, call-in, call, run, settle, second, Brings}
+use Rattle.machine.specs.Calls.{Call, load, print, Outcome, wrote, refused, Next, call-in, call, run, settle, second, Brings}
 use Rattle.machine.specs.Causes.{Writes, sheets}
 use Rattle.machine.specs.WellFormed.{Table, after, Worked, Made, WellFormed}
 use Rattle.machine.specs.Statements.{SomeWalk, Number, Listed, Prints, EveryPrint}

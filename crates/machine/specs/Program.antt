@@ -10,7 +10,7 @@ use Rattle.machine.specs.declared.Phase.the-variants.{Settled}
 use Rattle.machine.specs.Machine.{longest-sheet, longest-batch, Machine, fresh}
 use Rattle.machine.specs.Text.{text, number-text}
 use Rattle.machine.specs.Sheet.{line, sheet}
-use Rattle.machine.specs.Calls.{load, print, Outcome, done, wrote, refused, Next, call, run, settle, second}
+use Rattle.machine.specs.Calls.{load, print, Outcome, done, wrote, refused, call, run, settle, second}
 use Rattle.machine.specs.Causes.{Cause}
 
 -- a refusal prints the line `refused N at PLACE`

@@ -4,13 +4,12 @@ use mathlib.Core.Path.{_≡_, refl, ap, sym, _∙_, subst}
 use mathlib.Core.Bool.{Bool, true, false, cond, _||_}
 use mathlib.Core.Logic.{⊎-elim, _↔_}
 use mathlib.Core.List.{List, [], _∷_, _++_, map, List·Memᴰ·head, List·Memᴰ·tail, List·Memᴰ·not-nil, List·Memᴰ·cases-cons}
-use lib.ListN.{length, getD, replicate, length-map, length-replicate, replicate-append-replicate, List·getD-append}
+use lib.ListN.{length, getD, replicate, length-replicate, replicate-append-replicate}
 use native.Mathlib.Omega.{arith}
 use native.Mathlib.Nat.{eq-or-lt-of-le}
 use lib.Dec.{eqb}
 use Rattle.lists.specs.Tests.{Decides, _among_}
 use Rattle.lists.proofs.Deciding.{yes·, no·}
-use Rattle.lists.proofs.Places.{getD-map}
 use Rattle.masks.specs.Mask.{member, _∈_}
 use Rattle.masks.proofs.Member.{with-same, with-cases}
 use Rattle.rows.specs.declared.Row.{Row}
@@ -26,6 +25,7 @@ use Rattle.machine.specs.Machine.{Opening, Machine, open-with, open-claims}
 use Rattle.machine.specs.WellFormed.{Worked, Made, WellFormed}
 use Rattle.machine.proofs.Settling.{after-after}
 use Rattle.row_table.specs.Arrays.{padded}
+use Rattle.row_table.proofs.Sets.{padded-map}
 use Rattle.rounds.specs.Arrays.{round-of, rounds-of, OpenPlaces}
 
 -- ---- the mask of the places with a round
@@ -87,18 +87,13 @@ counted m w = go (m .phase) (w .made)
     go Running k o i = worked k o i
     go (Settled v) k o i = worked k o i
 
--- what an array holds below the length of the list that it is filled up from
-pub filled-at : (l : List ℕ) (i : ℕ) → i < length l → getD (padded 64 0 l) i 0 ≡ getD l i 0
-filled-at l i h = List·getD-append l (replicate (64 - length l) 0) 0 i h
-
 -- the set at a place
 abbrev pub set-at : Machine → ℕ → ℕ
 set-at m i = getD (padded 64 0 (standing-sets (m .rows))) i 0
 
 -- at the place of a set stands the round of its claim
 pub round-at : (m : Machine) (claim : ℕ → Claim) (i : ℕ) → i < length (standing-sets (m .rows)) → getD (rounds-of m claim) i 0 ≡ round-of (m .openings) (claim (set-at m i))
-round-at m claim i h = let f : ℕ → ℕ = λ P. round-of (m .openings) (claim P) in let l = standing-sets (m .rows) in
-    filled-at (map f l) i (omega (arith, length-map l f)) ∙ getD-map f l i 0 0 h ∙ ap f (sym (filled-at l i h))
+round-at m claim i h = padded-map (λ P. round-of (m .openings) (claim P)) 64 (standing-sets (m .rows)) i h
 
 -- the mask of the places with a round is that of the claims that are open
 pub open-iff : (m : Machine) → WellFormed m → (claim : ℕ → Claim) (mask : ℕ) → OpenPlaces (rounds-of m claim) (length (standing-sets (m .rows))) mask

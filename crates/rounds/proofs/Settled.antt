@@ -5,7 +5,7 @@ use mathlib.Core.Bool.{Bool, false}
 use mathlib.Core.Logic.{_⊎_, ⊎-elim, _↔_}
 use mathlib.Core.List.{List, []}
 use lib.ListN.{getD, replicate}
-use native.Mathlib.Nat.{eq-or-lt-of-le, le-of-suc-le-suc}
+use native.Mathlib.Nat.{eq-or-lt-of-le}
 use native.Mathlib.Omega.{arith}
 use Rattle.lists.specs.Tests.{Decides, _among_}
 use Rattle.masks.specs.Mask.{_∈_}
@@ -16,7 +16,7 @@ use Rattle.machine.specs.declared.Phase.the-variants.{Running}
 use Rattle.machine.specs.Machine.{Machine, open-with, judged, closed, open-claims, next-round}
 use Rattle.machine.specs.Calls.{run, settle}
 use Rattle.machine.specs.WellFormed.{Table, after, WellFormed}
-use Rattle.machine.proofs.Settling.{Settles, settles, after-after}
+use Rattle.machine.proofs.Settling.{below-next, Settles, settles, after-after}
 use Rattle.machine.proofs.History.{settle-runs, no-more}
 use Rattle.search.specs.declared.Claims.{Claims}
 use Rattle.search.specs.Graph.{Graph}
@@ -125,7 +125,7 @@ module _ (rows : List Row) {g : Graph} {initials finals n : ℕ} (given : Given 
       subst (λ (j : ℕ). Stage rows g n all loop-marks mix-marks (judged accepted vain) j) e (record {
         kept = subst (Mirrors (next-round (after rows k)) loop-marks mix-marks (judged accepted vain)) (sym e) (next-kept (after rows k) here (s .kept) (s .forced) r);
         forced = turn-forced (turn (after rows k) here (s .kept) (s .forced) r);
-        before = λ j l. ⊎-elim (λ x. subst (λ (i : ℕ). after rows i .phase ≡ Running) (sym x) (sym (s .kept .phase-is) ∙ running)) (s .before j) (eq-or-lt-of-le (le-of-suc-le-suc l));
+        before = below-next {P = λ i. after rows i .phase ≡ Running} k (s .before) (sym (s .kept .phase-is) ∙ running);
       })
 
 -- a round of a machine that calls made, whose claims in force are read from the arrays

@@ -27,6 +27,7 @@ use Rattle.machine.specs.Machine.{Opening, Machine, open-claims}
 use Rattle.machine.specs.WellFormed.{Worked, WellFormed}
 use Rattle.machine.specs.Statements.{loop-first, opening-key, Listed}
 use Rattle.machine.proofs.Statements.{worked-listed}
+use Rattle.machine.proofs.Second.{opening-apart, openings-once}
 use Rattle.sheet_parts.specs.Openings.{upto, opened, opening-in, openings-at, openings-below, openings-in, Noted, Recorded}
 
 -- ---- lists one after another
@@ -100,23 +101,6 @@ in-ordered k round c = go (eqb round k)
     go : (b : Bool) → Ordered opening-key (cond b (opened k c ∷ []) [])
     go true = (((λ y m. absurd (List·Memᴰ·not-nil m)), tt), ((λ m. List·Memᴰ·not-nil m), tt))
     go false = (tt, tt)
-
-claim-apart : (c d : Claim) → set-of c ≡ set-of d → loop-first c ≡ loop-first d → c ≡ d
-claim-apart (loops P) (loops Q) e f = ap loops e
-claim-apart (loops P) (mixes Q) e f = absurd (omega arith)
-claim-apart (mixes P) (loops Q) e f = absurd (omega arith)
-claim-apart (mixes P) (mixes Q) e f = ap mixes e
-
--- the key tells openings apart
-key-apart : (o p : Opening) → opening-key o ≡ opening-key p → o ≡ p
-key-apart o p e =
-    let r : o .round ≡ p .round = cc in
-    let s : set-of (o .claim) ≡ set-of (p .claim) = cc in
-    let f : loop-first (o .claim) ≡ loop-first (p .claim) = cc in
-    same-opening o p r (claim-apart (o .claim) (p .claim) s f)
-  where
-    same-opening : (o p : Opening) → o .round ≡ p .round → o .claim ≡ p .claim → o ≡ p
-    same-opening o p r c = ap (λ (n : ℕ). opened n (o .claim)) r ∙ ap (λ (d : Claim). opened (p .round) d) c
 
 -- no claim is opened twice
 once-claims : (l : List Opening) → Once (map (λ (o : Opening). o .claim) l) → (o p : Opening) → o among l → p among l → o .claim ≡ p .claim → o ≡ p
@@ -211,11 +195,7 @@ module _ (m : Machine) (loop-rounds mix-rounds sets : List ℕ) (n : ℕ) (a : R
         (upto-in (at (o .round - 1 + 1)) o (p .0) n h (subst (λ (x : ℕ). o among at x (p .0)) k j))
 
     listed-are : openings-in loop-rounds mix-rounds sets n (m .rounds) ≡ m .openings
-    listed-are = sorted-same opening-key _ _ (λ x y i j. key-apart x y) (all-ordered (m .rounds) .0) (d .order) (all-ordered (m .rounds) .1) (once-openings (m .openings) (d .once)) (all-open (m .rounds)) open-all
-      where
-        once-openings : (l : List Opening) → Once (map (λ (o : Opening). o .claim) l) → Once l
-        once-openings [] u = tt
-        once-openings (o ∷ l) u = ((λ i. u .0 (map-in (λ (o : Opening). o .claim) i)), once-openings l (u .1))
+    listed-are = sorted-same opening-key _ _ (λ x y i j. opening-apart x y) (all-ordered (m .rounds) .0) (d .order) (all-ordered (m .rounds) .1) (openings-once (m .openings) (d .once)) (all-open (m .rounds)) open-all
 
 -- arrays that hold a machine's rounds have its openings, as its sheet lists them
 pub openings-are : (m : Machine) → WellFormed m → Worked m → (loop-rounds mix-rounds sets : List ℕ) (n : ℕ) → Recorded m loop-rounds mix-rounds sets n

@@ -1,10 +1,10 @@
 -- The sheet of a settled machine, as the arrays and the walk that was found give it.
-use Prim.Native.Nat.{ℕ, _<_}
-use mathlib.Core.Path.{_≡_, refl, ap, sym, _∙_, subst}
+use Prim.Native.Nat.{ℕ}
+use mathlib.Core.Path.{_≡_, refl, ap, _∙_, subst}
 use mathlib.Core.Bool.{Bool, true, false}
 use mathlib.Core.Option.{Option, some}
 use mathlib.Core.List.{List, _++_, map, append-nil}
-use lib.ListN.{length, getD, length-map, List·getD-append}
+use lib.ListN.{length, getD}
 use native.Mathlib.Omega.{arith}
 use Rattle.lists.specs.Tests.{gather}
 use Rattle.rows.specs.Rows as Rows
@@ -18,7 +18,7 @@ use Rattle.machine.specs.Order.{Found}
 use Rattle.machine.specs.Sheet.{verdict-line, opening-line, walk-lines, last-lines, sheet}
 use Rattle.machine.proofs.Statements.{printed-walk}
 use Rattle.row_table.specs.Arrays.{padded}
-use Rattle.lists.proofs.Places.{getD-map}
+use Rattle.row_table.proofs.Sets.{padded-at, padded-map}
 use Rattle.walks.specs.declared.FoundWalk.{FoundWalk}
 use Rattle.walks.specs.Walks.{as-found, Answers}
 use Rattle.walks.proofs.Answers.{answers-some, answers-none}
@@ -27,20 +27,12 @@ use Rattle.sheet_parts.proofs.Openings.{openings-are}
 
 -- lists of the sets and of the rounds of their claims, filled up, hold a machine's rounds
 module _ (m : Machine) (round : Claim → ℕ) (is : (c : Claim) → Noted m c (round c)) where
-  word-at : (size i : ℕ) → i < length (Rows.standing-sets (m .rows)) → getD (padded size 0 (Rows.standing-sets (m .rows))) i 0 ≡ getD (Rows.standing-sets (m .rows)) i 0
-  word-at size i h = List·getD-append (Rows.standing-sets (m .rows)) _ 0 i h
-
-  round-at : (claim : ℕ → Claim) (size i : ℕ) → i < length (Rows.standing-sets (m .rows))
-      → getD (padded size 0 (map (λ P. round (claim P)) (Rows.standing-sets (m .rows)))) i 0 ≡ round (claim (getD (padded size 0 (Rows.standing-sets (m .rows))) i 0))
-  round-at claim size i h = List·getD-append (map (λ P. round (claim P)) (Rows.standing-sets (m .rows))) _ 0 i (rw length-map h)
-      ∙ getD-map (λ P. round (claim P)) (Rows.standing-sets (m .rows)) i 0 0 h ∙ ap (λ P. round (claim P)) (sym (word-at size i h))
-
   pub recorded : (size : ℕ) → Recorded m (padded size 0 (map (λ P. round (loops P)) (Rows.standing-sets (m .rows)))) (padded size 0 (map (λ P. round (mixes P)) (Rows.standing-sets (m .rows)))) (padded size 0 (Rows.standing-sets (m .rows))) (length (Rows.standing-sets (m .rows)))
   recorded size = record {
     count = refl;
-    words-are = word-at size;
-    loops-are = λ i h. rw (round-at loops size i h) (is (loops (getD (padded size 0 (Rows.standing-sets (m .rows))) i 0)));
-    mixes-are = λ i h. rw (round-at mixes size i h) (is (mixes (getD (padded size 0 (Rows.standing-sets (m .rows))) i 0)));
+    words-are = padded-at size (Rows.standing-sets (m .rows));
+    loops-are = λ i h. rw (padded-map (λ P. round (loops P)) size (Rows.standing-sets (m .rows)) i h) (is (loops (getD (padded size 0 (Rows.standing-sets (m .rows))) i 0)));
+    mixes-are = λ i h. rw (padded-map (λ P. round (mixes P)) size (Rows.standing-sets (m .rows)) i h) (is (mixes (getD (padded size 0 (Rows.standing-sets (m .rows))) i 0)));
   }
 
 module _ (m : Machine) (w : WellFormed m) (loop-rounds mix-rounds sets : List ℕ) (n : ℕ) (a : Recorded m loop-rounds mix-rounds sets n) where

@@ -1,11 +1,10 @@
 -- The masks of a table that arrays hold.
 use Prim.Native.Nat.{ℕ}
 use mathlib.Core.List.{List}
-use lib.Seq.{take-append-seam}
 use Rattle.rows.specs.declared.Row.{Row}
-use Rattle.rows.specs.Rows.{standing-sets}
 use Rattle.machine.specs.WellFormed.{Table}
 use Rattle.row_table.specs.Arrays.{Worded, Filed}
+use Rattle.row_table.proofs.Sets.{worded-held}
 use Rattle.search.specs.Graph.{graph-of}
 use Rattle.automaton.specs.declared.Automaton.{Automaton}
 use Rattle.automaton.specs.Promise.{Gives, GivesKeyed}
@@ -15,7 +14,7 @@ use Rattle.rounds.specs.Promises.{Given}
 module _ {rows : List Row} (t : Table rows) {sets : List ℕ} {k : ℕ} {a : Automaton} where
   -- from its keys
   pub gives-filed : {highs lows : List ℕ} {n : ℕ} → Filed highs lows sets n k rows → GivesKeyed highs lows n sets k a → Gives rows sets k a
-  gives-filed f g = g rows (t .fit) (f .0) (f .1 .count) (rw (f .1 .count, f .1 .words-are) (take-append-seam (standing-sets rows) _))
+  gives-filed f g = g rows (t .fit) (f .0) (f .1 .count) (worded-held rows sets k (f .1))
 
   -- as the rounds are given them
   pub given-rows : Worded rows sets k → Gives rows sets k a → Given rows (graph-of (a .graph)) (a .initials) (a .finals) k
