@@ -1,2 +1,3 @@
+-- The laws that the proofs of `automaton` share.
 pub mod Adding
 pub mod Passing

@@ -1,4 +1,5 @@
--- The graph of the rows that were passed, and that with all rows passed it is the one that the promise gives.
+-- The graph of the rows that were passed (`none-passed`, `pass-initial` to `pass-right`), and that with all rows passed it is the one that the
+-- promise gives (`passed-all`).
 use Prim.Native.Nat.{ℕ, _+_, _<_, _≤_}
 use mathlib.Core.Path.{_≡_, refl, ap, ap₂, sym, _∙_, subst}
 use mathlib.Core.Logic.{_⊎_, inl, inr, ⊎-elim, _↔_, _≢_}

@@ -1,3 +1,4 @@
+-- The laws that the proofs of `commands` share.
 pub mod Values
 pub mod Texts
 pub mod Seeking

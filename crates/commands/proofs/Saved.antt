@@ -1,4 +1,4 @@
--- What is written in hex is read back.
+-- What is written in hex is read back (`reads-back`).
 use Prim.Native.Nat.{ℕ, suc, _+_, _*_, _/_, _%_, _<_, _≤_}
 use mathlib.Core.Path.{_≡_, refl, ap, _∙_}
 use mathlib.Core.Bool.{true}

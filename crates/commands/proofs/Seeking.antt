@@ -1,4 +1,5 @@
--- Reading the table byte by byte finds the first word that the line starts with (`tells`); and the command of a word is what it means alone (`asks`).
+-- Reading the table byte by byte finds the first word that the line starts with (`tells`); and the command of a word
+-- is what it means alone (`called-alone`) or with a text (`called-text`).
 use Prim.Native.Nat.{ℕ, zero, suc, _+_, _<_, _≤_}
 use mathlib.Core.Path.{_≡_, refl, ap, sym, _∙_, subst}
 use mathlib.Core.Bool.{Bool, true, false, not, _&&_, cond}

@@ -1,4 +1,4 @@
--- Laws of lines and texts.
+-- Lines and texts: lines passed over (`passed-empty`, `passed-first`), and what a text after a word means (`batch-bytes`, `lent-number`).
 use Prim.Native.Nat.{ℕ, zero, suc, _+_, _/_, _%_, _-_, _<_, _≤_}
 use mathlib.Core.Path.{_≡_, refl, sym}
 use mathlib.Core.Bool.{true, false}

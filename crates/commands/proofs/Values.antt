@@ -1,4 +1,5 @@
--- Laws of digits, bytes and numbers.
+-- Digits, bytes and numbers, read place by place: main laws `digits-at` (each is a digit), `number-more` (a number cut on the way), `bytes-put`
+-- and `bytes-done` (hex read), `encoded-put` and `encoded-done` (hex written).
 use Prim.Native.Nat.{ℕ, zero, suc, _+_, _*_, _-_, _/_, _%_, _<_, _≤_}
 use mathlib.Core.Path.{_≡_, refl, ap, sym, _∙_}
 use mathlib.Core.Bool.{Bool, true, false}

@@ -1,1 +1,2 @@
+-- The laws that the proofs of `ffi` share.
 pub mod Calling

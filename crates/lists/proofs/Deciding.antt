@@ -1,4 +1,5 @@
--- What tests over lists say.
+-- What tests say: of numbers (`eqb·`, `ltb·`, `leb·`), joined (`and·`, `or·`, `not·`), over lists (`any·`, `all·`, `keep·`, `has·`); two tests of one
+-- statement are alike (`alike`); and what is in a list made of another (`gather-in`, `gather-out`, `map-in`, `map-out`).
 use Prim.Native.Nat.{ℕ, zero, suc, _≤_, _<_, _+_}
 use mathlib.Core.Path.{_≡_, refl, ap, sym, subst}
 use mathlib.Core.Bool.{Bool, true, false, _&&_, _||_, not, false≢true}

@@ -1,3 +1,4 @@
+-- The laws of lists that all crates share.
 pub mod Deciding
 pub mod Counting
 pub mod Sorting

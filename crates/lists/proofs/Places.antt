@@ -1,4 +1,5 @@
--- What stands at a place of a list, and the place of what stands in it.
+-- What stands at a place of a list (`getD-map`, `held-at`), the place of what stands in it (`place-of`, `held-place`), and the order of places in
+-- a sorted list (`sorted-at`, `rising`).
 use Prim.Native.Nat.{ℕ, zero, suc, _+_, _≤_, _<_}
 use mathlib.Core.Path.{_≡_, refl, ap, sym, _∙_, subst}
 use mathlib.Core.Bool.{Bool, true, false, false≢true}

@@ -1,4 +1,5 @@
--- Document 01, "Causes and numbers": a call is refused with a number and at a place exactly where the table has a cause for it.
+-- Document 01, "Causes and numbers": a call is refused with a number and at a place exactly where the table has a cause for it
+-- (`refusals`).
 use Prim.Native.Nat.{ℕ, _≤_}
 use mathlib.Core.Path.{_≡_, refl, ap, _∙_, subst}
 use mathlib.Core.Logic.{_⊎_, inl, inr, _↔_}

@@ -1,4 +1,5 @@
--- Further sheets, computed: the order of openings, each place of the order of walks, and refusals.
+-- Further sheets, computed: the order of openings (`openings`), each place of the order of walks (`kinds-first`, `values-first`, `targets`,
+-- `starts-first`), and refusals (`refused-lines`, `phases`).
 use Prim.Native.Nat.{ℕ}
 use mathlib.Core.Path.{_≡_, refl}
 use mathlib.Core.List.{List, [], _∷_}

@@ -1,3 +1,4 @@
+-- The laws of the plain machine, and document 01's examples, computed.
 pub mod Cases
 pub mod Further
 pub mod Rounding

@@ -1,4 +1,4 @@
--- Batches and saved rows on the machine, and laws of load and withdraw.
+-- Batches and saved rows on the machine (`loaded`, `withdrawn`, `saves`), and laws of load and withdraw (`load-again`, `load-order`, `undo`).
 use Prim.Native.Nat.{ℕ}
 use mathlib.Core.Path.{_≡_, refl, ap, _∙_}
 use mathlib.Core.Logic.{_⊎_, inl, inr, ⊎-elim, _↔_}

@@ -1,4 +1,4 @@
--- The openings of a machine: in the sheet's order, none twice, with their least depths.
+-- The openings of a machine: in the sheet's order, none twice, with their least depths (`after-listed`); at most two to a set (`openings-few`).
 use Prim.Native.Nat.{ℕ, zero, suc, _≤_, _<_, _+_}
 use mathlib.Core.Path.{_≡_, refl, ap, subst}
 use mathlib.Core.Logic.{_⊎_, inl, ⊎-elim, _↔_}

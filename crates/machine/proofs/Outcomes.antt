@@ -1,4 +1,5 @@
--- What each call comes to, in each phase: it is done, it writes, or it has a cause that refuses it.
+-- What each call comes to, in each phase: it is done, it writes, or it has a cause that refuses it (`comes`); what
+-- writes or is refused keeps the machine (`writes-keep`, `refused-keeps`).
 use Prim.Native.Nat.{ℕ, _≤_, _<_}
 use mathlib.Core.Path.{_≡_, refl, ap, subst}
 use mathlib.Core.Bool.{Bool, true, false, cond}

@@ -1,4 +1,4 @@
--- The program `sheet` writes what document 01 says, for any input: its print is never refused.
+-- The program `sheet` writes what document 01 says, for any input: its print is never refused (`program-shows`).
 use Prim.Native.Nat.{ℕ, zero, suc, _≤_, _<_}
 use mathlib.Core.Path.{_≡_, refl, ap, sym, _∙_, subst}
 use mathlib.Core.Bool.{Bool, true, false}

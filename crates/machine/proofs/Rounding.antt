@@ -1,4 +1,5 @@
--- A round of the machine does what document 01's paragraph on rounds says, and fresh, close and reopen what their lines say.
+-- A round of the machine does what document 01's paragraph on rounds says (`round-rounded`), and fresh, close and reopen what their lines say
+-- (`fresh-fresh`, `close-closed`, `reopen-reopened`).
 use Prim.Native.Nat.{ℕ, zero, suc, _+_}
 use mathlib.Core.Path.{_≡_, refl, ap, subst}
 use mathlib.Core.Bool.{Bool, true, false}

@@ -1,4 +1,5 @@
--- The second machine of demand 3 comes from the open machine with its rows by close and rounds until settled, and no other machine does.
+-- The second machine of demand 3 comes from the open machine with its rows by close and rounds until settled, and
+-- no other machine does (`second-works`, `works-once`).
 use Prim.Native.Nat.{ℕ, zero, suc, _+_}
 use mathlib.Core.Path.{_≡_, refl, ap, sym, _∙_, subst}
 use mathlib.Core.List.{List, [], _∷_, map}

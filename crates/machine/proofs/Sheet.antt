@@ -1,4 +1,4 @@
--- A sheet is bytes, at most 6,400 of them.
+-- A sheet is bytes (`sheet-bytes`), at most 6,400 of them (`sheet-short`).
 use Prim.Native.Nat.{ℕ, _≤_, _<_}
 use mathlib.Core.Path.{_≡_, refl}
 use mathlib.Core.Bool.{true}

@@ -1,4 +1,5 @@
--- What holds of every machine that calls make from a fresh one.
+-- What holds of every machine that calls make from a fresh one: main laws `settled-number`, `second-is`, `no-13`, `prints`, `sheet-fits`,
+-- `every-print`.
 use Prim.Native.Nat.{ℕ, suc, _≤_, _<_}
 use mathlib.Core.Path.{_≡_, refl, ap, sym, _∙_, subst}
 use mathlib.Core.Bool.{Bool, cond}

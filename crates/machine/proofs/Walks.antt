@@ -1,4 +1,4 @@
--- The best walk is one, and visits no state twice.
+-- The best walk is one (`best-unique`), and visits no state twice (`best-short`).
 use Prim.Native.Nat.{ℕ, zero, suc, _≤_, _<_, _^_}
 use mathlib.Core.Path.{_≡_, refl, sym}
 use mathlib.Core.Logic.{⊎-elim}

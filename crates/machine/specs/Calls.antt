@@ -1,4 +1,5 @@
--- Document 01, "The session as a plain machine" and "Causes and numbers": the calls.
+-- Document 01, "The session as a plain machine" and "Causes and numbers": the calls (`Call`, `call`), what they come to (`Outcome`, `Tells`),
+-- several of them (`run`), and the second machine of demand 3 (`second`).
 use Prim.Native.Nat.{ℕ}
 use mathlib.Core.Path.{_≡_}
 use mathlib.Core.Bool.{cond}

@@ -1,4 +1,5 @@
--- What is shown of the plain machine, as statements. Nothing here is computed by the machine's own search.
+-- What is shown of the plain machine, as statements: `Closed`, `Rounded`, `Listed`, `Works`, `SecondWorks`, `Prints`, `Saves`. Nothing here is
+-- computed by the machine's own search.
 use Prim.Native.Nat.{ℕ, suc, _≤_}
 use mathlib.Core.Path.{_≡_}
 use mathlib.Core.Logic.{_⊎_, _↔_, _≢_}

@@ -1,4 +1,5 @@
--- Laws of membership: a state and a set, the operations on sets, sets with the same states.
+-- Laws of membership: a state and a set (`member-lt`, `has-test`), the operations on sets (`member-and`, `member-or`, `member-difference`,
+-- `member-with`, and what each has: `union-cases`, `difference-cases`), sets with the same states (`same`).
 use Prim.Native.Nat.{ℕ, _-_, _*_, _/_, _%_, _^_, _≤_, _<_}
 use mathlib.Core.Path.{_≡_, refl, sym, ap, ap₂, _∙_}
 use mathlib.Core.Bool.{Bool, true, false, not, _&&_, _||_, and-eq-true-iff, true≢false, or-true}

@@ -1,4 +1,5 @@
--- The claims about the sets of a table, counted: what is open is computed, and comes to rest within as many rounds as there are claims.
+-- The claims about the sets of a table, counted (`claims-length`): what is open is computed (`open-dec`), and comes to rest within as many rounds
+-- as there are claims (`at-most`).
 use Prim.Native.Nat.{ℕ, zero, suc, _≤_, _+_}
 use mathlib.Core.Path.{_≡_, refl, ap}
 use mathlib.Core.Logic.{_⊎_, inl, inr, ⊎-elim, _↔_}

@@ -1,4 +1,5 @@
--- Document 01, "Where implementations drift": small tables on which each drift would show, computed from the definitions.
+-- Document 01, "Where implementations drift": small tables on which each drift would show, computed from the
+-- definitions, one law each (`two-rounds`, `whole-content`, `mix-outside`, `one-set` and others).
 use Prim.Native.Nat.{ℕ}
 use mathlib.Core.Path.{_≡_, refl}
 use mathlib.Core.Bool.{true, false}

@@ -1,3 +1,4 @@
+-- The laws of orderings: walks, depths and verdicts, and the tests that decide them.
 pub mod Walks
 pub mod Steps
 pub mod Depths

@@ -1,4 +1,4 @@
--- The states that a walk of one or more of the given steps leads to, computed.
+-- The states that a walk of one or more of the given steps leads to, computed (`reach·`), by a walk no longer than these (`shorten`).
 use Prim.Native.Nat.{ℕ, zero, suc, _≤_}
 use mathlib.Core.Path.{_≡_, refl}
 use mathlib.Core.Logic.{_⊎_, inl, inr, ⊎-elim, _≢_}

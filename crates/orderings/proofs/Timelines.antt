@@ -1,4 +1,4 @@
--- The claims of document 01: more walks show more, and finitely many walks are enough.
+-- The claims of document 01: more walks show more, and finitely many walks are enough (`lawful`).
 use Prim.Native.Nat.{ℕ}
 use mathlib.Core.Path.{refl}
 use mathlib.Core.Logic.{_⊎_, ⊎-elim, _↔_}

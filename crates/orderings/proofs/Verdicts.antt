@@ -1,4 +1,5 @@
--- The numbers of a verdict, in any system: the least depth of a walk from an initial to a final state, and the greatest least depth of a claim.
+-- The numbers of a verdict, in any system: the least depth of a walk from an initial to a final state, and the
+-- greatest least depth of a claim: main laws `nonempty-iff`, `least-accepted`, `greatest-least-depth`.
 use Prim.Native.Nat.{ℕ, zero, suc, _≤_, _<_}
 use mathlib.Core.Path.{_≡_, subst}
 use mathlib.Core.Logic.{_⊎_, inl, inr, ⊎-elim, _↔_}

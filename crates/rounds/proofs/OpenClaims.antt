@@ -1,4 +1,4 @@
--- The claims that are open are those whose rounds are not 0.
+-- The claims that are open are those whose rounds are not 0: main law `open-iff`; `one-more` and `none-more` make the mask place by place.
 use Prim.Native.Nat.{ℕ, zero, suc, _<_, _≤_, _+_, _-_}
 use mathlib.Core.Path.{_≡_, refl, ap, sym, _∙_, subst}
 use mathlib.Core.Bool.{Bool, true, false, cond, _||_}
@@ -34,15 +34,15 @@ use Rattle.rounds.specs.Arrays.{round-of, rounds-of, OpenPlaces}
 abbrev Below : List ℕ → ℕ → ℕ → Type 0
 Below rounds r i = (k : ℕ) → (k ∈ r) ↔ ((k < i) × (0 < getD rounds k 0))
 
+below-suc : {k i : ℕ} → k < i + 1 → k ≤ i
+below-suc l = omega arith
+
 -- one place more, with a round
 pub one-more : (rounds : List ℕ) (r i w : ℕ) → Below rounds r i → 0 < getD rounds i 0 → ((t : ℕ) → member t w ≡ (member t r || eqb t i)) → Below rounds w (i + 1)
 one-more rounds r i w h g is k = (
   (λ j. ⊎-elim (λ o. let p = h k .0 o in (omega (arith, p .0), p .1)) (λ e. (omega arith, subst (λ n. 0 < getD rounds n 0) (sym e) g)) (with-cases r i w is k j)),
   λ p. ⊎-elim (λ e. subst (λ n. n ∈ w) (sym e) (with-same r i w is)) (λ l. is k ∙ ap (λ (b : Bool). b || eqb k i) (h k .1 (omega arith, p .1))) (eq-or-lt-of-le (below-suc (p .0))),
 )
-  where
-    below-suc : k < i + 1 → k ≤ i
-    below-suc l = omega arith
 
 -- one place more, without
 pub none-more : (rounds : List ℕ) (r i : ℕ) → Below rounds r i → getD rounds i 0 ≡ 0 → Below rounds r (i + 1)
@@ -50,9 +50,6 @@ none-more rounds r i h g k = (
   (λ j. let p = h k .0 j in (omega (arith, p .0), p .1)),
   λ p. ⊎-elim (λ e. absurd (omega (arith, p .1, ap (λ n. getD rounds n 0) e))) (λ l. h k .1 (omega arith, p .1)) (eq-or-lt-of-le (below-suc (p .0))),
 )
-  where
-    below-suc : k < i + 1 → k ≤ i
-    below-suc l = omega arith
 
 -- ---- the claims that are open
 

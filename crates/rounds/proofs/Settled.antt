@@ -1,4 +1,5 @@
--- The machine at the end of its rounds.
+-- The rounds in arrays are the machine's, from closed (`closed-kept`) through each round (`stage-start`, `stage-more`, `round-kept`) to the end
+-- of its rounds (`kept-settled`).
 use Prim.Native.Nat.{ℕ, suc, _+_, _<_, _≤_}
 use mathlib.Core.Path.{_≡_, refl, ap, sym, _∙_, subst}
 use mathlib.Core.Bool.{Bool, false}

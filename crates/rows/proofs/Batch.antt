@@ -1,4 +1,5 @@
 -- A batch does what its rows do one after another; in the terms of a loop that keeps the place `at` and the state too.
+-- Main laws `feed-batch`, `feed-runs`, `feed-fails`; for the loop `feed-end`, `feed-bad`, `feed-stop`, `feed-go`.
 use Prim.Native.Nat.{ℕ, zero, suc, _+_, _-_, _<_, _≤_}
 use mathlib.Core.Path.{_≡_, refl, ap, sym, _∙_, subst}
 use mathlib.Core.Logic.{_⊎_, inl, inr, ⊎-elim, _↔_}

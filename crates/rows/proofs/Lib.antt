@@ -1,3 +1,4 @@
+-- The laws of rows, batches, sets and keys.
 pub mod Same
 pub mod Reading
 pub mod Batch

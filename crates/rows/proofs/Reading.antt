@@ -1,4 +1,5 @@
--- A row that fits is read back from its bytes, what is read fits and has the bytes that were read, and a refusal has its cause.
+-- A row that fits is read back from its bytes (`read-back`), what is read fits and has the bytes that were read (`read-fits`, `read-split`), and
+-- a refusal has its cause (`malformed`).
 use Prim.Native.Nat.{ℕ, zero, suc, _≤_, _<_, _+_, _*_, _/_, _%_, _^_}
 use mathlib.Core.Path.{_≡_, refl, ap, sym, _∙_, subst}
 use mathlib.Core.Bool.{Bool, true, false, cond, _&&_, _||_}

@@ -1,4 +1,5 @@
--- The different sets of some rows: which they are, their order and their number.
+-- The different sets of some rows: which they are (`sets-iff`), their order (`sets-sorted`, `sets-once`, `words-rise`) and their number
+-- (`sets-fewer`, `sets-new`).
 use Prim.Native.Nat.{ℕ, suc, _≤_, _<_}
 use mathlib.Core.Path.{_≡_, refl}
 use mathlib.Core.Bool.{Bool, true, false}

@@ -1,1 +1,2 @@
+-- What the programs that run scripts read.
 pub mod Input

@@ -1,4 +1,5 @@
--- Laws of chains of steps, and of a search for the states to which they lead, pass by pass.
+-- Chains of steps (`chain-append`, `chain-map`, `chain-back`), and a search for the states to which they lead, pass by pass: main laws
+-- `search-more` and `search-end`, `explored-more` and `explored-end` (a pass), `explored-reach` and `explored-onward` (all that was found).
 use Prim.Native.Nat.{ℕ, _^_, _<_}
 use mathlib.Core.Path.{_≡_, subst, sym}
 use mathlib.Core.Bool.{not, _&&_, _||_}

@@ -1,4 +1,5 @@
--- Steps as the masks have them: the states to which they lead, and steps turned round.
+-- Steps as the masks have them: the states to which they lead (`onward-hop`, `onward-inside`), steps turned round (`hop-turn`), steps by old
+-- claims and by new ones (`hop-either`), and the ends that new claims add (`ends-more`, `added-next`).
 use Prim.Native.Nat.{ℕ, _+_, _<_, _≤_}
 use mathlib.Core.Path.{_≡_, refl, sym, subst, _∙_}
 use mathlib.Core.Bool.{_&&_, _||_}

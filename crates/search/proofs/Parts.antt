@@ -1,4 +1,5 @@
--- The four parts of one array of masks, and the parts of the graph turned round.
+-- The four parts of one array of masks (`letters-at`, `sets-at`, `lefts-at`, `rights-at`), and the parts of the graph turned round: main laws
+-- `letters-lead`, `turning-more`, `turned-graph`.
 use Prim.Native.Nat.{ℕ, _+_, _≤_, _<_}
 use mathlib.Core.Path.{_≡_, refl, ap, sym, subst, _∙_}
 use mathlib.Core.Logic.{_⊎_, inl, inr, ⊎-elim}

@@ -1,1 +1,2 @@
+-- What the program `sheet` reads.
 pub mod Input

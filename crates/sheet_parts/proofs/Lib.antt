@@ -1,4 +1,4 @@
--- The laws that the proofs of `sheets` share.
+-- The laws that the proofs of `sheet_parts` share.
 pub mod Upto
 pub mod Lines
 pub mod Openings

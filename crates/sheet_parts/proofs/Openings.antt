@@ -1,4 +1,5 @@
--- The openings that arrays have are those of the machine, in the order of the sheet.
+-- The openings that arrays have are those of the machine, in the order of the sheet: main law `openings-are`, from `all-ordered`, `all-open`
+-- and `open-all`.
 use Prim.Native.Nat.{ℕ, zero, suc, _+_, _-_, _<_}
 use mathlib.Core.Path.{_≡_, refl, ap, sym, _∙_, subst}
 use mathlib.Core.Bool.{Bool, true, false, cond}

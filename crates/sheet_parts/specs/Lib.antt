@@ -1,3 +1,3 @@
--- The definitions that the contracts of `sheets` cite.
+-- The definitions that the contracts of `sheet_parts` cite.
 pub mod Openings
 pub mod Lines

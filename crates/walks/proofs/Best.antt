@@ -1,4 +1,5 @@
--- The walk that goes down one layer at each step, by the first step into it, is the first of the shortest.
+-- The walk that goes down one layer at each step, by the first step into it, is the first of the shortest (`best`); where no layer has an
+-- initial state there is no walk (`no-candidate`).
 use Prim.Native.Nat.{ℕ, zero, suc, _+_, _-_, _≤_, _<_}
 use mathlib.Core.Path.{_≡_, refl, ap, subst}
 use mathlib.Core.Logic.{_⊎_, ⊎-elim}

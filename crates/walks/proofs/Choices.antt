@@ -1,4 +1,5 @@
--- The first step of one kind, and the first of all.
+-- The first step of one kind (`pass-first`, `pass-end`), and the first of all: of the first kind that has one (`choose-letter`, `choose-omega`,
+-- `choose-back`, `choose-mix`).
 use Prim.Native.Nat.{ℕ, _≤_, _<_}
 use mathlib.Core.Path.{_≡_, refl, subst}
 use mathlib.Core.Logic.{_⊎_, inl, inr, ⊎-elim, _↔_}

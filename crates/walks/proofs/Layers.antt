@@ -1,4 +1,5 @@
--- Layers of states by their distance, one layer after another.
+-- Layers of states by their distance, one layer after another: main laws `spread-start`, `spread-more`, `spread-end`; `spread-grows` bounds
+-- their number.
 use Prim.Native.Nat.{ℕ, suc, _^_, _≤_, _<_}
 use mathlib.Core.Path.{_≡_, sym, subst, _∙_}
 use mathlib.Core.Bool.{not, _&&_, _||_}

@@ -1,4 +1,4 @@
--- Arrays that stand for rows and claims: their order, and the steps that they have.
+-- Arrays that stand for rows and claims: their order (`in-order`), and the steps that they have (`way-can`, `can-way`, `can-ahead`, `ahead-can`).
 use Prim.Native.Nat.{ℕ, _<_}
 use mathlib.Core.Path.{_≡_, refl, sym, subst, _∙_}
 use mathlib.Core.Logic.{_⊎_, inl, inr, ⊎-elim, _↔_}

@@ -1,4 +1,5 @@
--- What print answers, and what it leaves in the buffer.
+-- What print answers, and what it leaves in the buffer: main laws `prints-empty`, `prints-nonempty`, from the sheet in parts (`empty-sheet`,
+-- `nonempty-sheet`).
 use Prim.Native.Nat.{ℕ, _+_, _<_, _≤_}
 use mathlib.Core.Path.{_≡_, refl, ap, sym, _∙_}
 use mathlib.Core.Bool.{Bool, true, false, cond}
