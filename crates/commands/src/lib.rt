@@ -75,7 +75,8 @@ fn digits(text: &[u8], base: u8) -> bool
 
 // Writes the bytes that pairs of hex digits name.
 fn decode(text: &[u8], batch: &mut [u8]) -> usize
-    requires { ⌜ (length (now text) % 2 ≡ 0) × (digits 16 (now text) ≡ true) × (length (now text) / 2 ≤ length (now batch)) ⌝ }
+    requires { ⌜ (length (now text) % 2 ≡ 0) × (digits 16 (now text) ≡ true) × (length (now text) / 2
+        ≤ length (now batch)) ⌝ }
     ensures { λ r. ⌜ (r ≤ length (now (batch .exit))) × (take r (now (batch .exit)) ≡ bytes (now (text .entry))) ⌝ }
 {
     let mut i = 0;

@@ -90,7 +90,8 @@ fn cut_or_high(rest: &[u8], width: usize, first: usize, last: usize) -> u8
 // The same for a row of ten bytes with a state, and 5 where the set at `set` is 0.
 fn limit_cause(rest: &[u8], state: usize, set: usize) -> u8
     requires { ⌜ (state < 10) × (set ≤ 2) ⌝ }
-    ensures { λ r. ⌜ r ≡ cut-or-high 10 (state ∷ []) (now (rest .entry)) (cond (eqb (set-at (now (rest .entry)) set) 0) 5 0) ⌝ }
+    ensures { λ r. ⌜ r ≡ cut-or-high 10 (state ∷ []) (now (rest .entry))
+        (cond (eqb (set-at (now (rest .entry)) set) 0) 5 0) ⌝ }
 {
     let cause = cut_or_high(rest, 10, state, state);
     if cause != 0 {

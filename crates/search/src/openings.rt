@@ -84,8 +84,10 @@ pub fn add_ends(
     set_count: usize,
 )
     requires { ⌜ («set_count» ≤ 64) × TurnedGraph (graph-of (now graph)) (graph-of (now back)) ⌝ }
-    ensures forward { λ _. ⌜ AddsEnds (graph-of (now (graph .entry))) new «set_count» (now (to .entry)) (now (to .exit)) ⌝ }
-    ensures backward { λ _. ⌜ AddsEnds (graph-of (now (back .entry))) new «set_count» (now (from .entry)) (now (from .exit)) ⌝ }
+    ensures forward { λ _. ⌜ AddsEnds (graph-of (now (graph .entry))) new «set_count» (now (to .entry))
+        (now (to .exit)) ⌝ }
+    ensures backward { λ _. ⌜ AddsEnds (graph-of (now (back .entry))) new «set_count» (now (from .entry))
+        (now (from .exit)) ⌝ }
 {
     let mut i = 0;
     while i < set_count {

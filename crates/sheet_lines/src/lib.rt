@@ -32,7 +32,8 @@ fn put_one(buf: &mut [u8], word: &[u8], item: Item) -> usize
 // Writes a line of two words.
 fn put_two(buf: &mut [u8], first: &[u8], x: Item, second: &[u8], y: Item) -> usize
     requires { ⌜ length (two-line (now first) x (now second) y) ≤ length (now buf) ⌝ }
-    ensures { λ r. ⌜ Wrote (two-line (now (first .entry)) x (now (second .entry)) y) (now (buf .entry)) (now (buf .exit)) r ⌝ }
+    ensures { λ r. ⌜ Wrote (two-line (now (first .entry)) x (now (second .entry)) y) (now (buf .entry))
+        (now (buf .exit)) r ⌝ }
 {
     let a = pair_at(buf, 0, first, x);
     let b = pair_at(buf, a, second, y);
@@ -82,7 +83,8 @@ pub fn opening_line_len(round: u64, mixes: bool, set: u64) -> usize
 // Writes the line of an opening.
 pub fn put_opening_line(buf: &mut [u8], round: u64, mixes: bool, set: u64) -> usize
     requires { ⌜ length (opening-line (record { round = round; claim = claim-of mixes set })) ≤ length (now buf) ⌝ }
-    ensures { λ r. ⌜ Wrote (opening-line (record { round = round; claim = claim-of mixes set })) (now (buf .entry)) (now (buf .exit)) r ⌝ }
+    ensures { λ r. ⌜ Wrote (opening-line (record { round = round; claim = claim-of mixes set })) (now (buf .entry))
+        (now (buf .exit)) r ⌝ }
 {
     let x = Item::Number(round);
     let y = Item::Set(set);

@@ -96,7 +96,8 @@ fn rows_from(high: &[u64; 256], low: &[u64; 256], row_count: usize, h: u64) -> u
 // The first letter step from `a` into `layer`: the rows of `a` stand together, by letter and then by target.
 fn first_letter(high: &[u64; 256], low: &[u64; 256], row_count: usize, a: u8, layer: u64) -> Choice
     requires { ⌜ («row_count» ≤ 256) × (a < 64) ⌝ }
-    ensures { λ r. ⌜ Picked layer (LetterAt (now (high .entry)) «row_count» a) 0 (Ascending (now (high .entry)) (now (low .entry)) «row_count») r ⌝ }
+    ensures { λ r. ⌜ Picked layer (LetterAt (now (high .entry)) «row_count» a) 0
+        (Ascending (now (high .entry)) (now (low .entry)) «row_count») r ⌝ }
 {
     let least = high_of(Row::Successor(a, 0, 0));
     let mut i = rows_from(high, low, row_count, least);
@@ -220,7 +221,8 @@ fn follow(
 ) -> FoundWalk
     requires { ⌜ («row_count» ≤ 256) × (start < 64) × (d ≤ 64) ⌝ }
     ensures { λ r. ⌜ Follows (Way (now (high .entry)) «row_count» (graph-of (now (back .entry))) force)
-        (InOrder (now (high .entry)) (now (low .entry)) «row_count» (graph-of (now (back .entry))) force) (now (layers .entry)) start d r ⌝ }
+        (InOrder (now (high .entry)) (now (low .entry)) «row_count» (graph-of (now (back .entry))) force)
+        (now (layers .entry)) start d r ⌝ }
 {
     let mut kinds = [0u8; 64];
     let mut values = [0u64; 64];
@@ -261,7 +263,8 @@ pub fn first_walk(
 ) -> FoundWalk
     requires { ⌜ «row_count» ≤ 256 ⌝ }
     ensures bounded { λ r. ⌜ Bounded r ⌝ }
-    ensures first { λ r. ⌜ FirstWalk (now (high .entry)) (now (low .entry)) «row_count» (graph-of (now (back .entry))) force
+    ensures first { λ r. ⌜ FirstWalk (now (high .entry)) (now (low .entry)) «row_count»
+        (graph-of (now (back .entry))) force
         initials finals r ⌝ }
 {
     let mut layers = [0u64; 64];

@@ -16,7 +16,7 @@ ghost use Prim.Native.Nat.{_≤_, _+_};
 ghost use lib.ListN.{length};
 ghost use Rattle.lists.specs.Tests.{gather};
 ghost use Rattle.lists.specs.Writing.{Wrote, WroteAt};
-ghost use Rattle.machine.specs.declared.Verdict.the-variants.{NonEmpty, Empty};
+ghost use Rattle.machine.specs.declared.Verdict.the-variants.{Empty};
 ghost use Rattle.machine.specs.Sheet.{opening-line, walk-lines};
 ghost use Rattle.machine.specs.Calls.{TellsText};
 ghost use Rattle.walks.specs.Walks.{as-found, Bounded};
@@ -35,9 +35,11 @@ fn openings_at(
     count: u8,
 ) -> usize
     requires { ⌜ («set_count» ≤ 64)
-        × (at + length (gather opening-line (openings-in (now looped) (now mixed) (now sets) «set_count» count)) ≤ length (now buf)) ⌝ }
+        × (at + length (gather opening-line (openings-in (now looped) (now mixed) (now sets) «set_count» count))
+        ≤ length (now buf)) ⌝ }
     ensures { λ r. ⌜ WroteAt
-        (gather opening-line (openings-in (now (looped .entry)) (now (mixed .entry)) (now (sets .entry)) «set_count» count))
+        (gather opening-line
+        (openings-in (now (looped .entry)) (now (mixed .entry)) (now (sets .entry)) «set_count» count))
         (now (buf .entry)) (now (buf .exit)) at r ⌝ }
 {
     at + sheet_parts::put_openings(&mut buf[at..], looped, mixed, sets, set_count, count)
@@ -159,7 +161,8 @@ pub fn print(
     rounds: Progress,
 ) -> Answer
     requires { ⌜ («row_count» ≤ 256) × («set_count» ≤ 64) ⌝ }
-    ensures { λ r. ⌜ PrintsSheet verdict (now (high .entry)) (now (low .entry)) «row_count» (now (sets .entry)) «set_count» a rounds
+    ensures { λ r. ⌜ PrintsSheet verdict (now (high .entry)) (now (low .entry)) «row_count» (now (sets .entry))
+        «set_count» a rounds
         (now (buffer .entry)) (now (buffer .exit)) r ⌝ }
 {
     match verdict {
