@@ -16,10 +16,10 @@ use Rattle.rows.specs.declared.Row.{Row}
 use Rattle.rows.specs.declared.Row.the-variants.{Initial, Final, Successor, LeftLimit, RightLimit}
 use Rattle.rows.specs.Rows as Rows
 use Rattle.rows.specs.Rows.{AllFit}
-use Rattle.rows.proofs.Sets.{words-rise}
+use Rattle.rows.proofs.Sets.{sets-rise}
 use Rattle.search.specs.Graph.{part, graph-of}
 use Rattle.search.proofs.Parts.{past-part, letters-at, sets-at, lefts-at, rights-at}
-use Rattle.row_table.specs.Arrays.{Worded}
+use Rattle.row_table.specs.Arrays.{SetsIn}
 use Rattle.automaton.specs.declared.Automaton.{Automaton}
 use Rattle.automaton.specs.Promise.{Adds, AddsAt, HasSets, Places, Gives}
 use Rattle.automaton.proofs.Adding.{put-iff}
@@ -215,9 +215,9 @@ module _ (rows : List Row) (fit : AllFit rows) (sets : List ℕ) (k : ℕ) (coun
             getD-take k (graph-of (a .graph) .sets) i 0 g ∙ set-is i (omega arith) ∙ sym (getD-take k sets i 0 g)) ∙ are;
         letter-iff = λ p q. letter-iff p q (dec· (ltb· p 64));
         left-iff = λ i r l. rw (lefts-at (a .graph) i (omega arith), set-is i (omega arith))
-            (let x = LeftLimit (getD sets i 0) r in one-row x r (λ m. fit x m .2) (h .enters (words-rise rows sets k are count) i r l));
+            (let x = LeftLimit (getD sets i 0) r in one-row x r (λ m. fit x m .2) (h .enters (sets-rise rows sets k are count) i r l));
         right-iff = λ i r l. rw (rights-at (a .graph) i (omega arith), set-is i (omega arith))
-            (let x = RightLimit r (getD sets i 0) in one-row x r (λ m. fit x m .2) (h .leaves (words-rise rows sets k are count) i r l));
+            (let x = RightLimit r (getD sets i 0) in one-row x r (λ m. fit x m .2) (h .leaves (sets-rise rows sets k are count) i r l));
       };
       sets-are = λ e. ext-getD 0 (graph-of (a .graph) .sets) sets (sets-length ∙ sym e) (λ i l. set-is i (omega (arith, sets-length)));
       initial-iff = λ t. one-row (Initial t) t (fit (Initial t)) (h .starts t);
@@ -225,8 +225,8 @@ module _ (rows : List Row) (fit : AllFit rows) (sets : List ℕ) (k : ℕ) (coun
     }
 
 -- the graph holds the sets as the array did that they came from
-pub graph-worded : (rows : List Row) (sets : List ℕ) (k : ℕ) (a : Automaton) → Gives rows sets k a → Worded rows sets k → Worded rows (graph-of (a .graph) .sets) k
-graph-worded rows sets k a gives w = record { count = w .count; words-are = gives .sets-are sized ∙ w .words-are }
+pub graph-sets-in : (rows : List Row) (sets : List ℕ) (k : ℕ) (a : Automaton) → Gives rows sets k a → SetsIn rows sets k → SetsIn rows (graph-of (a .graph) .sets) k
+graph-sets-in rows sets k a gives w = record { count = w .count; sets-are = gives .sets-are sized ∙ w .sets-are }
   where
     sized : length sets ≡ 64
-    sized = ap length (w .words-are) ∙ simp (length-append, length-replicate) (omega (arith, gives .masked .few, w .count))
+    sized = ap length (w .sets-are) ∙ simp (length-append, length-replicate) (omega (arith, gives .masked .few, w .count))

@@ -1,6 +1,13 @@
 // The graph that the search reads, made in one pass over the keys of rows.
+use machine::MOST_ROWS;
+use machine::MOST_SETS;
+use masks::NO_STATE;
+use masks::PLACES;
+use masks::Set;
 use rows::Row;
 use search::graphs::LEFTS;
+use search::graphs::MASKS;
+use search::graphs::Masks;
 use search::graphs::RIGHTS;
 use search::graphs::SETS;
 use sorted_keys::Place;
@@ -11,49 +18,49 @@ ghost use Rattle.automaton.specs.Promise.{Adds, AddsAt, HasSets, Places,
 
 // The graph of some rows as one array of masks; their initial and their final states.
 pub struct Automaton {
-    pub graph: [u64; 256],
-    pub initials: u64,
-    pub finals: u64,
+    pub graph: Masks,
+    pub initials: Set,
+    pub finals: Set,
 }
 
 // The states of `m`, and `s`, if that is a state.
-fn add(m: u64, s: u8) -> u64
+fn add(m: Set, s: u8) -> Set
     ensures { λ r. ⌜ Adds m s r ⌝ }
 {
-    if s < 64 {
+    if s < NO_STATE {
         return masks::with(m, s);
     }
     m
 }
 
 // Adds `s` to the mask at the place `at` of the part that begins at `base`, if there is one.
-fn put(graph: &mut [u64; 256], base: usize, at: usize, s: u8)
+fn put(graph: &mut Masks, base: usize, at: usize, s: u8)
     requires { ⌜ base ≤ 192 ⌝ }
     ensures { λ _. ⌜ AddsAt (now (graph .entry)) base at s (now (graph .exit)) ⌝ }
 {
-    if at < 64 {
+    if at < PLACES {
         let i = base + at;
         graph[i] = add(graph[i], s);
     }
 }
 
 // The place of `x` among the first `n` sets, or 64, which is none.
-fn place(sets: &[u64; 64], set_count: usize, x: u64) -> usize
+fn place(sets: &[Set; MOST_SETS], set_count: usize, x: Set) -> usize
     requires { ⌜ «set_count» ≤ 64 ⌝ }
     ensures { λ r. ⌜ Places (now (sets .entry)) «set_count» x r ⌝ }
 {
     match sorted_keys::find_word(sets, set_count, x) {
         Place::At(i) => i,
-        Place::Gap(_) => 64,
+        Place::Gap(_) => PLACES,
     }
 }
 
 // Puts the sets into their part of a graph that has nothing yet.
-fn put_sets(graph: &mut [u64; 256], sets: &[u64; 64])
+fn put_sets(graph: &mut Masks, sets: &[Set; MOST_SETS])
     ensures { λ _. ⌜ (now (graph .entry) ≡ replicate 256 0 → HasSets (now (sets .entry)) 64 (now (graph .exit))) ⌝ }
 {
     let mut i = 0;
-    while i < 64 {
+    while i < MOST_SETS {
         graph[SETS + i] = sets[i];
         i += 1;
     }
@@ -61,19 +68,19 @@ fn put_sets(graph: &mut [u64; 256], sets: &[u64; 64])
 
 // The automaton of the rows that have the first `n` keys, whose sets are the first `k`: each row adds one state to one mask.
 pub fn of_keys(
-    high: &[u64; 256],
-    low: &[u64; 256],
+    high: &[u64; MOST_ROWS],
+    low: &[u64; MOST_ROWS],
     row_count: usize,
-    sets: &[u64; 64],
+    sets: &[Set; MOST_SETS],
     set_count: usize,
 ) -> Automaton
     requires { ⌜ («row_count» ≤ 256) × («set_count» ≤ 64) ⌝ }
     ensures { λ r. ⌜ GivesKeyed (now (high .entry)) (now (low .entry)) «row_count» (now (sets .entry)) «set_count» r ⌝ }
 {
-    let mut graph = [0u64; 256];
+    let mut graph = [0u64; MASKS];
     put_sets(&mut graph, sets);
-    let mut initials: u64 = 0;
-    let mut finals: u64 = 0;
+    let mut initials: Set = 0;
+    let mut finals: Set = 0;
     let mut i = 0;
     while i < row_count {
         let row = rows::row_of(high[i], low[i]);

@@ -31,7 +31,7 @@ use Rattle.checker.specs.Promise.{Checks, ShowsSheet}
 -- empty arrays hold the empty table
 pub empty-filed : Filed (replicate 256 0) (replicate 256 0) (replicate 64 0) 0 0 []
 unfolding standing-sets
-empty-filed = (record { count = refl; highs-are = refl; lows-are = refl }, record { count = refl; words-are = refl })
+empty-filed = (record { count = refl; highs-are = refl; lows-are = refl }, record { count = refl; sets-are = refl })
 
 -- what a load comes to, and what then is left to do
 module _ (l : List ℕ) (a : Answer) (Has : List Row → Type 0) (comes : Comes Has (feed load-row [] l) a) (old : List ℕ) where

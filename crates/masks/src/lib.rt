@@ -10,13 +10,17 @@ ghost use Rattle.lists.specs.Tests.{Decides};
 ghost use Rattle.masks.specs.Graph.{Targets, SourceAdded, Turned};
 ghost use Rattle.masks.specs.Mask.{member, _∈_, _⊆_, TakesLowest};
 
-// How many states there may be.
+// How many states there may be, and the first number that is none.
 pub const STATES: usize = 64;
+
+pub const NO_STATE: u8 = 64;
 
 // A set of states: bit s says whether state s is in it.
 pub type Set = u64;
 
-// A set of places, fewer than 64, of a list of sets.
+// As many places as a mask has; a set of places of a list of sets.
+pub const PLACES: usize = 64;
+
 pub type Places = u64;
 
 // Is state `s` in the set `m`?
@@ -133,7 +137,7 @@ pub fn transpose(succ: &[Set]) -> [Set; STATES]
 {
     let mut back = [0u64; STATES];
     let mut i: u8 = 0;
-    while i < 64 {
+    while i < NO_STATE {
         add_source(&mut back, succ[i as usize], i);
         i += 1;
     }

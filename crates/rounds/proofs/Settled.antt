@@ -24,7 +24,7 @@ use Rattle.search.specs.Graph.{Graph}
 use Rattle.search.specs.Hops.{WithNew, EndsBelow}
 use Rattle.search.specs.Masked.{Forced}
 use Rattle.search.specs.Promises.{AcceptsRight, OpensBelow}
-use Rattle.row_table.specs.Arrays.{Worded}
+use Rattle.row_table.specs.Arrays.{SetsIn}
 use Rattle.rounds.specs.Arrays.{rounds-of, OpenPlaces, Marks}
 use Rattle.rounds.specs.Promises.{Given, Mirrors}
 use Rattle.rounds.proofs.OpenClaims.{set-at, open-iff, no-rounds}
@@ -48,7 +48,7 @@ closed-kept m {g} {n = n} given b r = record {
 -- ---- one round
 
 -- the masks of the places with a round are those of the claims that are open
-pub forced-of : (m : Machine) → WellFormed m → (g : Graph) (n : ℕ) → Worded (m .rows) (g .sets) n → (loop-rounds mix-rounds : List ℕ)
+pub forced-of : (m : Machine) → WellFormed m → (g : Graph) (n : ℕ) → SetsIn (m .rows) (g .sets) n → (loop-rounds mix-rounds : List ℕ)
     → loop-rounds ≡ rounds-of m loops → mix-rounds ≡ rounds-of m mixes
     → (force : Claims) → OpenPlaces loop-rounds n (force .loops) → OpenPlaces mix-rounds n (force .mixes) → Forced (λ c. c among open-claims m) g n force
 forced-of m w g n d loop-rounds mix-rounds is-l is-m force f h = record {
@@ -57,7 +57,7 @@ forced-of m w g n d loop-rounds mix-rounds is-l is-m force f h = record {
 }
   where
     place : (claim : ℕ → Claim) (mask : ℕ) → OpenPlaces (rounds-of m claim) n mask → (i : ℕ) → (i ∈ mask) ↔ ((i < n) × claim (getD (g .sets) i 0) among open-claims m)
-    place claim mask k i = subst (λ (l : List ℕ). (i ∈ mask) ↔ ((i < n) × claim (getD l i 0) among open-claims m)) (sym (d .words-are))
+    place claim mask k i = subst (λ (l : List ℕ). (i ∈ mask) ↔ ((i < n) × claim (getD l i 0) among open-claims m)) (sym (d .sets-are))
         (subst (λ (c : ℕ). (i ∈ mask) ↔ ((i < c) × claim (set-at m i) among open-claims m)) (sym (d .count))
         (open-iff m w claim mask (subst (λ (c : ℕ). OpenPlaces (rounds-of m claim) c mask) (d .count) k) i))
 
@@ -81,7 +81,7 @@ module _ (m : Machine) {g : Graph} {initials finals n : ℕ} (given : Given (m .
   turn = record {
     given = given;
     forced = forced;
-    opened = r .opens (m .rows) (open-claims m) (record { masked = given .masked; forced = forced }) (sym (given .worded .count));
+    opened = r .opens (m .rows) (open-claims m) (record { masked = given .masked; forced = forced }) (sym (given .sets-in .count));
     with-new = r .with-new;
     tested = r .tested;
     vain-iff = r .vain-iff;
@@ -135,7 +135,7 @@ pub round-kept : (m : Machine) → WellFormed m → {g : Graph} {initials finals
     → OpenPlaces loop-rounds n (force .loops) → OpenPlaces mix-rounds n (force .mixes) → {accepted vain : Bool} {loop-marks mix-marks : List ℕ}
     → Round g initials finals n force new all k loop-rounds mix-rounds accepted vain loop-marks mix-marks → Mirrors (next-round m) loop-marks mix-marks (judged accepted vain) (k + 1)
 round-kept m w {g} {n = n} given force new all {loop-rounds} {mix-rounds} kept is-l is-m r =
-    next-kept m given kept (forced-of m w g n (given .worded) loop-rounds mix-rounds (kept .loops-are) (kept .mixes-are) force is-l is-m) r
+    next-kept m given kept (forced-of m w g n (given .sets-in) loop-rounds mix-rounds (kept .loops-are) (kept .mixes-are) force is-l is-m) r
 
 -- running before each of k rounds, and no more after them or 129 of them done
 pub kept-settled : (rows : List Row) → Table rows → (k : ℕ) (loop-rounds mix-rounds : List ℕ) (phase : Phase) (count : ℕ)

@@ -139,7 +139,7 @@ module _ {m : Machine} {g : Graph} {initials finals n : ℕ} {force new all : Cl
       (subst (λ (k : ℕ). Marks (rounds-of m claim) mask k marks) e is)
     where
       place : (i : ℕ) → (i ∈ mask) ↔ ((i < n) × claim (P i) among opened-next m) → (i ∈ mask) ↔ ((i < length (standing-sets (m .rows))) × claim (set-at m i) among opened-next m)
-      place i f = rw (d .given .worded .count, ap (λ (l : List ℕ). getD l i 0) (d .given .worded .words-are)) at f
+      place i f = rw (d .given .sets-in .count, ap (λ (l : List ℕ). getD l i 0) (d .given .sets-in .sets-are)) at f
 
   pub turn-kept : Mirrors (next-round m) loop-marks mix-marks (judged accepted vain) (m .rounds + 1)
   unfolding next-round

@@ -10,14 +10,14 @@ use Rattle.machine.specs.Calls.{run, settle}
 use Rattle.machine.specs.WellFormed.{Table, WellFormed}
 use Rattle.search.specs.Graph.{Graph}
 use Rattle.search.specs.Masked.{Masked, Initials, Finals}
-use Rattle.row_table.specs.Arrays.{Worded}
+use Rattle.row_table.specs.Arrays.{SetsIn}
 use Rattle.rounds.specs.declared.Progress.{Progress}
 use Rattle.rounds.specs.Arrays.{rounds-of}
 
 -- the graph of a table of rows, its n sets, its initial and its final states
 pub record Given (rows : List Row) (g : Graph) (initials finals n : ℕ) : Type 0 where
   pub table : Table rows
-  pub worded : Worded rows (g .sets) n
+  pub sets-in : SetsIn rows (g .sets) n
   pub masked : Masked rows g n
   pub initial-iff : Initials rows initials
   pub final-iff : Finals rows finals

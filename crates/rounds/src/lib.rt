@@ -1,8 +1,14 @@
 // Rounds on masks and arrays: what each opens, the rounds in which claims opened, and all of them one after another.
+use machine::MOST_ROUNDS;
+use machine::MOST_SETS;
 use machine::Phase;
 use machine::Verdict;
+use masks::Places;
+use masks::Set;
 use search::Claims;
 use search::graphs;
+use search::graphs::MASKS;
+use search::graphs::Masks;
 use search::openings;
 use search::searches;
 ghost use mathlib.Core.Path.{_≡_};
@@ -19,8 +25,8 @@ ghost use Rattle.rounds.specs.Promises.{Closes, DoesRound, Settles};
 
 // The rounds in which the loop and the mix of each set opened, 0 for not open; the phase and the count of rounds.
 pub struct Progress {
-    pub loop_rounds: [u8; 64],
-    pub mix_rounds: [u8; 64],
+    pub loop_rounds: [u8; MOST_SETS],
+    pub mix_rounds: [u8; MOST_SETS],
     pub phase: Phase,
     pub rounds: u8,
 }
@@ -50,7 +56,7 @@ fn is_running(phase: Phase) -> bool
 }
 
 // Are both masks without a place?
-fn nothing(a: u64, b: u64) -> bool
+fn nothing(a: Places, b: Places) -> bool
     ensures { λ r. ⌜ Decides r ((t : ℕ) → (¬ (t ∈ a)) × (¬ (t ∈ b))) ⌝ }
 {
     masks::union(a, b) == 0
@@ -67,11 +73,11 @@ fn with_new(force: Claims, new: Claims) -> Claims
 }
 
 // The places below `n` whose round is not 0.
-pub fn open_mask(rounds: &[u8; 64], set_count: usize) -> u64
+pub fn open_mask(rounds: &[u8; MOST_SETS], set_count: usize) -> Places
     requires { ⌜ «set_count» ≤ 64 ⌝ }
     ensures { λ r. ⌜ OpenPlaces (now (rounds .entry)) «set_count» r ⌝ }
 {
-    let mut r: u64 = 0;
+    let mut r: Places = 0;
     let mut i = 0;
     while i < set_count {
         if rounds[i] != 0 {
@@ -83,7 +89,7 @@ pub fn open_mask(rounds: &[u8; 64], set_count: usize) -> u64
 }
 
 // Round `k` at the places of `opened`, and at the others what `rounds` had.
-fn mark(rounds: &mut [u8; 64], opened: u64, round: u8)
+fn mark(rounds: &mut [u8; MOST_SETS], opened: Places, round: u8)
     ensures { λ _. ⌜ Marks (now (rounds .entry)) opened round (now (rounds .exit)) ⌝ }
 {
     let mut rest = opened;
@@ -95,14 +101,14 @@ fn mark(rounds: &mut [u8; 64], opened: u64, round: u8)
 }
 
 // Close: no claim is open.
-pub fn close(graph: &[u64; 256], initials: u64, finals: u64) -> Progress
+pub fn close(graph: &Masks, initials: Set, finals: Set) -> Progress
     ensures { λ r. ⌜ Closes (graph-of (now (graph .entry))) initials finals r ⌝ }
 {
     let force = Claims { loops: 0, mixes: 0 };
     let accepted = searches::accepts(graph, force, initials, finals);
     let phase = judge(accepted, false);
-    let loop_rounds = [0u8; 64];
-    let mix_rounds = [0u8; 64];
+    let loop_rounds = [0u8; MOST_SETS];
+    let mix_rounds = [0u8; MOST_SETS];
     Progress {
         loop_rounds,
         mix_rounds,
@@ -112,11 +118,11 @@ pub fn close(graph: &[u64; 256], initials: u64, finals: u64) -> Progress
 }
 
 // The claims that a round opens, with the claims in force before it.
-fn opened(graph: &[u64; 256], force: Claims, set_count: usize) -> Claims
+fn opened(graph: &Masks, force: Claims, set_count: usize) -> Claims
     requires { ⌜ «set_count» ≤ 64 ⌝ }
     ensures { λ r. ⌜ OpensBelow (graph-of (now (graph .entry))) force «set_count» «set_count» r ⌝ }
 {
-    let mut back = [0u64; 256];
+    let mut back = [0u64; MASKS];
     graphs::turn(graph, &mut back);
     let to = openings::all_ends(graph, force, set_count);
     let from = openings::all_ends(&back, force, set_count);
@@ -125,9 +131,9 @@ fn opened(graph: &[u64; 256], force: Claims, set_count: usize) -> Claims
 
 // One round: what it opens depends on the claims that were open before it, and on no other.
 pub fn round(
-    graph: &[u64; 256],
-    initials: u64,
-    finals: u64,
+    graph: &Masks,
+    initials: Set,
+    finals: Set,
     set_count: usize,
     before: Progress,
 ) -> Progress
@@ -155,11 +161,11 @@ pub fn round(
 }
 
 // Close, and rounds until the automaton is settled: none needs more than 129.
-pub fn settle(graph: &[u64; 256], initials: u64, finals: u64, set_count: usize) -> Progress
+pub fn settle(graph: &Masks, initials: Set, finals: Set, set_count: usize) -> Progress
     requires { ⌜ «set_count» ≤ 64 ⌝ }
     ensures { λ r. ⌜ Settles (graph-of (now (graph .entry))) initials finals «set_count» r ⌝ }
 {
-    let mut back = [0u64; 256];
+    let mut back = [0u64; MASKS];
     graphs::turn(graph, &mut back);
     let none = Claims { loops: 0, mixes: 0 };
     let mut force = none;
@@ -168,10 +174,10 @@ pub fn settle(graph: &[u64; 256], initials: u64, finals: u64, set_count: usize) 
     let mut from = openings::all_ends(&back, none, set_count);
     let mut seen = searches::reached(graph, none, initials);
     let mut phase = judge(searches::accepted(initials, seen, finals), false);
-    let mut loop_rounds = [0u8; 64];
-    let mut mix_rounds = [0u8; 64];
+    let mut loop_rounds = [0u8; MOST_SETS];
+    let mut mix_rounds = [0u8; MOST_SETS];
     let mut count: u8 = 0;
-    while count < 129 {
+    while count < MOST_ROUNDS {
         if !is_running(phase) {
             break;
         }

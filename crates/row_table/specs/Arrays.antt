@@ -23,13 +23,13 @@ pub record Keyed (rows : List Row) (highs lows : List ℕ) (n : ℕ) : Type 0 wh
   pub lows-are : take n lows ≡ map low rows
 
 -- an array holds the k sets of the rows, rising, and then zeros
-pub record Worded (rows : List Row) (sets : List ℕ) (k : ℕ) : Type 0 where
+pub record SetsIn (rows : List Row) (sets : List ℕ) (k : ℕ) : Type 0 where
   pub count : k ≡ length (standing-sets rows)
-  pub words-are : sets ≡ padded 64 0 (standing-sets rows)
+  pub sets-are : sets ≡ padded 64 0 (standing-sets rows)
 
 -- arrays that hold a table: the keys of its n rows, and its k sets
 abbrev pub Filed : List ℕ → List ℕ → List ℕ → ℕ → ℕ → List Row → Type 0
-Filed high low sets n k rows = Keyed rows high low n × Worded rows sets k
+Filed high low sets n k rows = Keyed rows high low n × SetsIn rows sets k
 
 -- what a batch comes to: the arrays then hold the rows that it leads to, or the first row that fails gives its number and its place
 abbrev pub Comes : (List Row → Type 0) → Fed (List Row) → Answer → Type 0

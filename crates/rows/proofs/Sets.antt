@@ -1,4 +1,4 @@
--- The different sets of some rows: which they are (`sets-iff`), their order (`sets-sorted`, `sets-once`, `words-rise`) and their number
+-- The different sets of some rows: which they are (`sets-iff`), their order (`sets-sorted`, `sets-once`, `sets-rise`) and their number
 -- (`sets-fewer`, `sets-new`).
 use Prim.Native.Nat.{ℕ, suc, _≤_, _<_}
 use mathlib.Core.Path.{_≡_, refl}
@@ -63,13 +63,13 @@ unfolding standing-sets
 sets-once rows = distinct-once (gather sets-of rows)
 
 -- an array that holds them rises, and each set of the rows has a place in it
-module _ (rows : List Row) (words : List ℕ) (k : ℕ) (are : take k words ≡ standing-sets rows) where
-  pub words-rise : k ≡ length (standing-sets rows) → Rising words k
-  words-rise count i j h l = rw (held-at k words (standing-sets rows) are i 0 (omega arith), held-at k words (standing-sets rows) are j 0 l)
+module _ (rows : List Row) (sets : List ℕ) (k : ℕ) (are : take k sets ≡ standing-sets rows) where
+  pub sets-rise : k ≡ length (standing-sets rows) → Rising sets k
+  sets-rise count i j h l = rw (held-at k sets (standing-sets rows) are i 0 (omega arith), held-at k sets (standing-sets rows) are j 0 l)
       (rising (standing-sets rows) (sets-sorted rows) (sets-once rows) i j h (omega arith))
 
-  pub set-place : (P : ℕ) → SetOf rows P → (i : ℕ) × (i < k) × (P ≡ getD words i 0)
-  set-place P h = held-place k words P (rw are (sets-iff rows P .1 h))
+  pub set-place : (P : ℕ) → SetOf rows P → (i : ℕ) × (i < k) × (P ≡ getD sets i 0)
+  set-place P h = held-place k sets P (rw are (sets-iff rows P .1 h))
 
 sets-part : (rows rows′ : List Row) → rows part-of rows′ → standing-sets rows part-of standing-sets rows′
 sets-part rows rows′ h P m = let s = sets-iff rows P .0 m in sets-iff rows′ P .1 (s .0, h (s .0) (s .1), s .2)

@@ -1,18 +1,25 @@
-// A graph is one array of 256 masks: its four parts, and the graph turned round.
+// A graph is one array of masks: its four parts, and the graph turned round.
+use masks::PLACES;
+use masks::STATES;
+use masks::Set;
 ghost use mathlib.Core.Path.{_≡_};
 ghost use Prim.Native.Nat.{_≤_, _<_};
 ghost use lib.ListN.{getD};
 ghost use Rattle.search.specs.Graph.{part, graph-of, TurnsInto};
 
-// Where the parts begin; the letters stand first.
-pub const SETS: usize = 64;
+// Where the parts begin; the letters stand first, a mask for each state, and the others have one for each set.
+pub const SETS: usize = STATES;
 
-pub const LEFTS: usize = 128;
+pub const LEFTS: usize = SETS + PLACES;
 
-pub const RIGHTS: usize = 192;
+pub const RIGHTS: usize = LEFTS + PLACES;
+
+pub const MASKS: usize = RIGHTS + PLACES;
+
+pub type Masks = [Set; MASKS];
 
 // The mask at place `i` of the part that begins at `base`.
-pub fn mask_at(graph: &[u64; 256], base: usize, i: usize) -> u64
+pub fn mask_at(graph: &Masks, base: usize, i: usize) -> Set
     requires { ⌜ (base ≤ 192) × (i < 64) ⌝ }
     ensures { λ r. ⌜ r ≡ getD (part (now (graph .entry)) base) i 0 ⌝ }
 {
@@ -20,7 +27,7 @@ pub fn mask_at(graph: &[u64; 256], base: usize, i: usize) -> u64
 }
 
 // The set at place `i`.
-pub fn set_at(graph: &[u64; 256], i: usize) -> u64
+pub fn set_at(graph: &Masks, i: usize) -> Set
     requires { ⌜ i < 64 ⌝ }
     ensures { λ r. ⌜ r ≡ getD (graph-of (now (graph .entry)) .sets) i 0 ⌝ }
 {
@@ -28,7 +35,7 @@ pub fn set_at(graph: &[u64; 256], i: usize) -> u64
 }
 
 // The states that the left-limit rows of the set at place `i` lead to.
-pub fn lefts_at(graph: &[u64; 256], i: usize) -> u64
+pub fn lefts_at(graph: &Masks, i: usize) -> Set
     requires { ⌜ i < 64 ⌝ }
     ensures { λ r. ⌜ r ≡ getD (graph-of (now (graph .entry)) .lefts) i 0 ⌝ }
 {
@@ -36,7 +43,7 @@ pub fn lefts_at(graph: &[u64; 256], i: usize) -> u64
 }
 
 // The states that the right-limit rows of the set at place `i` start from.
-pub fn rights_at(graph: &[u64; 256], i: usize) -> u64
+pub fn rights_at(graph: &Masks, i: usize) -> Set
     requires { ⌜ i < 64 ⌝ }
     ensures { λ r. ⌜ r ≡ getD (graph-of (now (graph .entry)) .rights) i 0 ⌝ }
 {
@@ -44,12 +51,12 @@ pub fn rights_at(graph: &[u64; 256], i: usize) -> u64
 }
 
 // Writes the graph with every step turned round.
-pub fn turn(graph: &[u64; 256], back: &mut [u64; 256])
+pub fn turn(graph: &Masks, back: &mut Masks)
     ensures { λ _. ⌜ TurnsInto (now (graph .entry)) (now (back .entry)) (now (back .exit)) ⌝ }
 {
     let letters = masks::transpose(graph);
     let mut i = 0;
-    while i < 64 {
+    while i < STATES {
         back[i] = letters[i];
         back[SETS + i] = graph[SETS + i];
         back[LEFTS + i] = graph[RIGHTS + i];

@@ -4,8 +4,10 @@ pub mod moves;
 pub mod openings;
 pub mod searches;
 
+use masks::Places;
+
 // Claims, as two masks of places among the sets: those that loop and those that mix.
 pub struct Claims {
-    pub loops: u64,
-    pub mixes: u64,
+    pub loops: Places,
+    pub mixes: Places,
 }

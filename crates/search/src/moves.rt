@@ -1,8 +1,11 @@
 // One step: where the letters and the claims in force lead to from a set of states.
 use crate::Claims;
+use crate::graphs::Masks;
 use crate::graphs::lefts_at;
 use crate::graphs::rights_at;
 use crate::graphs::set_at;
+use masks::Places;
+use masks::Set;
 use masks::intersection;
 use masks::is_subset;
 use masks::take_lowest;
@@ -18,14 +21,14 @@ ghost use Rattle.search.specs.Graph.{graph-of};
 ghost use Rattle.search.specs.Hops.{Lettered, Looping, Mixing, Claimed, Hop, Onward, Inner, InnerClaims};
 
 // Do `a` and `b` have a state in common?
-pub(crate) fn meets(a: u64, b: u64) -> bool
+pub(crate) fn meets(a: Set, b: Set) -> bool
     ensures { λ r. ⌜ Decides r ((t : ℕ) × (t ∈ a) × (t ∈ b)) ⌝ }
 {
     intersection(a, b) != 0
 }
 
 // The place `i` alone where `b` is true, else nothing.
-pub(crate) fn marked(b: bool, i: u8) -> u64
+pub(crate) fn marked(b: bool, i: u8) -> Places
     requires { ⌜ i < 64 ⌝ }
     ensures { λ r. ⌜ ((t : ℕ) → (t ∈ r) ↔ ((t ≡ i) × (b ≡ true))) ⌝ }
 {
@@ -33,10 +36,10 @@ pub(crate) fn marked(b: bool, i: u8) -> u64
 }
 
 // The places whose sets are parts of `p`.
-fn inside(graph: &[u64; 256], places: u64, p: u64) -> u64
+fn inside(graph: &Masks, places: Places, p: Set) -> Places
     ensures { λ r. ⌜ Inner (graph-of (now (graph .entry)) .sets) places p r ⌝ }
 {
-    let mut r: u64 = 0;
+    let mut r: Places = 0;
     let mut rest = places;
     while rest != 0 {
         let next = take_lowest(rest);
@@ -48,7 +51,7 @@ fn inside(graph: &[u64; 256], places: u64, p: u64) -> u64
 }
 
 // The claims about parts of `p`.
-pub(crate) fn inner(graph: &[u64; 256], force: Claims, p: u64) -> Claims
+pub(crate) fn inner(graph: &Masks, force: Claims, p: Set) -> Claims
     ensures { λ r. ⌜ InnerClaims (graph-of (now (graph .entry))) force p r ⌝ }
 {
     let loops = inside(graph, force.loops, p);
@@ -57,24 +60,24 @@ pub(crate) fn inner(graph: &[u64; 256], force: Claims, p: u64) -> Claims
 }
 
 // The states to which a letter leads from the states `m`.
-pub(crate) fn lettered(graph: &[u64; 256], m: u64) -> u64
+pub(crate) fn lettered(graph: &Masks, m: Set) -> Set
     ensures { λ r. ⌜ Onward (Lettered (graph-of (now (graph .entry)))) m r ⌝ }
 {
     masks::targets(graph, m)
 }
 
 // The set `there` where `here` has one of the states `m`, else nothing.
-fn passed(here: u64, there: u64, m: u64) -> u64
+fn passed(here: Set, there: Set, m: Set) -> Set
     ensures { λ r. ⌜ ((t : ℕ) → (t ∈ r) ↔ (((s : ℕ) × (s ∈ m) × (s ∈ here)) × (t ∈ there))) ⌝ }
 {
     if meets(m, here) { there } else { 0 }
 }
 
 // The states to which an omega or a back step by one of the places leads from the states `m`. One pass for both kinds.
-fn looping(graph: &[u64; 256], places: u64, m: u64) -> u64
+fn looping(graph: &Masks, places: Places, m: Set) -> Set
     ensures { λ r. ⌜ Onward (Looping (graph-of (now (graph .entry))) places) m r ⌝ }
 {
-    let mut r: u64 = 0;
+    let mut r: Set = 0;
     let mut rest = places;
     while rest != 0 {
         let next = take_lowest(rest);
@@ -89,10 +92,10 @@ fn looping(graph: &[u64; 256], places: u64, m: u64) -> u64
 }
 
 // The states to which a mix step by one of the places leads from the states `m`.
-fn mixing(graph: &[u64; 256], places: u64, m: u64) -> u64
+fn mixing(graph: &Masks, places: Places, m: Set) -> Set
     ensures { λ r. ⌜ Onward (Mixing (graph-of (now (graph .entry))) places) m r ⌝ }
 {
-    let mut r: u64 = 0;
+    let mut r: Set = 0;
     let mut rest = places;
     while rest != 0 {
         let next = take_lowest(rest);
@@ -104,7 +107,7 @@ fn mixing(graph: &[u64; 256], places: u64, m: u64) -> u64
 }
 
 // The states to which a step by a claim leads from the states `m`.
-pub(crate) fn claimed(graph: &[u64; 256], force: Claims, m: u64) -> u64
+pub(crate) fn claimed(graph: &Masks, force: Claims, m: Set) -> Set
     ensures { λ r. ⌜ Onward (Claimed (graph-of (now (graph .entry))) force) m r ⌝ }
 {
     let omega_or_back = looping(graph, force.loops, m);
@@ -112,7 +115,7 @@ pub(crate) fn claimed(graph: &[u64; 256], force: Claims, m: u64) -> u64
 }
 
 // The states to which one step inside `p` leads from the states `m`.
-pub fn targets(graph: &[u64; 256], force: Claims, p: u64, m: u64) -> u64
+pub fn targets(graph: &Masks, force: Claims, p: Set, m: Set) -> Set
     ensures { λ r. ⌜ Onward (Hop (graph-of (now (graph .entry))) force p) m r ⌝ }
 {
     let from = intersection(m, p);

@@ -1,5 +1,6 @@
 // Claims: which sets loop and which mix with the claims in force, and what a round opens.
 use crate::Claims;
+use crate::graphs::Masks;
 use crate::graphs::lefts_at;
 use crate::graphs::rights_at;
 use crate::graphs::set_at;
@@ -8,6 +9,9 @@ use crate::moves::inner;
 use crate::moves::marked;
 use crate::moves::targets;
 use crate::searches::reach;
+use masks::PLACES;
+use masks::Places;
+use masks::Set;
 use masks::has;
 use masks::intersection;
 use masks::is_subset;
@@ -25,7 +29,7 @@ ghost use Rattle.search.specs.Hops.{Hop, Ends, EndsBelow, Joined, Covere
 ghost use Rattle.search.specs.Promises.{AddsEnds, EndsAt, EndsBoth, OpensAt, OpensBelow};
 
 // Does a walk of one or more steps inside `p` lead from each state of `p` to each? `back` is the graph turned round.
-fn joined(graph: &[u64; 256], back: &[u64; 256], force: Claims, p: u64) -> bool
+fn joined(graph: &Masks, back: &Masks, force: Claims, p: Set) -> bool
     requires { ⌜ TurnedGraph (graph-of (now graph)) (graph-of (now back)) ⌝ }
     ensures { λ r. ⌜ Decides r (Joined (Hop (graph-of (now (graph .entry))) force p) p) ⌝ }
 {
@@ -40,7 +44,7 @@ fn joined(graph: &[u64; 256], back: &[u64; 256], force: Claims, p: u64) -> bool
 }
 
 // Does each state of `p` lie on a walk of one or more steps inside `p` from a state of `m` to one of `n`?
-fn covered(graph: &[u64; 256], back: &[u64; 256], force: Claims, p: u64, m: u64, n: u64) -> bool
+fn covered(graph: &Masks, back: &Masks, force: Claims, p: Set, m: Set, n: Set) -> bool
     requires { ⌜ TurnedGraph (graph-of (now graph)) (graph-of (now back)) ⌝ }
     ensures { λ r. ⌜ Decides r (Covered (Hop (graph-of (now (graph .entry))) force p) m n p) ⌝ }
 {
@@ -52,7 +56,7 @@ fn covered(graph: &[u64; 256], back: &[u64; 256], force: Claims, p: u64, m: u64,
 }
 
 // The ends of all steps inside `p`.
-fn ends(graph: &[u64; 256], force: Claims, p: u64) -> u64
+fn ends(graph: &Masks, force: Claims, p: Set) -> Set
     ensures { λ r. ⌜ Ends (graph-of (now (graph .entry))) force p r ⌝ }
 {
     let parts = inner(graph, force, p);
@@ -60,12 +64,12 @@ fn ends(graph: &[u64; 256], force: Claims, p: u64) -> u64
 }
 
 // For each of the `n` sets the ends of all steps inside it.
-pub fn all_ends(graph: &[u64; 256], force: Claims, set_count: usize) -> [u64; 64]
+pub fn all_ends(graph: &Masks, force: Claims, set_count: usize) -> [Set; PLACES]
     requires { ⌜ «set_count» ≤ 64 ⌝ }
     ensures ends { λ r. ⌜ EndsBelow (graph-of (now (graph .entry))) force «set_count» r ⌝ }
     ensures sized { λ r. ⌜ length r ≡ 64 ⌝ }
 {
-    let mut r = [0u64; 64];
+    let mut r = [0u64; PLACES];
     let mut i = 0;
     while i < set_count {
         r[i] = ends(graph, force, set_at(graph, i));
@@ -76,10 +80,10 @@ pub fn all_ends(graph: &[u64; 256], force: Claims, set_count: usize) -> [u64; 64
 
 // The same forward and backward with new claims in force, where `to` and `from` were so before.
 pub fn add_ends(
-    to: &mut [u64; 64],
-    from: &mut [u64; 64],
-    graph: &[u64; 256],
-    back: &[u64; 256],
+    to: &mut [Set; PLACES],
+    from: &mut [Set; PLACES],
+    graph: &Masks,
+    back: &Masks,
     new: Claims,
     set_count: usize,
 )
@@ -100,7 +104,7 @@ pub fn add_ends(
 }
 
 // Is the loop of `p` to be tried? Not where it is in force already, and not where no step leads to a state of `p`, or none from one.
-fn may_loop(taken: bool, p: u64, to: u64, from: u64) -> bool
+fn may_loop(taken: bool, p: Set, to: Set, from: Set) -> bool
     ensures { λ r. ⌜ Decides r ((taken ≡ false) × ((p ⊆ to) × (p ⊆ from))) ⌝ }
 {
     if taken {
@@ -111,7 +115,7 @@ fn may_loop(taken: bool, p: u64, to: u64, from: u64) -> bool
 
 // Is the mix of `p`, with entrances `m` and exits `n`, to be tried? As for a loop, but an entrance needs no step to it, and an
 // exit none from it.
-fn may_mix(taken: bool, p: u64, m: u64, n: u64, to: u64, from: u64) -> bool
+fn may_mix(taken: bool, p: Set, m: Set, n: Set, to: Set, from: Set) -> bool
     ensures { λ r. ⌜ Decides r ((taken ≡ false) × Threaded p m n to from) ⌝ }
 {
     if taken {
@@ -139,7 +143,7 @@ fn neither(a: bool, b: bool) -> bool
 }
 
 // Is the loop of `p` to be tried, and do walks inside `p` join its states?
-fn loop_opens(graph: &[u64; 256], back: &[u64; 256], force: Claims, p: u64, tried: bool) -> bool
+fn loop_opens(graph: &Masks, back: &Masks, force: Claims, p: Set, tried: bool) -> bool
     requires { ⌜ TurnedGraph (graph-of (now graph)) (graph-of (now back)) ⌝ }
     ensures { λ r. ⌜ Decides r ((tried ≡ true) × Joined (Hop (graph-of (now (graph .entry))) force p) p) ⌝ }
 {
@@ -151,12 +155,12 @@ fn loop_opens(graph: &[u64; 256], back: &[u64; 256], force: Claims, p: u64, trie
 
 // Is the mix of `p` to be tried, and do walks inside `p` from `m` to `n` cover it?
 fn mix_opens(
-    graph: &[u64; 256],
-    back: &[u64; 256],
+    graph: &Masks,
+    back: &Masks,
     force: Claims,
-    p: u64,
-    m: u64,
-    n: u64,
+    p: Set,
+    m: Set,
+    n: Set,
     tried: bool,
 ) -> bool
     requires { ⌜ TurnedGraph (graph-of (now graph)) (graph-of (now back)) ⌝ }
@@ -170,14 +174,7 @@ fn mix_opens(
 
 // The claims of the set at place `i` that hold with the claims in force and are not in force yet. The steps inside the set lead from
 // states of `from` to states of `to`.
-fn opened_at(
-    graph: &[u64; 256],
-    back: &[u64; 256],
-    force: Claims,
-    to: u64,
-    from: u64,
-    i: u8,
-) -> Claims
+fn opened_at(graph: &Masks, back: &Masks, force: Claims, to: Set, from: Set, i: u8) -> Claims
     requires { ⌜ EndsAt (graph-of (now graph)) (graph-of (now back)) force i to from ⌝ }
     ensures { λ r. ⌜ OpensAt (graph-of (now (graph .entry))) force i r ⌝ }
 {
@@ -202,18 +199,18 @@ fn opened_at(
 // The claims of the `n` sets that hold with the claims in force and are not in force yet. The steps inside each set lead from the states of
 // its mask in `from` to those of its mask in `to`.
 pub fn open_next(
-    graph: &[u64; 256],
-    back: &[u64; 256],
+    graph: &Masks,
+    back: &Masks,
     force: Claims,
-    to: &[u64; 64],
-    from: &[u64; 64],
+    to: &[Set; PLACES],
+    from: &[Set; PLACES],
     set_count: usize,
 ) -> Claims
     requires { ⌜ EndsBoth (graph-of (now graph)) (graph-of (now back)) force «set_count» (now to) (now from) ⌝ }
     ensures { λ r. ⌜ OpensBelow (graph-of (now (graph .entry))) force «set_count» «set_count» r ⌝ }
 {
-    let mut loops: u64 = 0;
-    let mut mixes: u64 = 0;
+    let mut loops: Places = 0;
+    let mut mixes: Places = 0;
     let mut i = 0;
     while i < set_count {
         let opened = opened_at(graph, back, force, to[i], from[i], i as u8);

@@ -1,8 +1,10 @@
 // Walks: the states that they lead to, and whether one leads from an initial to a final state.
 use crate::Claims;
+use crate::graphs::Masks;
 use crate::moves::claimed;
 use crate::moves::lettered;
 use crate::moves::meets;
+use masks::Set;
 use masks::difference;
 use masks::intersection;
 use masks::union;
@@ -12,7 +14,7 @@ ghost use Rattle.search.specs.Hops.{Hop, LetterHop, Chain, Onward, Follo
 ghost use Rattle.search.specs.Promises.{AcceptsRight, AcceptsSeen, SeenBefore};
 
 // The states `found`, and all to which letters inside `p` lead from the states `last`. Steps from the others are followed already.
-fn spread(graph: &[u64; 256], p: u64, found: u64, last: u64) -> u64
+fn spread(graph: &Masks, p: Set, found: Set, last: Set) -> Set
     requires { ⌜ Followed (LetterHop (graph-of (now graph)) p) found last ⌝ }
     ensures { λ r. ⌜ Explored (LetterHop (graph-of (now (graph .entry))) p) found last r ⌝ }
 {
@@ -32,7 +34,7 @@ fn spread(graph: &[u64; 256], p: u64, found: u64, last: u64) -> u64
 
 // The states `found`, and all to which steps inside `p` lead from the states `last`. Letters first: claims are looked through once they
 // lead no further.
-fn explore(graph: &[u64; 256], force: Claims, p: u64, found: u64, last: u64) -> u64
+fn explore(graph: &Masks, force: Claims, p: Set, found: Set, last: Set) -> Set
     requires { ⌜ Followed (Hop (graph-of (now graph)) force p) found last ⌝ }
     ensures { λ r. ⌜ Explored (Hop (graph-of (now (graph .entry))) force p) found last r ⌝ }
 {
@@ -56,21 +58,21 @@ fn explore(graph: &[u64; 256], force: Claims, p: u64, found: u64, last: u64) -> 
 }
 
 // The states to which a walk of one or more steps inside `p` leads from the states `m`.
-pub fn reach(graph: &[u64; 256], force: Claims, p: u64, m: u64) -> u64
+pub fn reach(graph: &Masks, force: Claims, p: Set, m: Set) -> Set
     ensures { λ r. ⌜ Onward (Chain (Hop (graph-of (now (graph .entry))) force p)) m r ⌝ }
 {
     explore(graph, force, p, 0, m)
 }
 
 // The set of all states.
-fn all_states() -> u64
+fn all_states() -> Set
     ensures { λ r. ⌜ r ≡ all-mask ⌝ }
 {
     !0u64
 }
 
 // The states to which a walk of one or more steps with the claims in force leads from the initial states.
-pub fn reached(graph: &[u64; 256], force: Claims, initials: u64) -> u64
+pub fn reached(graph: &Masks, force: Claims, initials: Set) -> Set
     ensures { λ r. ⌜ Reached (graph-of (now (graph .entry))) force initials r ⌝ }
 {
     let p = all_states();
@@ -78,7 +80,7 @@ pub fn reached(graph: &[u64; 256], force: Claims, initials: u64) -> u64
 }
 
 // The same where `seen` was reached before the new claims came into force: the search goes on from there.
-pub fn reached_more(graph: &[u64; 256], force: Claims, new: Claims, initials: u64, seen: u64) -> u64
+pub fn reached_more(graph: &Masks, force: Claims, new: Claims, initials: Set, seen: Set) -> Set
     requires { ⌜ SeenBefore (graph-of (now graph)) force new initials seen ⌝ }
     ensures { λ r. ⌜ Reached (graph-of (now (graph .entry))) force initials r ⌝ }
 {
@@ -94,14 +96,14 @@ pub fn reached_more(graph: &[u64; 256], force: Claims, new: Claims, initials: u6
 }
 
 // Does a walk of zero or more steps lead from an initial to a final state? One or more lead to the states `seen`.
-pub fn accepted(initials: u64, seen: u64, finals: u64) -> bool
+pub fn accepted(initials: Set, seen: Set, finals: Set) -> bool
     ensures { λ r. ⌜ AcceptsSeen initials seen finals r ⌝ }
 {
     meets(union(initials, seen), finals)
 }
 
 // Does a walk of zero or more steps with the claims in force lead from an initial to a final state?
-pub fn accepts(graph: &[u64; 256], force: Claims, initials: u64, finals: u64) -> bool
+pub fn accepts(graph: &Masks, force: Claims, initials: Set, finals: Set) -> bool
     ensures { λ r. ⌜ AcceptsRight (graph-of (now (graph .entry))) force initials finals r ⌝ }
 {
     let seen = reached(graph, force, initials);

@@ -34,7 +34,7 @@ pub takes-done : (s : Session) (high low sets : List ℕ) (n k : ℕ) (slots : L
       phase = s .phase;
       rounds = s .rounds;
     }) a)
-takes-done s high low sets n k slots h e = rw e (λ rows t f. rw (h rows (t .fit) (f .0), f .0 .count, f .1 .words-are, f .1 .count))
+takes-done s high low sets n k slots h e = rw e (λ rows t f. rw (h rows (t .fit) (f .0), f .0 .count, f .1 .sets-are, f .1 .count))
 
 -- what the batch comes to in the arrays, it comes to in the machine
 pub batch-keeps : {c : Call} {rule : Row → List Row → Turn (List Row)} {batch : List ℕ} → Feeds c rule batch → (s : Session) (a : Answer) (Has Then : List Row → Type 0)

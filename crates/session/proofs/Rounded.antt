@@ -13,12 +13,12 @@ use Rattle.whole_sheet.proofs.Automata.{given-rows}
 use Rattle.session.specs.declared.Session.{Session}
 use Rattle.session.specs.Record.{record-of, Represents}
 use Rattle.session.specs.Standing.{rounds-in, with-rounds, Reads}
-use Rattle.session.proofs.Whole.{worded-of}
+use Rattle.session.proofs.Whole.{sets-in-of}
 
 module _ (m : Machine) (s : Session) (p : Represents m s) where
   -- the masks of the machine's rows
   given-of : (a : Automaton) → Reads s a → Given (m .rows) (graph-of (a .graph)) (a .initials) (a .finals) (s .«set_count»)
-  given-of a h = given-rows (p .formed .table) (worded-of m s p) (h m p)
+  given-of a h = given-rows (p .formed .table) (sets-in-of m s p) (h m p)
 
   pub kept-of : Mirrors m (s .«loop_rounds») (s .«mix_rounds») (s .phase) (s .rounds)
   unfolding record-of

@@ -11,7 +11,7 @@ use Rattle.machine.specs.declared.Phase.the-variants.{Open}
 use Rattle.machine.specs.Machine.{Machine, open-with}
 use Rattle.machine.specs.WellFormed.{Table, Made}
 use Rattle.machine.proofs.Outcomes.{rows-to}
-use Rattle.row_table.specs.Arrays.{padded, Keyed, Worded}
+use Rattle.row_table.specs.Arrays.{padded, Keyed, SetsIn}
 use Rattle.rounds.specs.Arrays.{rounds-of}
 use Rattle.rounds.proofs.OpenClaims.{no-rounds}
 use Rattle.session.specs.declared.Slot.{Slot}
@@ -51,8 +51,8 @@ module _ (m : Machine) (s : Session) (p : Represents m s) where
   pub keyed-of : (high low : List ℕ) → Keyed (standing s) high low (s .«row_count») → Keyed (m .rows) high low (s .«row_count»)
   keyed-of high low k = subst (λ l. Keyed l high low (s .«row_count»)) standing-of k
 
-  pub worded-of : Worded (m .rows) (s .sets) (s .«set_count»)
-  worded-of = record { count = set-count-of; words-are = sets-array }
+  pub sets-in-of : SetsIn (m .rows) (s .sets) (s .«set_count»)
+  sets-in-of = record { count = set-count-of; sets-are = sets-array }
 
   pub rounds-count : s .rounds ≡ m .rounds
   unfolding record-of

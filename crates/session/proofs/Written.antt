@@ -25,14 +25,14 @@ use Rattle.session.specs.declared.State.the-variants.{Settled as IsSettl
 use Rattle.session.specs.Record.{record-of, Represents}
 use Rattle.session.specs.Promise.{Keeps, KeepsIn, Phased}
 use Rattle.session.specs.Standing.{standing, reply, rounds-in, Reads}
-use Rattle.session.proofs.Whole.{keyed-of, worded-of}
+use Rattle.session.proofs.Whole.{keyed-of, sets-in-of}
 use Rattle.session.proofs.Gate.{does-as}
 use Rattle.session.proofs.Rounded.{kept-of}
 
 -- the masks of the machine's rows, from the keys of the standing rows
 pub reads-of : (s : Session) (high low : List ℕ) → Keyed (standing s) high low (s .«row_count»)
     → (a : Automaton) → GivesKeyed high low (s .«row_count») (s .sets) (s .«set_count») a → Reads s a
-reads-of s high low keyed a g m p = gives-filed (p .formed .table) (keyed-of m s p high low keyed, worded-of m s p) g
+reads-of s high low keyed a g m p = gives-filed (p .formed .table) (keyed-of m s p high low keyed, sets-in-of m s p) g
 
 -- the sheet of a settled session
 pub prints-settled : (s : Session) (v : Verdict) (high low : List ℕ) → Keyed (standing s) high low (s .«row_count»)
@@ -40,7 +40,7 @@ pub prints-settled : (s : Session) (v : Verdict) (high low : List ℕ) → Keyed
     → PrintsSheet v high low (s .«row_count») (s .sets) (s .«set_count») a (rounds-in s) old new r → KeepsIn (Phased (IsSettled v)) s (print (length old)) old new (reply s r)
 prints-settled s v high low keyed a reads old new r h m p e = record {
   session-is = p .whole ∙ ap (λ (x : Next). record-of (x .machine)) (sym (writing m (sheets v (length old) e)));
-  tells = h m (p .formed) e (keyed-of m s p high low keyed, worded-of m s p) (reads m p) (kept-of m s p);
+  tells = h m (p .formed) e (keyed-of m s p high low keyed, sets-in-of m s p) (reads m p) (kept-of m s p);
 }
 
 -- the rows of a session

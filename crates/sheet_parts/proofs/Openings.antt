@@ -140,12 +140,12 @@ module _ (m : Machine) (loop-rounds mix-rounds sets : List ℕ) (n : ℕ) (a : R
       (λ x y p q. let P = getD sets i 0 in
       rw (in-out k (getD loop-rounds i 0) (loops P) x p .1, in-out k (getD mix-rounds i 0) (mixes P) y q .1) (next-less {x = k} (P ∷ 0 ∷ []) (P ∷ 1 ∷ []) refl (next-less {x = P} (0 ∷ []) (1 ∷ []) refl (first-less {x = 0} {y = 1} [] [] (omega arith)))))
 
-  words-rise : (i j : ℕ) → i < j → j < n → getD sets i 0 < getD sets j 0
-  words-rise i j h l = rw (a .words-are i (omega arith), a .words-are j l) (rising (Rows.standing-sets (m .rows)) (sets-sorted (m .rows)) (sets-once (m .rows)) i j h (omega (arith, a .count)))
+  sets-rise : (i j : ℕ) → i < j → j < n → getD sets i 0 < getD sets j 0
+  sets-rise i j h l = rw (a .sets-are i (omega arith), a .sets-are j l) (rising (Rows.standing-sets (m .rows)) (sets-sorted (m .rows)) (sets-once (m .rows)) i j h (omega (arith, a .count)))
 
   below-ordered : (k : ℕ) → Ordered opening-key (openings-below loop-rounds mix-rounds sets n k)
   below-ordered k = upto-ordered opening-key (at k) n (λ i h. at-ordered k i) (λ i j x y h l p q.
-      set-less x y (at-round k i x p ∙ sym (at-round k j y q)) (omega (arith, at-set k i x p, at-set k j y q, words-rise i j h l)))
+      set-less x y (at-round k i x p ∙ sym (at-round k j y q)) (omega (arith, at-set k i x p, at-set k j y q, sets-rise i j h l)))
 
   in-round : (k : ℕ) (o : Opening) → o among openings-below loop-rounds mix-rounds sets n k → o .round ≡ k
   in-round k o m = let r = upto-out (at k) o n m in at-round k (r .0) o (r .2)
@@ -191,7 +191,7 @@ module _ (m : Machine) (loop-rounds mix-rounds sets : List ℕ) (n : ℕ) (a : R
         let p = place-of (Rows.standing-sets (m .rows)) (set-of (o .claim)) (sets-iff (m .rows) (set-of (o .claim)) .1 (s .1)) in
         let h : p .0 < n = omega (arith, p .1, a .count) in
         let k : o .round ≡ o .round - 1 + 1 = omega (arith, s .0) in
-        let j = at-place-in o (o .claim) (p .0) i h (a .words-are (p .0) h ∙ p .2) refl in
+        let j = at-place-in o (o .claim) (p .0) i h (a .sets-are (p .0) h ∙ p .2) refl in
         upto-in (λ k. openings-below loop-rounds mix-rounds sets n (k + 1)) o (o .round - 1) (m .rounds) (omega (arith, s .0, t .0))
         (upto-in (at (o .round - 1 + 1)) o (p .0) n h (subst (λ (x : ℕ). o among at x (p .0)) k j))
 

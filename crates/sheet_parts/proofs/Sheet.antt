@@ -30,7 +30,7 @@ module _ (m : Machine) (round : Claim → ℕ) (is : (c : Claim) → Noted m c (
   pub recorded : (size : ℕ) → Recorded m (padded size 0 (map (λ P. round (loops P)) (Rows.standing-sets (m .rows)))) (padded size 0 (map (λ P. round (mixes P)) (Rows.standing-sets (m .rows)))) (padded size 0 (Rows.standing-sets (m .rows))) (length (Rows.standing-sets (m .rows)))
   recorded size = record {
     count = refl;
-    words-are = padded-at size (Rows.standing-sets (m .rows));
+    sets-are = padded-at size (Rows.standing-sets (m .rows));
     loops-are = λ i h. rw (padded-map (λ P. round (loops P)) size (Rows.standing-sets (m .rows)) i h) (is (loops (getD (padded size 0 (Rows.standing-sets (m .rows))) i 0)));
     mixes-are = λ i h. rw (padded-map (λ P. round (mixes P)) size (Rows.standing-sets (m .rows)) i h) (is (mixes (getD (padded size 0 (Rows.standing-sets (m .rows))) i 0)));
   }

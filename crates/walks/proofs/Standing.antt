@@ -15,7 +15,7 @@ use Rattle.rows.specs.declared.Row.the-variants.{Successor, LeftLimit, RightLim
 use Rattle.rows.specs.Rows.{SetOf, standing-sets}
 use Rattle.rows.specs.Keys.{high, low}
 use Rattle.rows.proofs.Keys.{letter-low, letter-back}
-use Rattle.rows.proofs.Sets.{words-rise, set-place}
+use Rattle.rows.proofs.Sets.{sets-rise, set-place}
 use Rattle.orderings.specs.Steps.{Claim, loops, mixes, Label, letter, ω, back, mix, Step, Possible, needs}
 use Rattle.orderings.specs.Systems.{InForce}
 use Rattle.machine.specs.WellFormed.{Table}
@@ -55,7 +55,7 @@ module _ {g b : Graph} (turned : TurnedGraph g b) {force : Claims} {rows : List 
   place P h = let r = set-place rows (g .sets) k (is .masked .sets-are) P h in (r .0, r .1, r .2 ∙ sym (turned .sets-are (r .0)))
 
   rise : (i j : ℕ) → i < j → j < k → getD (b .sets) i 0 < getD (b .sets) j 0
-  rise i j h l = rw (turned .sets-are i, turned .sets-are j) (words-rise rows (g .sets) k (is .masked .sets-are) (sym count) i j h l)
+  rise i j h l = rw (turned .sets-are i, turned .sets-are j) (sets-rise rows (g .sets) k (is .masked .sets-are) (sym count) i j h l)
 
   -- the rows stand in order, and so do the sets
   pub in-order : InOrder highs lows n b force

@@ -1,7 +1,13 @@
 // The walk that a sheet prints: the first of the shortest from an initial to a final state.
 
+use machine::MOST_ROWS;
+use masks::NO_STATE;
+use masks::Places;
+use masks::STATES;
+use masks::Set;
 use search::Claims;
 use search::graphs::LEFTS;
+use search::graphs::Masks;
 use search::graphs::RIGHTS;
 use search::graphs::SETS;
 use search::graphs::mask_at;
@@ -38,11 +44,11 @@ enum Distance {
 
 // The states by their distance from the final ones, up to the first layer that has an initial one. `back` is the graph turned round.
 fn spread(
-    back: &[u64; 256],
+    back: &Masks,
     force: Claims,
-    initials: u64,
-    finals: u64,
-    layers: &mut [u64; 64],
+    initials: Set,
+    finals: Set,
+    layers: &mut [Set; STATES],
 ) -> Distance
     requires { ⌜ length (now layers) ≡ 64 ⌝ }
     ensures { λ r. ⌜ Spread (Ahead (graph-of (now (back .entry))) force) initials finals (now (layers .exit)) r ⌝ }
@@ -76,14 +82,14 @@ enum Choice {
 }
 
 // Is `t`, which may be any number, a state of `layer`?
-fn in_layer(layer: u64, t: u8) -> bool
+fn in_layer(layer: Set, t: u8) -> bool
     ensures { λ r. ⌜ r ≡ member t layer ⌝ }
 {
-    if t < 64 { has(layer, t) } else { false }
+    if t < NO_STATE { has(layer, t) } else { false }
 }
 
 // The place of the first row whose key is no less than `h`, where the keys stand in order.
-fn rows_from(high: &[u64; 256], low: &[u64; 256], row_count: usize, h: u64) -> usize
+fn rows_from(high: &[u64; MOST_ROWS], low: &[u64; MOST_ROWS], row_count: usize, h: u64) -> usize
     requires { ⌜ «row_count» ≤ 256 ⌝ }
     ensures { λ r. ⌜ RowsFrom (now (high .entry)) (now (low .entry)) «row_count» h r ⌝ }
 {
@@ -94,7 +100,13 @@ fn rows_from(high: &[u64; 256], low: &[u64; 256], row_count: usize, h: u64) -> u
 }
 
 // The first letter step from `a` into `layer`: the rows of `a` stand together, by letter and then by target.
-fn first_letter(high: &[u64; 256], low: &[u64; 256], row_count: usize, a: u8, layer: u64) -> Choice
+fn first_letter(
+    high: &[u64; MOST_ROWS],
+    low: &[u64; MOST_ROWS],
+    row_count: usize,
+    a: u8,
+    layer: Set,
+) -> Choice
     requires { ⌜ («row_count» ≤ 256) × (a < 64) ⌝ }
     ensures { λ r. ⌜ Picked layer (LetterAt (now (high .entry)) «row_count» a) 0
         (Ascending (now (high .entry)) (now (low .entry)) «row_count») r ⌝ }
@@ -118,7 +130,7 @@ fn first_letter(high: &[u64; 256], low: &[u64; 256], row_count: usize, a: u8, la
 }
 
 // The states of `there` and `layer` where `here` has `a`, else none.
-fn entered(here: u64, there: u64, a: u8, layer: u64) -> u64
+fn entered(here: Set, there: Set, a: u8, layer: Set) -> Set
     requires { ⌜ a < 64 ⌝ }
     ensures { λ r. ⌜ ((t : ℕ) → (t ∈ r) ↔ ((a ∈ here) × (t ∈ there) × (t ∈ layer))) ⌝ }
 {
@@ -131,12 +143,12 @@ fn entered(here: u64, there: u64, a: u8, layer: u64) -> u64
 
 // The first step from `a` into `layer` by one of the places: from a state of its mask in one part to one of its mask in another.
 fn first_pass(
-    back: &[u64; 256],
+    back: &Masks,
     here: usize,
     there: usize,
-    places: u64,
+    places: Places,
     a: u8,
-    layer: u64,
+    layer: Set,
     kind: u8,
 ) -> Choice
     requires { ⌜ (a < 64) × (here ≤ 192) × (there ≤ 192) ⌝ }
@@ -157,13 +169,13 @@ fn first_pass(
 
 // The first step from `a` into `layer`: by kind, then by letter or set, then by target. The graph is turned round, so its rights are the lefts.
 fn first_step(
-    high: &[u64; 256],
-    low: &[u64; 256],
+    high: &[u64; MOST_ROWS],
+    low: &[u64; MOST_ROWS],
     row_count: usize,
-    back: &[u64; 256],
+    back: &Masks,
     force: Claims,
     a: u8,
-    layer: u64,
+    layer: Set,
 ) -> Choice
     requires { ⌜ («row_count» ≤ 256) × (a < 64) ⌝ }
     ensures { λ r. ⌜ Chooses layer (Way (now (high .entry)) «row_count» (graph-of (now (back .entry))) force a)
@@ -189,9 +201,9 @@ pub struct FoundWalk {
     pub found: bool,
     pub start: u8,
     pub count: usize,
-    pub kinds: [u8; 64],
-    pub values: [u64; 64],
-    pub targets: [u8; 64],
+    pub kinds: [u8; STATES],
+    pub values: [u64; STATES],
+    pub targets: [u8; STATES],
 }
 
 // That there is none.
@@ -202,20 +214,20 @@ fn no_walk() -> FoundWalk
         found: false,
         start: 0,
         count: 0,
-        kinds: [0u8; 64],
-        values: [0u64; 64],
-        targets: [0u8; 64],
+        kinds: [0u8; STATES],
+        values: [0u64; STATES],
+        targets: [0u8; STATES],
     }
 }
 
 // The walk of `d` steps from `start` that goes down one layer at each step, by the first step into it.
 fn follow(
-    high: &[u64; 256],
-    low: &[u64; 256],
+    high: &[u64; MOST_ROWS],
+    low: &[u64; MOST_ROWS],
     row_count: usize,
-    back: &[u64; 256],
+    back: &Masks,
     force: Claims,
-    layers: &[u64; 64],
+    layers: &[Set; STATES],
     start: u8,
     d: usize,
 ) -> FoundWalk
@@ -224,9 +236,9 @@ fn follow(
         (InOrder (now (high .entry)) (now (low .entry)) «row_count» (graph-of (now (back .entry))) force)
         (now (layers .entry)) start d r ⌝ }
 {
-    let mut kinds = [0u8; 64];
-    let mut values = [0u64; 64];
-    let mut targets = [0u8; 64];
+    let mut kinds = [0u8; STATES];
+    let mut values = [0u64; STATES];
+    let mut targets = [0u8; STATES];
     let mut a = start;
     let mut i = 0;
     while i < d {
@@ -253,13 +265,13 @@ fn follow(
 
 // The first of the shortest walks from an initial to a final state, with the claims in force. `back` is the graph turned round.
 pub fn first_walk(
-    high: &[u64; 256],
-    low: &[u64; 256],
+    high: &[u64; MOST_ROWS],
+    low: &[u64; MOST_ROWS],
     row_count: usize,
-    back: &[u64; 256],
+    back: &Masks,
     force: Claims,
-    initials: u64,
-    finals: u64,
+    initials: Set,
+    finals: Set,
 ) -> FoundWalk
     requires { ⌜ «row_count» ≤ 256 ⌝ }
     ensures bounded { λ r. ⌜ Bounded r ⌝ }
@@ -267,7 +279,7 @@ pub fn first_walk(
         (graph-of (now (back .entry))) force
         initials finals r ⌝ }
 {
-    let mut layers = [0u64; 64];
+    let mut layers = [0u64; STATES];
     match spread(back, force, initials, finals, &mut layers) {
         Distance::At(d) => {
             let start = lowest(intersection(layers[d], initials));

@@ -26,11 +26,11 @@ use Rattle.machine.specs.Causes.{sheets}
 use Rattle.machine.proofs.Answers.{tells-as}
 use Rattle.machine.proofs.Outcomes.{writing}
 use Rattle.machine.proofs.Text.{number-length}
-use Rattle.row_table.specs.Arrays.{Worded}
+use Rattle.row_table.specs.Arrays.{SetsIn}
 use Rattle.search.specs.declared.Claims.{Claims}
 use Rattle.search.specs.Graph.{Graph, graph-of, TurnedGraph}
 use Rattle.automaton.specs.declared.Automaton.{Automaton}
-use Rattle.automaton.proofs.Passing.{graph-worded}
+use Rattle.automaton.proofs.Passing.{graph-sets-in}
 use Rattle.rounds.specs.declared.Progress.{Progress}
 use Rattle.rounds.specs.Arrays.{round-of, OpenPlaces}
 use Rattle.rounds.specs.Promises.{Mirrors}
@@ -51,7 +51,7 @@ finds highs lows n k a rounds back force w turned h g f m sets formed filed give
     f (graph-of (a .graph)) (m .rows) (open-claims m) k turned
     (record {
       masked = gives .masked;
-      forced = forced-of m formed (graph-of (a .graph)) k (graph-worded (m .rows) sets k a gives (filed .1))
+      forced = forced-of m formed (graph-of (a .graph)) k (graph-sets-in (m .rows) sets k a gives (filed .1))
           (rounds .«loop_rounds») (rounds .«mix_rounds») (kept .loops-are) (kept .mixes-are) force h g;
     })
     (sym (filed .1 .count)) (filed .0) (formed .table) (gives .initial-iff) (gives .final-iff)
@@ -68,10 +68,10 @@ noted-in c (o ∷ l) = go (same-claim c (o .claim)) (same-claim· c (o .claim)) 
     go true d r = inr (List·Memᴰ·head (ap (λ (e : Claim). opened (o .round) e) (yes· d)))
     go false d r = ⊎-elim (λ p. inl ((λ m. ⊎-elim (λ e. no· d e) (λ i. p .0 i) (List·Memᴰ·cases-cons m)), p .1)) (λ i. inr (List·Memᴰ·tail i)) r
 
-module _ (m : Machine) (formed : WellFormed m) (sets : List ℕ) (k : ℕ) (worded : Worded (m .rows) sets k)
+module _ (m : Machine) (formed : WellFormed m) (sets : List ℕ) (k : ℕ) (sets-in : SetsIn (m .rows) sets k)
     (rounds : Progress) (kept : Mirrors m (rounds .«loop_rounds») (rounds .«mix_rounds») (rounds .phase) (rounds .rounds)) where
   recorded-of : Recorded m (rounds .«loop_rounds») (rounds .«mix_rounds») sets k
-  recorded-of = rw (kept .loops-are, kept .mixes-are, worded .words-are, worded .count) (recorded m (round-of (m .openings)) (λ c. noted-in c (m .openings)) 64)
+  recorded-of = rw (kept .loops-are, kept .mixes-are, sets-in .sets-are, sets-in .count) (recorded m (round-of (m .openings)) (λ c. noted-in c (m .openings)) 64)
 
   pub empty-sheet : m .phase ≡ Settled Empty → sheet Empty m ≡ head-text Empty sets k rounds
   unfolding head-text

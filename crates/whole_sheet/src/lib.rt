@@ -6,9 +6,11 @@ use machine::Answer;
 use machine::MOST_ROWS;
 use machine::MOST_SETS;
 use machine::Verdict;
+use masks::Set;
 use rounds::Progress;
 use search::Claims;
 use search::graphs;
+use search::graphs::MASKS;
 use walks::FoundWalk;
 ghost use mathlib.Core.Path.{_≡_};
 ghost use mathlib.Core.Option.{some};
@@ -30,7 +32,7 @@ fn openings_at(
     at: usize,
     looped: &[u8; MOST_SETS],
     mixed: &[u8; MOST_SETS],
-    sets: &[u64; MOST_SETS],
+    sets: &[Set; MOST_SETS],
     set_count: usize,
     count: u8,
 ) -> usize
@@ -54,7 +56,7 @@ fn walk_at(buf: &mut [u8], at: usize, walk: FoundWalk) -> usize
 }
 
 // How long the lines of the verdict and of the openings are.
-fn head_len(v: Verdict, sets: &[u64; MOST_SETS], set_count: usize, rounds: Progress) -> usize
+fn head_len(v: Verdict, sets: &[Set; MOST_SETS], set_count: usize, rounds: Progress) -> usize
     requires { ⌜ «set_count» ≤ 64 ⌝ }
     ensures { λ r. ⌜ (r ≡ length (head-text v (now (sets .entry)) «set_count» rounds)) × (r ≤ 1100000) ⌝ }
 {
@@ -69,7 +71,7 @@ fn head_len(v: Verdict, sets: &[u64; MOST_SETS], set_count: usize, rounds: Progr
 fn put_head(
     buffer: &mut [u8],
     v: Verdict,
-    sets: &[u64; MOST_SETS],
+    sets: &[Set; MOST_SETS],
     set_count: usize,
     rounds: Progress,
 ) -> usize
@@ -99,7 +101,7 @@ fn first_walk(
 {
     let looped = rounds.loop_rounds;
     let mixed = rounds.mix_rounds;
-    let mut back = [0u64; 256];
+    let mut back = [0u64; MASKS];
     graphs::turn(&a.graph, &mut back);
     let loops = rounds::open_mask(&looped, set_count);
     let mixes = rounds::open_mask(&mixed, set_count);
@@ -110,7 +112,7 @@ fn first_walk(
 // The sheet of an empty automaton: the verdict and the openings.
 fn print_empty(
     buffer: &mut [u8],
-    sets: &[u64; MOST_SETS],
+    sets: &[Set; MOST_SETS],
     set_count: usize,
     rounds: Progress,
 ) -> Answer
@@ -129,7 +131,7 @@ fn print_empty(
 // The sheet of a non-empty one: the verdict, the openings and the walk.
 fn print_nonempty(
     buffer: &mut [u8],
-    sets: &[u64; MOST_SETS],
+    sets: &[Set; MOST_SETS],
     set_count: usize,
     rounds: Progress,
     walk: FoundWalk,
@@ -155,7 +157,7 @@ pub fn print(
     high: &[u64; MOST_ROWS],
     low: &[u64; MOST_ROWS],
     row_count: usize,
-    sets: &[u64; MOST_SETS],
+    sets: &[Set; MOST_SETS],
     set_count: usize,
     a: Automaton,
     rounds: Progress,
