@@ -18,7 +18,7 @@ use Rattle.rows.specs.declared.Row.the-variants.{Initial, Final, Success
 use Rattle.rows.specs.declared.ReadRow.{ReadRow}
 use Rattle.rows.specs.declared.ReadRow.the-variants.{Read, Refused}
 use Rattle.rows.specs.Rows.{big, row-bytes, Fits, Bytes}
-use Rattle.rows.specs.Reading.{number, set-at, row-at, cut-or-high, row-cause, read-row, Known, width, state-places, set-places, Malformed, unknown-kind, cut-short, high-state, zero-set}
+use Rattle.rows.specs.Reading.{number, set-at, row-at, cut-or-high, row-cause, read-row, Known, width, state-places, set-places, Malformed, unknown-kind, cut-short, high-state, zero-set, Headed}
 
 -- without one byte more
 high : (x n : ℕ) → x / 256 ^ suc n ≡ x / 256 ^ n / 256
@@ -253,7 +253,7 @@ unfolding read-row
 read-sound k l h s = rw (no-cause k (k ∷ l) h s)
 
 -- known and whole where no cause refuses it
-pub none-caused : (l : List ℕ) → row-cause (getD l 0 0) l ≡ 0 → Known (getD l 0 0) × (width (getD l 0 0) ≤ length l)
+none-caused : (l : List ℕ) → row-cause (getD l 0 0) l ≡ 0 → Known (getD l 0 0) × (width (getD l 0 0) ≤ length l)
 none-caused l e = let c = subst (Caused l) e (caused l) in (c .0, c .1 .whole)
 
 -- a row that fits is read back, whatever follows it
@@ -304,6 +304,24 @@ pub read-some : (l : List ℕ) → 0 < length l
 unfolding read-row
 read-some [] h = absurd (omega arith)
 read-some (k ∷ l) h = refl
+
+-- by the kind at the head: the number that refuses the row, or the row
+module _ (k : ℕ) (l : List ℕ) (h : Headed k l) where
+  headed : read-row l ≡ cond (eqb (row-cause k l) 0) (Read (row-at k l) (width k)) (Refused (row-cause k l))
+  headed = rw (h .1) at (read-some l (h .0))
+
+  pub read-caused : ¬ (row-cause k l ≡ 0) → read-row l ≡ Refused (row-cause k l)
+  read-caused n = headed ∙ cond-no _ (eqb· (row-cause k l) 0) n refl
+
+  pub read-clear : row-cause k l ≡ 0 → read-row l ≡ Read (row-at k l) (width k)
+  read-clear e = headed ∙ cond-yes _ (eqb· (row-cause k l) 0) e
+
+  -- known and whole where no cause refuses it
+  pub clear-whole : row-cause k l ≡ 0 → Known k × (width k ≤ length l)
+  clear-whole e = rw (h .1) at (none-caused l (ap (λ (x : ℕ). row-cause x l) (h .1) ∙ e))
+
+  pub read-unknown : ¬ Known k → read-row l ≡ Refused 2
+  read-unknown n = let e = unknown-cause k l n in read-caused (λ z. omega arith) ∙ ap Refused e
 
 by-cause : (l : List ℕ) (n : ℕ) → Caused l n → Right l (cond (eqb n 0) (Read (row-at (getD l 0 0) l) (width (getD l 0 0))) (Refused n))
 by-cause l zero c = (c .0, c .1, refl, refl)

@@ -59,6 +59,10 @@ unfoldable pub read-row : List ℕ → ReadRow
 read-row [] = Refused 3
 read-row (k ∷ l) = cond (eqb (row-cause k (k ∷ l)) 0) (Read (row-at k (k ∷ l)) (width k)) (Refused (row-cause k (k ∷ l)))
 
+-- the kind at the head of the bytes
+abbrev pub Headed : ℕ → List ℕ → Type 0
+Headed k l = (0 < length l) × (getD l 0 0 ≡ k)
+
 -- the kind at the head of the bytes, of which a whole row is there
 abbrev pub Whole : ℕ → List ℕ → Type 0
 Whole k l = (getD l 0 0 ≡ k) × Known k × (width k ≤ length l)

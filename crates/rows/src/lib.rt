@@ -8,7 +8,7 @@ ghost use lib.Dec.{eqb};
 ghost use lib.ListN.{length};
 ghost use Rattle.lists.specs.Writing.{Wrote};
 ghost use Rattle.rows.specs.Rows.{row-bytes};
-ghost use Rattle.rows.specs.Reading.{set-at, Known, width, row-at, cut-or-high, row-cause, read-row};
+ghost use Rattle.rows.specs.Reading.{set-at, Known, width, row-at, cut-or-high, row-cause, read-row, Headed};
 ghost use Rattle.rows.specs.Keys.{high, low, row-from, set-or-none};
 ghost use Rattle.rows.specs.Storing.{stored};
 
@@ -100,20 +100,6 @@ fn limit_cause(rest: &[u8], state: usize, set: usize) -> u8
     if set_at(rest, set) == 0 { 5 } else { 0 }
 }
 
-// The lowest number that refuses a row of the kind at the head of the bytes, 0 if none does.
-fn cause_of(rest: &[u8], kind: u8) -> u8
-    ensures { λ r. ⌜ r ≡ row-cause kind (now (rest .entry)) ⌝ }
-{
-    match kind {
-        1 => cut_or_high(rest, 2, 1, 1),
-        2 => cut_or_high(rest, 2, 1, 1),
-        3 => cut_or_high(rest, 4, 1, 3),
-        4 => limit_cause(rest, 9, 1),
-        5 => limit_cause(rest, 1, 2),
-        0 | 6..=255 => 2,
-    }
-}
-
 // The row of the kind at the head of the bytes, of which there are enough.
 fn row_at(rest: &[u8], kind: u8) -> Row
     requires { ⌜ Known kind × (width kind ≤ length (now rest)) ⌝ }
@@ -128,20 +114,33 @@ fn row_at(rest: &[u8], kind: u8) -> Row
     }
 }
 
-// The row at the head of the bytes, or the lowest number that refuses it.
+// The row of the kind at the head of the bytes, or the number `cause` that refuses it, if that is not 0.
+fn unless(cause: u8, rest: &[u8], kind: u8) -> ReadRow
+    requires { ⌜ Headed kind (now rest) × (cause ≡ row-cause kind (now rest)) ⌝ }
+    ensures { λ r. ⌜ r ≡ read-row (now (rest .entry)) ⌝ }
+{
+    if cause != 0 {
+        return ReadRow::Refused(cause);
+    }
+    let row = row_at(rest, kind);
+    ReadRow::Read(row, row_len(row))
+}
+
+// The row at the head of the bytes, or the lowest number that refuses it. One match for the cause and for the row.
 pub fn read_row(rest: &[u8]) -> ReadRow
     ensures { λ r. ⌜ r ≡ read-row (now (rest .entry)) ⌝ }
 {
     if rest.len() == 0 {
         return ReadRow::Refused(3);
     }
-    let kind = rest[0];
-    let cause = cause_of(rest, kind);
-    if cause != 0 {
-        return ReadRow::Refused(cause);
+    match rest[0] {
+        1 => unless(cut_or_high(rest, 2, 1, 1), rest, 1),
+        2 => unless(cut_or_high(rest, 2, 1, 1), rest, 2),
+        3 => unless(cut_or_high(rest, 4, 1, 3), rest, 3),
+        4 => unless(limit_cause(rest, 9, 1), rest, 4),
+        5 => unless(limit_cause(rest, 1, 2), rest, 5),
+        0 | 6..=255 => ReadRow::Refused(2),
     }
-    let row = row_at(rest, kind);
-    ReadRow::Read(row, row_len(row))
 }
 
 // How many bytes the row has.

@@ -1,36 +1,55 @@
--- `rows::read_row` meets its contract: a row without a cause, or the cause.
-use mathlib.Core.Path.{sym, _∙_}
-use Prim.Native.Nat.{_≤_}
+-- `rows::read_row` meets its contract: each kind by its table; no other kind is known.
+use Prim.Native.Nat.{_<_}
+use mathlib.Core.Path.{refl, sym, _∙_}
+use mathlib.Core.Bool.{or-false}
 use native.Mathlib.Omega.{arith}
-use lib.ListN.{length, getD}
-use Rattle.rows.specs.Reading.{Known, width}
-use borrow.Author.Tests.{ne-eqb}
 use borrow.Author.Needs.{needs}
-use Rattle.rows.proofs.Reading.{read-none, read-some, none-caused, size-at}
+use lib.ListN.{length}
+use Rattle.rows.specs.Reading.{row-cause}
+use Rattle.rows.proofs.Reading.{read-none, place-twice, read-unknown}
 use Rattle.rows.proofs.read_row.Statement.{statement}
 use Rattle.rows.proofs.read_row.Tie as tie
 
 returns : tie.Need-returns
 returns c = sym (read-none _ (c .if1 .taken))
 
-returns-2 : tie.Need-returns-2
-returns-2 c =
-    let start = c .before .before .before in
-    sym (read-some _ (omega (arith, start .if1 .left)) ∙ rw (← c .before .cause-of .ensures) (rw (ne-eqb _ _ (c .if2 .taken))))
+-- some byte is there
+some-byte : (c : tie.Else1) → 0 < length (c .before .before .args .rest .now)
+some-byte c = omega (arith, c .if1 .left)
 
--- the kind is known, and the row whole
-fine : (c : tie.Else2) → let l = c .before .before .before .before .before .args .rest .now in Known (getD l 0 0) × (width (getD l 0 0) ≤ length l)
-fine c = none-caused (c .before .before .before .before .before .args .rest .now) (sym (c .before .cause-of .ensures) ∙ c .if2 .left)
+unless-requires : tie.Need-unless-requires
+unfolding row-cause
+unless-requires c κs = (
+  (some-byte (c .before .before .before), c .before .match .keys1),
+  c .cut-or-high .ensures ∙ place-twice 2 (c .before .before .before .before .before .args .rest .now) 1 0,
+)
 
-row-at-requires : tie.Need-row-at-requires
-row-at-requires c κs = fine c
+unless-requires-2 : tie.Need-unless-requires-2
+unfolding row-cause
+unless-requires-2 c κs = (
+  (some-byte (c .before .before .before), c .before .match .keys2),
+  c .cut-or-high2 .ensures ∙ place-twice 2 (c .before .before .before .before .before .args .rest .now) 1 0,
+)
 
-returns-3 : tie.Need-returns-3
-returns-3 c =
-    let clear = c .before .before in
-    let start = clear .before .before .before in
-    let size = size-at (start .before .before .args .rest .now) (getD (start .before .before .args .rest .now) 0 0) (fine clear .0) in
-    sym (read-some _ (omega (arith, start .if1 .left)) ∙ rw (← clear .before .cause-of .ensures) (rw (clear .if2 .left, c .row-len .ensures, c .before .row-at .ensures, size)))
+unless-requires-3 : tie.Need-unless-requires-3
+unfolding row-cause
+unless-requires-3 c κs = ((some-byte (c .before .before .before), c .before .match .keys3), c .cut-or-high3 .ensures)
+
+unless-requires-4 : tie.Need-unless-requires-4
+unfolding row-cause
+unless-requires-4 c κs = ((some-byte (c .before .before .before), c .before .match .keys4), c .limit-cause .ensures ∙ sym (simp or-false))
+
+unless-requires-5 : tie.Need-unless-requires-5
+unfolding row-cause
+unless-requires-5 c κs = ((some-byte (c .before .before .before), c .before .match .keys5), c .limit-cause2 .ensures ∙ sym (simp or-false))
+
+returns-7 : tie.Need-returns-7
+returns-7 c = sym (read-unknown 0 _ (some-byte (c .before .before), c .match .keys6) (λ h. omega (arith, h)))
+
+returns-8 : tie.Need-returns-8
+returns-8 c =
+    let r = c .match .rest in
+    sym (read-unknown _ _ (some-byte (c .before .before), refl) (λ h. omega (arith, h, r .0 .0 .0 .0 .0 .1, r .0 .0 .0 .0 .1, r .0 .0 .0 .1, r .0 .0 .1, r .0 .1)))
 
 pub read-row-spec : {M : Type 1} → statement M
 read-row-spec =
@@ -39,7 +58,19 @@ read-row-spec =
     returns
     (λ c. search needs)
     (λ c κs. search needs)
-    returns-2
-    row-at-requires
+    unless-requires
     (λ c κs. search needs)
-    returns-3)
+    unless-requires-2
+    (λ c κs. search needs)
+    unless-requires-3
+    (λ c κs. search needs)
+    unless-requires-4
+    (λ c κs. search needs)
+    unless-requires-5
+    (λ c. search needs)
+    (λ c. search needs)
+    (λ c. search needs)
+    (λ c. search needs)
+    (λ c. search needs)
+    returns-7
+    returns-8)
