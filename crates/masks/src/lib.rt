@@ -2,7 +2,6 @@
 
 ghost use mathlib.Core.Path.{_≡_};
 ghost use mathlib.Core.Bool.{not, _&&_, _||_};
-ghost use mathlib.Core.Logic.{_↔_, _≢_};
 ghost use Prim.Native.Nat.{ℕ, _≤_, _<_};
 ghost use lib.Dec.{eqb};
 ghost use lib.ListN.{length};
@@ -76,14 +75,6 @@ pub fn lowest(m: Set) -> u8
     u64::trailing_zeros(m) as u8
 }
 
-// The states of `m` but the lowest.
-pub fn without_lowest(m: Set) -> Set
-    requires { ⌜ 0 < m ⌝ }
-    ensures { λ r. ⌜ ((i : ℕ) → i ∈ m → ((t : ℕ) → t ∈ m → i ≤ t) → (t : ℕ) → (t ∈ r) ↔ ((t ∈ m) × (t ≢ i))) ⌝ }
-{
-    intersection(m, m - 1)
-}
-
 // The lowest state of a set, and the others.
 pub struct Taken {
     pub low: u8,
@@ -97,7 +88,7 @@ pub fn take_lowest(m: Set) -> Taken
 {
     Taken {
         low: lowest(m),
-        rest: without_lowest(m),
+        rest: intersection(m, m - 1),
     }
 }
 
