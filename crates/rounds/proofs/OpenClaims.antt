@@ -2,14 +2,14 @@
 use Prim.Native.Nat.{ℕ, zero, suc, _<_, _≤_, _+_, _-_}
 use mathlib.Core.Path.{_≡_, refl, ap, sym, _∙_, subst}
 use mathlib.Core.Bool.{Bool, true, false, cond, _||_}
-use mathlib.Core.Logic.{⊎-elim, _↔_}
+use mathlib.Core.Logic.{_⊎_, inl, inr, ⊎-elim, _↔_}
 use mathlib.Core.List.{List, [], _∷_, _++_, map, List·Memᴰ·head, List·Memᴰ·tail, List·Memᴰ·not-nil, List·Memᴰ·cases-cons}
 use lib.ListN.{length, getD, replicate, length-replicate, replicate-append-replicate}
 use native.Mathlib.Omega.{arith}
 use native.Mathlib.Nat.{eq-or-lt-of-le}
 use lib.Dec.{eqb}
-use Rattle.lists.specs.Tests.{Decides, _among_}
-use Rattle.lists.proofs.Deciding.{yes·, no·}
+use Rattle.lists.specs.Tests.{Decides, _among_, Once}
+use Rattle.lists.proofs.Deciding.{yes·, no·, map-in}
 use Rattle.masks.specs.Mask.{member, _∈_}
 use Rattle.masks.proofs.Member.{with-same, with-cases}
 use Rattle.rows.specs.declared.Row.{Row}
@@ -53,19 +53,34 @@ none-more rounds r i h g k = (
 
 -- ---- the claims that are open
 
+-- the round of a claim is that of its opening, or 0 where nothing opened it
+pub round-found : (c : Claim) (l : List Opening) → (¬ (c among map (λ (o : Opening). o .claim) l) × (round-of l c ≡ 0)) ⊎ (record { round = round-of l c; claim = c } among l)
+round-found c [] = inl ((λ m. List·Memᴰ·not-nil m), refl)
+round-found c (o ∷ l) = go (same-claim c (o .claim)) (same-claim· c (o .claim)) (round-found c l)
+  where
+    go : (b : Bool) → Decides b (c ≡ o .claim) → (¬ (c among map (λ (o : Opening). o .claim) l) × (round-of l c ≡ 0)) ⊎ (record { round = round-of l c; claim = c } among l)
+        → (¬ (c among (o .claim ∷ map (λ (o : Opening). o .claim) l)) × (cond b (o .round) (round-of l c) ≡ 0)) ⊎ (record { round = cond b (o .round) (round-of l c); claim = c } among (o ∷ l))
+    go true d r = inr (List·Memᴰ·head (ap (λ (e : Claim). record { round = o .round; claim = e }) (yes· d)))
+    go false d r = ⊎-elim (λ p. inl ((λ m. ⊎-elim (λ e. no· d e) (λ i. p .0 i) (List·Memᴰ·cases-cons m)), p .1)) (λ i. inr (List·Memᴰ·tail i)) r
+
+-- where no claim is opened twice, the round of a claim that is open is that of its opening
+pub round-is : (l : List Opening) → Once (map (λ (o : Opening). o .claim) l) → (o : Opening) → o among l → round-of l (o .claim) ≡ o .round
+round-is [] u o i = absurd (List·Memᴰ·not-nil i)
+round-is (x ∷ l) u o i = go (same-claim (o .claim) (x .claim)) (same-claim· (o .claim) (x .claim)) (List·Memᴰ·cases-cons i) (round-is l (u .1) o)
+  where
+    go : (b : Bool) → Decides b (o .claim ≡ x .claim) → (o ≡ x) ⊎ (o among l) → (o among l → round-of l (o .claim) ≡ o .round) → cond b (x .round) (round-of l (o .claim)) ≡ o .round
+    go true d (inl e) r = ap (λ (q : Opening). q .round) (sym e)
+    go true d (inr j) r = absurd (u .0 (subst (λ (c : Claim). c among map (λ (o : Opening). o .claim) l) (yes· d) (map-in (λ (o : Opening). o .claim) j)))
+    go false d (inl e) r = absurd (no· d (ap (λ (q : Opening). q .claim) e))
+    go false d (inr j) r = r j
+
 -- every opening has a round of 1 or more
 abbrev Counted : List Opening → Type 0
 Counted l = (o : Opening) → o among l → 0 < o .round
 
 -- among such openings the round of a claim is not 0 just where one opened it
 round-iff : (c : Claim) (l : List Opening) → Counted l → (0 < round-of l c) ↔ c among map (λ (o : Opening). o .claim) l
-round-iff c [] h = ((λ p. absurd (omega arith)), λ m. absurd (List·Memᴰ·not-nil m))
-round-iff c (o ∷ l) h = go (same-claim c (o .claim)) (same-claim· c (o .claim)) (round-iff c l (λ x m. h x (List·Memᴰ·tail m)))
-  where
-    go : (b : Bool) → Decides b (c ≡ o .claim) → (0 < round-of l c) ↔ c among map (λ (o : Opening). o .claim) l
-        → (0 < cond b (o .round) (round-of l c)) ↔ c among (o .claim ∷ map (λ (o : Opening). o .claim) l)
-    go true d r = ((λ p. List·Memᴰ·head (yes· d)), λ m. h o (List·Memᴰ·head refl))
-    go false d r = ((λ p. List·Memᴰ·tail (r .0 p)), λ m. r .1 (⊎-elim (λ e. absurd (no· d e)) (λ i. i) (List·Memᴰ·cases-cons m)))
+round-iff c l h = ⊎-elim (λ p. ((λ g. absurd (omega (arith, p .1))), λ m. absurd (p .0 m))) (λ i. ((λ g. map-in (λ (o : Opening). o .claim) i), λ m. h _ i)) (round-found c l)
 
 -- no claim is opened in round 0
 later : (rows : List Row) (k : ℕ) (c : Claim) → Opens (timelines rows) k c → 0 < k

@@ -4,32 +4,37 @@ use Prim.Native.Nat.{ℕ, zero, suc, _+_, _-_, _<_}
 use mathlib.Core.Path.{_≡_, refl, ap, sym, _∙_, subst}
 use mathlib.Core.Bool.{Bool, true, false, cond}
 use mathlib.Core.Logic.{_⊎_, inl, inr, ⊎-elim}
-use mathlib.Core.List.{List, [], _∷_, _++_, map, List·Memᴰ·head, List·Memᴰ·not-nil, List·Memᴰ·cases-cons, List·Memᴰ·append-cases, List·Memᴰ·eq-of-singleton, Memᴰ·append-left, Memᴰ·append-right}
+use mathlib.Core.List.{List, [], _∷_, _++_, List·Memᴰ·head, List·Memᴰ·not-nil, List·Memᴰ·append-cases, List·Memᴰ·eq-of-singleton, Memᴰ·append-left, Memᴰ·append-right}
 use native.Mathlib.Omega.{arith}
 use native.Mathlib.Decide.{decLt}
 use lib.Dec.{eqb}
-use lib.ListN.{getD}
+use lib.ListN.{getD, take}
 use Rattle.lists.specs.Tests.{Decides, _among_, _part-of_, Once}
 use Rattle.lists.specs.Order.{_≺_, Sorted}
-use Rattle.lists.proofs.Deciding.{eqb·, yes·, no·, map-in}
-use Rattle.lists.proofs.Places.{place-of, rising}
+use Rattle.lists.proofs.Deciding.{eqb·, yes·, no·}
+use Rattle.lists.proofs.Places.{held-place}
 use Rattle.lists.proofs.Counting.{once-append}
 use Rattle.lists.proofs.Sorting.{before·, ≺-irreflexive, ≺-trans, sorted-append, sorted-same}
+use Rattle.sorted_keys.specs.Keys.{Rising}
 use Rattle.rows.specs.declared.Row.{Row}
 use Rattle.rows.specs.Rows as Rows
 use Rattle.rows.specs.Rows.{SetOf}
-use Rattle.rows.proofs.Sets.{sets-iff, sets-sorted, sets-once}
+use Rattle.rows.proofs.Sets.{sets-iff, sets-rise}
 use Rattle.orderings.specs.Steps.{Claim, loops, mixes, set-of}
 use Rattle.orderings.specs.Rounds.{Opens}
 use Rattle.orderings.specs.Timelines.{timelines}
 use Rattle.orderings.proofs.Depths.{opens-iff-least}
 use Rattle.orderings.proofs.Timelines.{lawful}
-use Rattle.machine.specs.Machine.{Opening, Machine, open-claims}
+use Rattle.machine.specs.Machine.{Opening, Machine}
 use Rattle.machine.specs.WellFormed.{Worked, WellFormed}
 use Rattle.machine.specs.Statements.{loop-first, opening-key, Listed}
 use Rattle.machine.proofs.Statements.{worked-listed}
 use Rattle.machine.proofs.Second.{opening-apart, openings-once}
-use Rattle.sheet_parts.specs.Openings.{upto, opened, opening-in, openings-at, openings-below, openings-in, Noted, Recorded}
+use Rattle.row_table.specs.Arrays.{SetsIn}
+use Rattle.row_table.proofs.Sets.{sets-in-held}
+use Rattle.rounds.specs.Arrays.{round-of, rounds-of}
+use Rattle.rounds.proofs.OpenClaims.{round-found, round-is, round-at}
+use Rattle.sheet_parts.specs.Openings.{upto, opened, opening-in, openings-at, openings-below, openings-in}
 
 -- ---- lists one after another
 
@@ -103,24 +108,14 @@ in-ordered k round c = go (eqb round k)
     go true = (((λ y m. absurd (List·Memᴰ·not-nil m)), tt), ((λ m. List·Memᴰ·not-nil m), tt))
     go false = (tt, tt)
 
--- no claim is opened twice
-once-claims : (l : List Opening) → Once (map (λ (o : Opening). o .claim) l) → (o p : Opening) → o among l → p among l → o .claim ≡ p .claim → o ≡ p
-once-claims [] u o p i j e = absurd (List·Memᴰ·not-nil i)
-once-claims (x ∷ l) u o p i j e =
-    ⊎-elim
-    (λ a. ⊎-elim (λ b. a ∙ sym b) (λ b. absurd (twice p b (sym (ap (λ (q : Opening). q .claim) a) ∙ e))) (List·Memᴰ·cases-cons j))
-    (λ a. ⊎-elim (λ b. absurd (twice o a (sym (ap (λ (q : Opening). q .claim) b) ∙ sym e))) (λ b. once-claims l (u .1) o p a b e) (List·Memᴰ·cases-cons j))
-    (List·Memᴰ·cases-cons i)
-  where
-    twice : (q : Opening) → q among l → x .claim ≡ q .claim → ⊥
-    twice q m f = u .0 (subst (λ (c : Claim). c among map (λ (o : Opening). o .claim) l) (sym f) (map-in (λ (o : Opening). o .claim) m))
-
 -- a claim that a round opens is about a set of a standing row, and the round is not 0
 subject : (rows : List Row) (k : ℕ) (c : Claim) → Opens (timelines rows) k c → (0 < k) × SetOf rows (set-of c)
 subject rows zero c o = absurd o
 subject rows (suc k) c o = (omega arith, o .0 .0)
 
-module _ (m : Machine) (loop-rounds mix-rounds sets : List ℕ) (n : ℕ) (a : Recorded m loop-rounds mix-rounds sets n) where
+-- ---- at the places of arrays
+
+module _ (loop-rounds mix-rounds sets : List ℕ) where
   abbrev at : ℕ → ℕ → List Opening
   at k i = openings-at loop-rounds mix-rounds sets k i
 
@@ -140,65 +135,75 @@ module _ (m : Machine) (loop-rounds mix-rounds sets : List ℕ) (n : ℕ) (a : R
       (λ x y p q. let P = getD sets i 0 in
       rw (in-out k (getD loop-rounds i 0) (loops P) x p .1, in-out k (getD mix-rounds i 0) (mixes P) y q .1) (next-less {x = k} (P ∷ 0 ∷ []) (P ∷ 1 ∷ []) refl (next-less {x = P} (0 ∷ []) (1 ∷ []) refl (first-less {x = 0} {y = 1} [] [] (omega arith)))))
 
-  sets-rise : (i j : ℕ) → i < j → j < n → getD sets i 0 < getD sets j 0
-  sets-rise i j h l = rw (a .sets-are i (omega arith), a .sets-are j l) (rising (Rows.standing-sets (m .rows)) (sets-sorted (m .rows)) (sets-once (m .rows)) i j h (omega (arith, a .count)))
+  module _ (n : ℕ) (rise : Rising sets n) where
+    below-ordered : (k : ℕ) → Ordered opening-key (openings-below loop-rounds mix-rounds sets n k)
+    below-ordered k = upto-ordered opening-key (at k) n (λ i h. at-ordered k i) (λ i j x y h l p q.
+        set-less x y (at-round k i x p ∙ sym (at-round k j y q)) (omega (arith, at-set k i x p, at-set k j y q, rise i j h l)))
 
-  below-ordered : (k : ℕ) → Ordered opening-key (openings-below loop-rounds mix-rounds sets n k)
-  below-ordered k = upto-ordered opening-key (at k) n (λ i h. at-ordered k i) (λ i j x y h l p q.
-      set-less x y (at-round k i x p ∙ sym (at-round k j y q)) (omega (arith, at-set k i x p, at-set k j y q, sets-rise i j h l)))
+    in-round : (k : ℕ) (o : Opening) → o among openings-below loop-rounds mix-rounds sets n k → o .round ≡ k
+    in-round k o m = let r = upto-out (at k) o n m in at-round k (r .0) o (r .2)
 
-  in-round : (k : ℕ) (o : Opening) → o among openings-below loop-rounds mix-rounds sets n k → o .round ≡ k
-  in-round k o m = let r = upto-out (at k) o n m in at-round k (r .0) o (r .2)
+    all-ordered : (rounds : ℕ) → Ordered opening-key (openings-in loop-rounds mix-rounds sets n rounds)
+    all-ordered rounds = upto-ordered opening-key _ rounds (λ k h. below-ordered (k + 1)) (λ i j x y h l p q.
+        round-less x y (omega (arith, in-round (i + 1) x p, in-round (j + 1) y q)))
 
-  all-ordered : (rounds : ℕ) → Ordered opening-key (openings-in loop-rounds mix-rounds sets n rounds)
-  all-ordered rounds = upto-ordered opening-key _ rounds (λ k h. below-ordered (k + 1)) (λ i j x y h l p q.
-      round-less x y (omega (arith, in-round (i + 1) x p, in-round (j + 1) y q)))
+-- ---- the arrays of a machine
 
-  -- a round that is not 0 is that of an opening
-  noted-out : (c : Claim) (round k : ℕ) (o : Opening) → Noted m c round → round ≡ k + 1 → o ≡ opened (k + 1) c → o among m .openings
-  noted-out c round k o d e f = ⊎-elim (λ p. absurd (omega (arith, p .1)))
-      (λ i. subst (λ (x : Opening). x among m .openings) (ap (λ (r : ℕ). opened r c) e ∙ sym f) i) d
+module _ (m : Machine) (sets : List ℕ) (n : ℕ) (w : SetsIn (m .rows) sets n) where
+  abbrev there : ℕ → ℕ → List Opening
+  there = at (rounds-of m loops) (rounds-of m mixes) sets
 
-  all-open : (rounds : ℕ) → openings-in loop-rounds mix-rounds sets n rounds part-of m .openings
+  abbrev all : ℕ → List Opening
+  all = openings-in (rounds-of m loops) (rounds-of m mixes) sets n
+
+  held : take n sets ≡ Rows.standing-sets (m .rows)
+  held = sets-in-held (m .rows) sets n w
+
+  -- at a place stands the round of the claim about its set
+  round-there : (claim : ℕ → Claim) (i : ℕ) → i < n → getD (rounds-of m claim) i 0 ≡ round-of (m .openings) (claim (getD sets i 0))
+  round-there claim i h = round-at m claim i (omega (arith, w .count)) ∙ ap (λ (l : List ℕ). round-of (m .openings) (claim (getD l i 0))) (sym (w .sets-are))
+
+  -- where it is not 0 it is that of an opening
+  open-there : (claim : ℕ → Claim) (i k : ℕ) (o : Opening) → i < n → getD (rounds-of m claim) i 0 ≡ k + 1 → o ≡ opened (k + 1) (claim (getD sets i 0)) → o among m .openings
+  open-there claim i k o h e f = let c = claim (getD sets i 0) in let r = round-there claim i h in
+      ⊎-elim (λ p. absurd (omega (arith, p .1, r, e))) (λ j. subst (λ (x : Opening). x among m .openings) (ap (λ (q : ℕ). opened q c) (sym r ∙ e) ∙ sym f) j) (round-found c (m .openings))
+
+  all-open : (rounds : ℕ) → all rounds part-of m .openings
   all-open rounds o i =
-      let r = upto-out (λ k. openings-below loop-rounds mix-rounds sets n (k + 1)) o rounds i in
-      let q = upto-out (at (r .0 + 1)) o n (r .2) in
+      let r = upto-out (λ k. openings-below (rounds-of m loops) (rounds-of m mixes) sets n (k + 1)) o rounds i in
+      let q = upto-out (there (r .0 + 1)) o n (r .2) in
       ⊎-elim
-      (λ p. noted-out (loops (getD sets (q .0) 0)) (getD loop-rounds (q .0) 0) (r .0) o (a .loops-are (q .0) (q .1)) (p .0) (p .1))
-      (λ p. noted-out (mixes (getD sets (q .0) 0)) (getD mix-rounds (q .0) 0) (r .0) o (a .mixes-are (q .0) (q .1)) (p .0) (p .1))
-      (at-out (r .0 + 1) (q .0) o (q .2))
+      (λ p. open-there loops (q .0) (r .0) o (q .1) (p .0) (p .1))
+      (λ p. open-there mixes (q .0) (r .0) o (q .1) (p .0) (p .1))
+      (at-out (rounds-of m loops) (rounds-of m mixes) sets (r .0 + 1) (q .0) o (q .2))
 
   module _ (d : Listed m) where
-    -- the round of a claim that is open is that of its opening
-    noted-in : (o : Opening) (c : Claim) (round : ℕ) → o among m .openings → o .claim ≡ c → Noted m c round → opened round c ≡ o
-    noted-in o c round i e t = ⊎-elim (λ p. absurd (p .0 (subst (λ (x : Claim). x among open-claims m) e (map-in (λ (o : Opening). o .claim) i))))
-        (λ j. once-claims (m .openings) (d .once) (opened round c) o j i (sym e)) t
+    -- the round of an opening stands at the place of its set
+    place-round : (claim : ℕ → Claim) (o : Opening) (i : ℕ) → o among m .openings → i < n → o .claim ≡ claim (getD sets i 0) → getD (rounds-of m claim) i 0 ≡ o .round
+    place-round claim o i j h e = round-there claim i h ∙ ap (round-of (m .openings)) (sym e) ∙ round-is (m .openings) (d .once) o j
 
-    at-place-in : (o : Opening) (c : Claim) (i : ℕ) → o among m .openings → i < n → getD sets i 0 ≡ set-of c → o .claim ≡ c → o among at (o .round) i
-    at-place-in o (loops P) i j h e f = let q = noted-in o (loops (getD sets i 0)) (getD loop-rounds i 0) j (f ∙ ap loops (sym e)) (a .loops-are i h) in
-        let r : getD loop-rounds i 0 ≡ o .round = ap (λ (x : Opening). x .round) q in
-        subst (λ (x : Opening). x among at (o .round) i) (ap (λ (k : ℕ). opened k (loops (getD sets i 0))) (sym r) ∙ q)
-        (Memᴰ·append-left _ (in-in (o .round) (getD loop-rounds i 0) (loops (getD sets i 0)) r))
-    at-place-in o (mixes P) i j h e f = let q = noted-in o (mixes (getD sets i 0)) (getD mix-rounds i 0) j (f ∙ ap mixes (sym e)) (a .mixes-are i h) in
-        let r : getD mix-rounds i 0 ≡ o .round = ap (λ (x : Opening). x .round) q in
-        subst (λ (x : Opening). x among at (o .round) i) (ap (λ (k : ℕ). opened k (mixes (getD sets i 0))) (sym r) ∙ q)
-        (Memᴰ·append-right (opening-in (o .round) (getD loop-rounds i 0) (loops (getD sets i 0))) (in-in (o .round) (getD mix-rounds i 0) (mixes (getD sets i 0)) r))
+    at-place-in : (o : Opening) (c : Claim) (i : ℕ) → o among m .openings → i < n → set-of c ≡ getD sets i 0 → o .claim ≡ c → o among there (o .round) i
+    at-place-in o (loops P) i j h e f = let g = f ∙ ap loops e in
+        subst (λ (x : Opening). x among there (o .round) i) (ap (opened (o .round)) (sym g))
+        (Memᴰ·append-left _ (in-in (o .round) (getD (rounds-of m loops) i 0) (loops (getD sets i 0)) (place-round loops o i j h g)))
+    at-place-in o (mixes P) i j h e f = let g = f ∙ ap mixes e in
+        subst (λ (x : Opening). x among there (o .round) i) (ap (opened (o .round)) (sym g))
+        (Memᴰ·append-right (opening-in (o .round) (getD (rounds-of m loops) i 0) (loops (getD sets i 0))) (in-in (o .round) (getD (rounds-of m mixes) i 0) (mixes (getD sets i 0)) (place-round mixes o i j h g)))
 
-    open-all : m .openings part-of openings-in loop-rounds mix-rounds sets n (m .rounds)
+    open-all : m .openings part-of all (m .rounds)
     open-all o i =
         let t = d .depths o .0 i in
         let s = subject (m .rows) (o .round) (o .claim) (opens-iff-least (timelines (m .rows)) (lawful (m .rows)) (o .round) (o .claim) .1 (t .1)) in
-        let p = place-of (Rows.standing-sets (m .rows)) (set-of (o .claim)) (sets-iff (m .rows) (set-of (o .claim)) .1 (s .1)) in
-        let h : p .0 < n = omega (arith, p .1, a .count) in
+        let p = held-place n sets (set-of (o .claim)) (subst (λ (l : List ℕ). set-of (o .claim) among l) (sym held) (sets-iff (m .rows) (set-of (o .claim)) .1 (s .1))) in
         let k : o .round ≡ o .round - 1 + 1 = omega (arith, s .0) in
-        let j = at-place-in o (o .claim) (p .0) i h (a .sets-are (p .0) h ∙ p .2) refl in
-        upto-in (λ k. openings-below loop-rounds mix-rounds sets n (k + 1)) o (o .round - 1) (m .rounds) (omega (arith, s .0, t .0))
-        (upto-in (at (o .round - 1 + 1)) o (p .0) n h (subst (λ (x : ℕ). o among at x (p .0)) k j))
+        let j = at-place-in o (o .claim) (p .0) i (p .1) (p .2) refl in
+        upto-in (λ k. openings-below (rounds-of m loops) (rounds-of m mixes) sets n (k + 1)) o (o .round - 1) (m .rounds) (omega (arith, s .0, t .0))
+        (upto-in (there (o .round - 1 + 1)) o (p .0) n (p .1) (subst (λ (x : ℕ). o among there x (p .0)) k j))
 
-    listed-are : openings-in loop-rounds mix-rounds sets n (m .rounds) ≡ m .openings
-    listed-are = sorted-same opening-key _ _ (λ x y i j. opening-apart x y) (all-ordered (m .rounds) .0) (d .order) (all-ordered (m .rounds) .1) (openings-once (m .openings) (d .once)) (all-open (m .rounds)) open-all
+    listed-are : all (m .rounds) ≡ m .openings
+    listed-are = let a = all-ordered (rounds-of m loops) (rounds-of m mixes) sets n (sets-rise (m .rows) sets n held (w .count)) (m .rounds) in
+        sorted-same opening-key _ _ (λ x y i j. opening-apart x y) (a .0) (d .order) (a .1) (openings-once (m .openings) (d .once)) (all-open (m .rounds)) open-all
 
--- arrays that hold a machine's rounds have its openings, as its sheet lists them
-pub openings-are : (m : Machine) → WellFormed m → Worked m → (loop-rounds mix-rounds sets : List ℕ) (n : ℕ) → Recorded m loop-rounds mix-rounds sets n
-    → openings-in loop-rounds mix-rounds sets n (m .rounds) ≡ m .openings
-openings-are m w k loop-rounds mix-rounds sets n a = listed-are m loop-rounds mix-rounds sets n a (worked-listed m w k)
+-- the arrays of a machine have its openings, as its sheet lists them
+pub openings-are : (m : Machine) → WellFormed m → Worked m → (sets : List ℕ) (n : ℕ) → SetsIn (m .rows) sets n → openings-in (rounds-of m loops) (rounds-of m mixes) sets n (m .rounds) ≡ m .openings
+openings-are m w k sets n is = listed-are m sets n is (worked-listed m w k)

@@ -1,26 +1,19 @@
 -- What print answers, and what it leaves in the buffer: main laws `prints-empty`, `prints-nonempty`, from the sheet in parts (`empty-sheet`,
 -- `nonempty-sheet`).
 use Prim.Native.Nat.{ℕ, _+_, _<_, _≤_}
-use mathlib.Core.Path.{_≡_, refl, ap, sym, _∙_}
-use mathlib.Core.Bool.{Bool, true, false, cond}
-use mathlib.Core.Logic.{_⊎_, inl, inr, ⊎-elim}
+use mathlib.Core.Path.{_≡_, ap, sym, _∙_}
 use mathlib.Core.Option.{some}
-use mathlib.Core.List.{List, [], _∷_, _++_, map, append-assoc, List·Memᴰ·head, List·Memᴰ·tail, List·Memᴰ·not-nil, List·Memᴰ·cases-cons}
+use mathlib.Core.List.{List, _++_, append-assoc}
 use native.Mathlib.Omega.{arith}
 use lib.ListN.{length, length-append}
-use Rattle.lists.specs.Tests.{Decides, _among_, gather}
 use Rattle.lists.specs.Writing as Writing
-use Rattle.lists.proofs.Deciding.{yes·, no·}
-use Rattle.orderings.specs.Steps.{Claim}
-use Rattle.orderings.specs.Decide.{same-claim}
-use Rattle.orderings.proofs.Deciding.{same-claim·}
 use Rattle.machine.specs.declared.Answer.{Answer}
 use Rattle.machine.specs.declared.Verdict.{Verdict}
 use Rattle.machine.specs.declared.Verdict.the-variants.{NonEmpty, Empty}
 use Rattle.machine.specs.declared.Phase.the-variants.{Settled}
-use Rattle.machine.specs.Machine.{Opening, Machine, open-claims}
+use Rattle.machine.specs.Machine.{Machine, open-claims}
 use Rattle.machine.specs.WellFormed.{WellFormed}
-use Rattle.machine.specs.Sheet.{verdict-line, opening-line, walk-lines, sheet}
+use Rattle.machine.specs.Sheet.{verdict-line, walk-lines, sheet}
 use Rattle.machine.specs.Calls.{Next, print, written, call, Tells, TellsText}
 use Rattle.machine.specs.Causes.{sheets}
 use Rattle.machine.proofs.Answers.{tells-as}
@@ -32,13 +25,12 @@ use Rattle.search.specs.Graph.{Graph, graph-of, TurnedGraph}
 use Rattle.automaton.specs.declared.Automaton.{Automaton}
 use Rattle.automaton.proofs.Passing.{graph-sets-in}
 use Rattle.rounds.specs.declared.Progress.{Progress}
-use Rattle.rounds.specs.Arrays.{round-of, OpenPlaces}
+use Rattle.rounds.specs.Arrays.{OpenPlaces}
 use Rattle.rounds.specs.Promises.{Mirrors}
 use Rattle.rounds.proofs.Settled.{forced-of}
 use Rattle.walks.specs.declared.FoundWalk.{FoundWalk}
 use Rattle.walks.specs.Walks.{as-found, Answers, FirstWalk}
-use Rattle.sheet_parts.specs.Openings.{opened, openings-in, Recorded}
-use Rattle.sheet_parts.proofs.Sheet.{recorded, sheet-empty, sheet-nonempty}
+use Rattle.sheet_parts.proofs.Sheet.{sheet-empty, sheet-nonempty}
 use Rattle.whole_sheet.specs.Text.{openings-text, head-text, walked-text}
 use Rattle.whole_sheet.specs.Promise.{FindsWalk, PrintsSheet}
 
@@ -58,33 +50,16 @@ finds highs lows n k a rounds back force w turned h g f m sets formed filed give
 
 -- ---- the text
 
--- the round of a claim is that of its opening, or 0
-noted-in : (c : Claim) (l : List Opening) → (¬ (c among map (λ (o : Opening). o .claim) l) × (round-of l c ≡ 0)) ⊎ (opened (round-of l c) c among l)
-noted-in c [] = inl ((λ m. List·Memᴰ·not-nil m), refl)
-noted-in c (o ∷ l) = go (same-claim c (o .claim)) (same-claim· c (o .claim)) (noted-in c l)
-  where
-    go : (b : Bool) → Decides b (c ≡ o .claim) → (¬ (c among map (λ (o : Opening). o .claim) l) × (round-of l c ≡ 0)) ⊎ (opened (round-of l c) c among l)
-        → (¬ (c among (o .claim ∷ map (λ (o : Opening). o .claim) l)) × (cond b (o .round) (round-of l c) ≡ 0)) ⊎ (opened (cond b (o .round) (round-of l c)) c among (o ∷ l))
-    go true d r = inr (List·Memᴰ·head (ap (λ (e : Claim). opened (o .round) e) (yes· d)))
-    go false d r = ⊎-elim (λ p. inl ((λ m. ⊎-elim (λ e. no· d e) (λ i. p .0 i) (List·Memᴰ·cases-cons m)), p .1)) (λ i. inr (List·Memᴰ·tail i)) r
-
 module _ (m : Machine) (formed : WellFormed m) (sets : List ℕ) (k : ℕ) (sets-in : SetsIn (m .rows) sets k)
     (rounds : Progress) (kept : Mirrors m (rounds .«loop_rounds») (rounds .«mix_rounds») (rounds .phase) (rounds .rounds)) where
-  recorded-of : Recorded m (rounds .«loop_rounds») (rounds .«mix_rounds») sets k
-  recorded-of = rw (kept .loops-are, kept .mixes-are, sets-in .sets-are, sets-in .count) (recorded m (round-of (m .openings)) (λ c. noted-in c (m .openings)) 64)
-
   pub empty-sheet : m .phase ≡ Settled Empty → sheet Empty m ≡ head-text Empty sets k rounds
   unfolding head-text
-  empty-sheet e = sheet-empty m formed (rounds .«loop_rounds») (rounds .«mix_rounds») sets k recorded-of e
-      ∙ ap (λ (c : ℕ). verdict-line Empty c ++ gather opening-line (openings-in (rounds .«loop_rounds») (rounds .«mix_rounds») sets k c)) (sym (kept .count-is))
+  empty-sheet e = sheet-empty m formed sets k sets-in kept e
 
   pub nonempty-sheet : (w : FoundWalk) → Answers (m .rows) (open-claims m) w → m .phase ≡ Settled NonEmpty → sheet NonEmpty m ≡ walked-text sets k rounds w
   unfolding head-text walked-text
-  nonempty-sheet w f e =
-      let l = walk-lines (some (as-found w)) in
-      sheet-nonempty m formed (rounds .«loop_rounds») (rounds .«mix_rounds») sets k recorded-of e w f
-      ∙ ap (λ (c : ℕ). verdict-line NonEmpty c ++ (gather opening-line (openings-in (rounds .«loop_rounds») (rounds .«mix_rounds») sets k c) ++ l)) (sym (kept .count-is))
-      ∙ sym (append-assoc (verdict-line NonEmpty (rounds .rounds)) (openings-text sets k rounds) l)
+  nonempty-sheet w f e = sheet-nonempty m formed sets k sets-in kept e w f
+      ∙ sym (append-assoc (verdict-line NonEmpty (rounds .rounds)) (openings-text sets k rounds) (walk-lines (some (as-found w))))
 
 -- how long the verdict's line is
 pub verdict-short : (v : Verdict) (k : ℕ) → k < 256 → length (verdict-line v k) ≤ 64
