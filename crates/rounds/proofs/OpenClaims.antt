@@ -1,4 +1,5 @@
 -- The claims that are open are those whose rounds are not 0: main law `open-iff`; `one-more` and `none-more` make the mask place by place.
+-- `round-found` and `round-is`: the round of a claim is that of its opening.
 use Prim.Native.Nat.{ℕ, zero, suc, _<_, _≤_, _+_, _-_}
 use mathlib.Core.Path.{_≡_, refl, ap, sym, _∙_, subst}
 use mathlib.Core.Bool.{Bool, true, false, cond, _||_}
@@ -13,8 +14,8 @@ use Rattle.lists.proofs.Deciding.{yes·, no·, map-in}
 use Rattle.masks.specs.Mask.{member, _∈_}
 use Rattle.masks.proofs.Member.{with-same, with-cases}
 use Rattle.rows.specs.declared.Row.{Row}
-use Rattle.rows.specs.Rows.{standing-sets}
-use Rattle.orderings.specs.Steps.{Claim}
+use Rattle.rows.specs.Rows.{SetOf, standing-sets}
+use Rattle.orderings.specs.Steps.{Claim, set-of}
 use Rattle.orderings.specs.Decide.{same-claim}
 use Rattle.orderings.specs.Rounds.{Opens}
 use Rattle.orderings.specs.Timelines.{timelines}
@@ -82,17 +83,17 @@ Counted l = (o : Opening) → o among l → 0 < o .round
 round-iff : (c : Claim) (l : List Opening) → Counted l → (0 < round-of l c) ↔ c among map (λ (o : Opening). o .claim) l
 round-iff c l h = ⊎-elim (λ p. ((λ g. absurd (omega (arith, p .1))), λ m. absurd (p .0 m))) (λ i. ((λ g. map-in (λ (o : Opening). o .claim) i), λ m. h _ i)) (round-found c l)
 
--- no claim is opened in round 0
-later : (rows : List Row) (k : ℕ) (c : Claim) → Opens (timelines rows) k c → 0 < k
-later rows zero c o = absurd o
-later rows (suc k) c o = omega arith
+-- a claim that a round opens is about a set of a standing row, and the round is not 0
+pub subject : (rows : List Row) (k : ℕ) (c : Claim) → Opens (timelines rows) k c → (0 < k) × SetOf rows (set-of c)
+subject rows zero c o = absurd o
+subject rows (suc k) c o = (omega arith, o .0 .0)
 
 -- the openings of a machine that calls made
 counted : (m : Machine) → WellFormed m → Counted (m .openings)
 counted m w = go (m .phase) (w .made)
   where
     worked : Worked m → Counted (m .openings)
-    worked k o i = later (m .rows) (o .round) (o .claim) (after-after (m .rows) (k .0) .numbers o .0 (subst (λ (x : Machine). o among x .openings) (k .1) i) .1)
+    worked k o i = subject (m .rows) (o .round) (o .claim) (after-after (m .rows) (k .0) .numbers o .0 (subst (λ (x : Machine). o among x .openings) (k .1) i) .1) .0
 
     go : (p : Phase) → Made m p → Counted (m .openings)
     go Open e o i = absurd (List·Memᴰ·not-nil (subst (λ (x : Machine). o among x .openings) e i))

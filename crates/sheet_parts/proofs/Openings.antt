@@ -16,12 +16,9 @@ use Rattle.lists.proofs.Places.{held-place}
 use Rattle.lists.proofs.Counting.{once-append}
 use Rattle.lists.proofs.Sorting.{before·, ≺-irreflexive, ≺-trans, sorted-append, sorted-same}
 use Rattle.sorted_keys.specs.Keys.{Rising}
-use Rattle.rows.specs.declared.Row.{Row}
 use Rattle.rows.specs.Rows as Rows
-use Rattle.rows.specs.Rows.{SetOf}
 use Rattle.rows.proofs.Sets.{sets-iff, sets-rise}
 use Rattle.orderings.specs.Steps.{Claim, loops, mixes, set-of}
-use Rattle.orderings.specs.Rounds.{Opens}
 use Rattle.orderings.specs.Timelines.{timelines}
 use Rattle.orderings.proofs.Depths.{opens-iff-least}
 use Rattle.orderings.proofs.Timelines.{lawful}
@@ -33,7 +30,7 @@ use Rattle.machine.proofs.Second.{opening-apart, openings-once}
 use Rattle.row_table.specs.Arrays.{SetsIn}
 use Rattle.row_table.proofs.Sets.{sets-in-held}
 use Rattle.rounds.specs.Arrays.{round-of, rounds-of}
-use Rattle.rounds.proofs.OpenClaims.{round-found, round-is, round-at}
+use Rattle.rounds.proofs.OpenClaims.{round-found, round-is, subject, round-at}
 use Rattle.sheet_parts.specs.Openings.{upto, opened, opening-in, openings-at, openings-below, openings-in}
 
 -- ---- lists one after another
@@ -107,11 +104,6 @@ in-ordered k round c = go (eqb round k)
     go : (b : Bool) → Ordered opening-key (cond b (opened k c ∷ []) [])
     go true = (((λ y m. absurd (List·Memᴰ·not-nil m)), tt), ((λ m. List·Memᴰ·not-nil m), tt))
     go false = (tt, tt)
-
--- a claim that a round opens is about a set of a standing row, and the round is not 0
-subject : (rows : List Row) (k : ℕ) (c : Claim) → Opens (timelines rows) k c → (0 < k) × SetOf rows (set-of c)
-subject rows zero c o = absurd o
-subject rows (suc k) c o = (omega arith, o .0 .0)
 
 -- ---- at the places of arrays
 
