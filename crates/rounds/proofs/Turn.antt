@@ -1,6 +1,6 @@
 -- One round on masks and arrays: what they come to is what the machine comes to. Main laws `walk-test` (the walks), `turn-forced` (the claims
 -- in force), `turn-kept` (the rounds of the claims, the phase and the count).
-use Prim.Native.Nat.{ℕ, zero, suc, _+_, _<_}
+use Prim.Native.Nat.{ℕ, suc, _+_, _<_}
 use mathlib.Core.Path.{_≡_, refl, ap, sym, _∙_, subst}
 use mathlib.Core.Bool.{Bool, _||_}
 use mathlib.Core.Logic.{⊎-elim, _↔_}
