@@ -1,6 +1,6 @@
 -- What the machine came to, from what the engine answered; and a text that is written, or for which the buffer is too short.
 use Prim.Native.Nat.{ℕ, _<_, _≤_}
-use mathlib.Core.Path.{_≡_, refl, ap}
+use mathlib.Core.Path.{_≡_, refl, ap, sym, _∙_}
 use mathlib.Core.List.{List}
 use lib.ListN.{length}
 use native.Mathlib.Omega.{arith}
@@ -8,22 +8,45 @@ use borrow.Author.Tests.{lt-ltb, le-ltb}
 use Rattle.lists.specs.Writing as Writing
 use Rattle.machine.specs.declared.Answer.{Answer}
 use Rattle.machine.specs.declared.Answer.the-variants.{Done, Wrote, Refused}
-use Rattle.machine.specs.Calls.{Outcome, done, wrote, refused, answer-of, Tells, TellsText}
+use Rattle.machine.specs.Calls.{Outcome, done, wrote, refused, Returned, returned, due, Tells, TellsText}
 
-pub done-by : (o : Outcome) → answer-of o ≡ Done → o ≡ done
+-- ---- an outcome from the number and values that are due for it
+
+number-is : {a b : Returned} → a ≡ b → a .number ≡ b .number
+number-is e = ap (λ (x : Returned). x .number) e
+
+values-are : {a b : Returned} → a ≡ b → a .values ≡ b .values
+values-are e = ap (λ (x : Returned). x .values) e
+
+pub done-by : (o : Outcome) → due o ≡ returned Done → o ≡ done
 done-by done e = refl
-done-by (wrote l) e = let z : _≡_ {A = ℕ} 0 1 = cc in absurd (omega arith)
-done-by (refused n place) e = let z : _≡_ {A = ℕ} 0 1 = cc in absurd (omega arith)
+done-by (wrote l) e = let v = values-are e in let z : _≡_ {A = ℕ} 0 1 = cc in absurd (omega arith)
+done-by (refused n place) e = let v = values-are e in let z : _≡_ {A = ℕ} 0 1 = cc in absurd (omega arith)
 
-pub wrote-by : (o : Outcome) (n : ℕ) → answer-of o ≡ Wrote n → (l : List ℕ) × (o ≡ wrote l) × (n ≡ length l)
-wrote-by done n e = let z : _≡_ {A = ℕ} 0 1 = cc in absurd (omega arith)
-wrote-by (wrote l) n e = (l, refl, cc)
-wrote-by (refused k place) n e = let z : _≡_ {A = ℕ} 0 1 = cc in absurd (omega arith)
+pub wrote-by : (o : Outcome) (n : ℕ) → due o ≡ returned (Wrote n) → (l : List ℕ) × (o ≡ wrote l) × (n ≡ length l)
+wrote-by done n e = let v = values-are e in let z : _≡_ {A = ℕ} 0 1 = cc in absurd (omega arith)
+wrote-by (wrote l) n e = let v = values-are e in (l, refl, cc)
+wrote-by (refused k place) n e = let v = number-is e in let z : _≡_ {A = ℕ} 0 1 = cc in absurd (omega arith)
 
-pub refused-by : (o : Outcome) (n place : ℕ) → answer-of o ≡ Refused n place → o ≡ refused n place
-refused-by done n place e = let z : _≡_ {A = ℕ} 0 1 = cc in absurd (omega arith)
-refused-by (wrote l) n place e = let z : _≡_ {A = ℕ} 0 1 = cc in absurd (omega arith)
-refused-by (refused k at) n place e = let i : k ≡ n = cc in let j : at ≡ place = cc in cc
+pub refused-by : (o : Outcome) (n place : ℕ) → due o ≡ returned (Refused n place) → o ≡ refused n place
+refused-by done n place e = let v = number-is e in let z : _≡_ {A = ℕ} 0 1 = cc in absurd (omega arith)
+refused-by (wrote l) n place e = let v = number-is e in let z : _≡_ {A = ℕ} 0 1 = cc in absurd (omega arith)
+refused-by (refused k at) n place e = let v = number-is e in let w = values-are e in let i : k ≡ n = cc in let j : at ≡ place = cc in cc
+
+-- ---- the answer of an outcome: the only one with the number and values that are due
+
+abbrev pub answer-of : Outcome → Answer
+answer-of done = Done
+answer-of (wrote l) = Wrote (length l)
+answer-of (refused n place) = Refused n place
+
+pub answer-by : {o : Outcome} {old new : List ℕ} {r : Answer} → Tells o old new r → r ≡ answer-of o
+answer-by {o} {old} {new} {r} t = by r (sym (t .answer-is))
+  where
+    by : (r : Answer) → due o ≡ returned r → r ≡ answer-of o
+    by Done e = ap answer-of (sym (done-by o e))
+    by (Wrote n) e = let w = wrote-by o n e in ap Wrote (w .2) ∙ ap answer-of (sym (w .1))
+    by (Refused n place) e = ap answer-of (sym (refused-by o n place e))
 
 -- answers that are not done
 pub wrote-not-done : {r : Answer} {n : ℕ} → r ≡ Wrote n → r ≡ Done → ⊥
@@ -43,7 +66,7 @@ tells-refused n place old = record { answer-is = refl; buffer-is = refl }
 -- a text that fits, and one for which the buffer is too short
 module _ (text old : List ℕ) where
   pub tells-text : {new : List ℕ} {n : ℕ} → length text ≤ length old → Writing.Wrote text old new n → TellsText text old new (Wrote n)
-  tells-text h w = rw (le-ltb (length old) (length text) h) (record { answer-is = ap Wrote (w .length-is); buffer-is = w .bytes-are })
+  tells-text h w = rw (le-ltb (length old) (length text) h) (record { answer-is = ap (λ (n : ℕ). returned (Wrote n)) (w .length-is); buffer-is = w .bytes-are })
 
   pub tells-short : length old < length text → TellsText text old old (Refused 12 0)
   tells-short h = rw (lt-ltb (length old) (length text) h) (tells-refused 12 0 old)

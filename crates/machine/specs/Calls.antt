@@ -3,6 +3,7 @@
 use Prim.Native.Nat.{ℕ}
 use mathlib.Core.Path.{_≡_}
 use mathlib.Core.Bool.{cond}
+use mathlib.Core.Option.{Option, none, some}
 use mathlib.Core.List.{List, [], _∷_, _++_}
 use lib.Dec.{ltb}
 use lib.ListN.{length, drop, replicate}
@@ -29,11 +30,22 @@ pub data Outcome : Type 0 where
   wrote : List ℕ → Outcome
   refused : ℕ → ℕ → Outcome
 
--- the engine's answer: document 01's number and place, or the count of bytes
-abbrev pub answer-of : Outcome → Answer
-answer-of done = Done
-answer-of (wrote l) = Wrote (length l)
-answer-of (refused n place) = Refused n place
+-- document 01's number and values: a refusal returns its number and place, print and save their length, the other calls nothing
+pub record Returned : Type 0 where
+  pub number : Option ℕ
+  pub values : List ℕ
+
+-- of each case of the engine's answer
+abbrev pub returned : Answer → Returned
+returned Done = record { number = none; values = [] }
+returned (Wrote n) = record { number = none; values = n ∷ [] }
+returned (Refused n place) = record { number = some n; values = place ∷ [] }
+
+-- due for an outcome
+abbrev pub due : Outcome → Returned
+due done = record { number = none; values = [] }
+due (wrote l) = record { number = none; values = length l ∷ [] }
+due (refused n place) = record { number = some n; values = place ∷ [] }
 
 -- the machine after a call, and what the call answers
 pub record Next : Type 0 where
@@ -99,9 +111,9 @@ buffer-after done old = old
 buffer-after (wrote l) old = l ++ drop (length l) old
 buffer-after (refused n place) old = old
 
--- the engine tells an outcome: its answer, and what the caller's buffer then holds
+-- the engine tells an outcome: its answer has the number and values that are due, and the caller's buffer holds what it then should
 pub record Tells (o : Outcome) (old new : List ℕ) (r : Answer) : Type 0 where
-  pub answer-is : r ≡ answer-of o
+  pub answer-is : returned r ≡ due o
   pub buffer-is : new ≡ buffer-after o old
 
 -- a text is in the buffer, or the buffer is too short for it
