@@ -3,8 +3,8 @@ use Prim.Native.Nat.{ℕ}
 use mathlib.Core.Path.{_≡_, ap, sym, _∙_}
 use Rattle.machine.specs.declared.Answer.the-variants.{Refused}
 use Rattle.machine.specs.Machine.{Machine}
-use Rattle.machine.specs.Calls.{Call, Outcome, refused, answer-of, call, buffer-after}
-use Rattle.machine.proofs.Answers.{refused-by}
+use Rattle.machine.specs.Calls.{Call, Outcome, refused, returned, call, buffer-after}
+use Rattle.machine.proofs.Answers.{answer-of, answer-by, refused-by}
 use Rattle.machine.proofs.Outcomes.{refused-keeps}
 use Rattle.machine.proofs.Causes.{refusals}
 use Rattle.session.specs.declared.Session.{Session}
@@ -19,7 +19,7 @@ answered m s e h = record {
   result = does h .tells .answer-is;
   refused = λ n place. (
     (λ i. refusals m (e .asked) n place (h .record-is .formed .table) (h .served .brings) .0 (by n place i)),
-    λ c. does h .tells .answer-is ∙ ap answer-of (refusals m (e .asked) n place (h .record-is .formed .table) (h .served .brings) .1 c),
+    λ c. answer-by (does h .tells) ∙ ap answer-of (refusals m (e .asked) n place (h .record-is .formed .table) (h .served .brings) .1 c),
   );
   unchanged = λ n place i. (
     does h .session-is ∙ ap record-of (refused-keeps m (e .asked) n place (by n place i)) ∙ sym (h .record-is .whole),
@@ -28,7 +28,7 @@ answered m s e h = record {
 }
   where
     by : (n place : ℕ) → e .reply .answer ≡ Refused n place → call m (e .asked) .answer ≡ refused n place
-    by n place i = refused-by (call m (e .asked) .answer) n place (sym (does h .tells .answer-is) ∙ i)
+    by n place i = refused-by (call m (e .asked) .answer) n place (sym (does h .tells .answer-is) ∙ ap returned i)
 
 pub demand-1 : Demand1
 demand-1 s f es t before later e i = answered (plain-after before) (given onward s before) e (reached s f es t before later e i)

@@ -24,10 +24,10 @@ use Rattle.machine.specs.declared.Phase.the-variants.{Settled}
 use Rattle.machine.specs.Machine.{Machine, fresh, open-with, open-claims}
 use Rattle.machine.specs.Order.{Found, Candidate}
 use Rattle.machine.specs.Sheet.{verdict-line, opening-line, walk-lines, sheet}
-use Rattle.machine.specs.Calls.{load, print, save, Outcome, wrote, answer-of, Next, accept, saved, call, buffer-after, Tells}
+use Rattle.machine.specs.Calls.{load, print, save, Outcome, wrote, returned, Next, accept, saved, call, buffer-after, Tells}
 use Rattle.machine.specs.WellFormed.{Worked, Made, WellFormed}
 use Rattle.machine.specs.Statements.{Number}
-use Rattle.machine.proofs.Answers.{wrote-by}
+use Rattle.machine.proofs.Answers.{answer-of, answer-by, wrote-by}
 use Rattle.machine.proofs.Settling.{after-after}
 use Rattle.machine.proofs.Loading.{loads-back, saves}
 use Rattle.machine.proofs.Statements.{settled-number, second-is, worked-listed, prints, printed-walk}
@@ -79,7 +79,7 @@ module _ (m : Machine) (w : WellFormed m) where
   }
 
   prints-true : (old new : List ℕ) (a : Answer) → Tells (call m (print (length old)) .answer) old new a → PrintsTrue m old new a
-  prints-true old new a t n e = let o = call m (print (length old)) .answer in let l = wrote-by o n (sym (t .answer-is) ∙ e) in
+  prints-true old new a t n e = let o = call m (print (length old)) .answer in let l = wrote-by o n (sym (t .answer-is) ∙ ap returned e) in
       let h = prints m w (length old) .accepted (l .0) .0 (l .1) in
       let k : l .0 ≡ sheet (h .0) m = h .2 ∙ ap (sheet (h .0)) (second-is m w (h .0) (h .1)) in
       (h .0, written o old new (l .0) (sheet (h .0) m) n (t .buffer-is) (l .1) (l .2) k, true-sheet (h .0) (h .1))
@@ -90,11 +90,11 @@ module _ (m : Machine) (w : WellFormed m) where
     λ s r f k.
         let q : call fresh (load (take n new)) ≡ accept (open-with (m .rows)) = ap (λ (x : List ℕ). call fresh (load x)) bytes ∙ loads-back m (w .table) in
         let d = k fresh (fresh-is s f) in
-        (d .tells .answer-is ∙ ap (λ (x : Next). answer-of (x .answer)) q, d .session-is ∙ ap (λ (x : Next). record-of (x .machine)) q),
+        (answer-by (d .tells) ∙ ap (λ (x : Next). answer-of (x .answer)) q, d .session-is ∙ ap (λ (x : Next). record-of (x .machine)) q),
   )
     where
       bytes : take n new ≡ saved m
-      bytes = let o = call m (save (length old)) .answer in let l = wrote-by o n (sym (t .answer-is) ∙ e) in let k = saves m (w .table) (length old) (l .0) (l .1) .sorted in
+      bytes = let o = call m (save (length old)) .answer in let l = wrote-by o n (sym (t .answer-is) ∙ ap returned e) in let k = saves m (w .table) (length old) (l .0) (l .1) .sorted in
           ap (take n) (written o old new (l .0) (saved m) n (t .buffer-is) (l .1) (l .2) k) ∙ take-at (saved m) (drop n old) n (sym (l .2 ∙ ap length k))
 
 pub demand-2 : Demand2

@@ -9,8 +9,9 @@ use Rattle.machine.specs.declared.Verdict.{Verdict}
 use Rattle.machine.specs.declared.Phase.the-variants.{Settled}
 use Rattle.machine.specs.Machine.{Machine}
 use Rattle.machine.specs.Sheet.{sheet}
-use Rattle.machine.specs.Calls.{print, Outcome, done, wrote, refused, answer-of, call, second, buffer-after}
+use Rattle.machine.specs.Calls.{print, Outcome, done, wrote, refused, call, second, buffer-after}
 use Rattle.machine.specs.WellFormed.{WellFormed}
+use Rattle.machine.proofs.Answers.{answer-of, answer-by}
 use Rattle.machine.proofs.Second.{second-works}
 use Rattle.machine.proofs.Outcomes.{Done, comes}
 use Rattle.machine.proofs.Statements.{second-is, print-accepts, prints}
@@ -55,4 +56,4 @@ module _ (m : Machine) (w : WellFormed m) where
 
 pub demand-3 : Demand3
 demand-3 s f es t before later e i size j = let m = plain-after before in let h = reached s f es t before later e i in let k = told h print (λ n. refl) size j in
-    at-print m (h .record-is .formed) (e .old) (e .new) (call m (print (length (e .old))) .answer) (e .reply .answer) refl (k .answer-is) (k .buffer-is)
+    at-print m (h .record-is .formed) (e .old) (e .new) (call m (print (length (e .old))) .answer) (e .reply .answer) refl (answer-by k) (k .buffer-is)

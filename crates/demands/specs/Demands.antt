@@ -19,7 +19,7 @@ use Rattle.machine.specs.Machine.{Machine, open-with, open-claims}
 use Rattle.machine.specs.Order.{Found, Best}
 use Rattle.machine.specs.Search.{shortest}
 use Rattle.machine.specs.Sheet.{verdict-line, opening-line, walk-lines, sheet}
-use Rattle.machine.specs.Calls.{Call, load, print, save, wrote, answer-of, call, second}
+use Rattle.machine.specs.Calls.{Call, load, print, save, wrote, returned, due, call, second}
 use Rattle.machine.specs.Causes.{Cause}
 use Rattle.machine.specs.Statements.{Listed, Number, SecondWorks}
 use Rattle.session.specs.declared.Session.{Session}
@@ -38,8 +38,8 @@ EveryCall Then =
 
 -- a call on the session s, where the plain machine that was fed the calls before it is m
 pub record Answered (m : Machine) (s : Session) (e : Exchange Call Reply) : Type 0 where
-  -- the call gets a result: the plain machine's answer
-  pub result : e .reply .answer ≡ answer-of (call m (e .asked) .answer)
+  -- the call gets a result: the number and values that are due for what the plain machine comes to
+  pub result : returned (e .reply .answer) ≡ due (call m (e .asked) .answer)
   -- refused with a number and at a place exactly where document 01's table has that cause
   pub refused : (n place : ℕ) → (e .reply .answer ≡ Refused n place) ↔ Cause m (e .asked) n place
   -- a refusal hands the session back unchanged, and changes no byte of a buffer
