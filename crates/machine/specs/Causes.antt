@@ -89,3 +89,7 @@ pub data Cause (m : Machine) : Call → ℕ → ℕ → Type 0 where
   short-buffer : (c : Call) (l : List ℕ) (size : ℕ) → Writes m c l size → size < length l → Cause m c 12 0
   -- a 130th round
   last-round : m .phase ≡ Running → most-rounds ≤ m .rounds → Cause m round 13 0
+
+-- beside the table: the number with which a call refuses a session record that is foreign to it, since no calls make it; the place is 0
+abbrev pub foreign-record : ℕ
+foreign-record = 24

@@ -30,3 +30,6 @@ pub enum Answer {
     Wrote(usize),
     Refused(u8, usize),
 }
+
+// The number beside the table of causes: the session record is foreign, since no calls make it.
+pub const FOREIGN_RECORD: u8 = 24;

@@ -7,6 +7,7 @@ use Rattle.rows.specs.Batch.{Turn, Fed, fed, failed, feed}
 use Rattle.machine.specs.declared.Answer.{Answer}
 use Rattle.machine.specs.declared.Answer.the-variants.{Done}
 use Rattle.machine.specs.declared.Phase.{Phase}
+use Rattle.machine.specs.declared.Phase.the-variants.{Open}
 use Rattle.machine.specs.Machine.{Machine}
 use Rattle.machine.specs.Calls.{Call, with-rows, call-in, call}
 use Rattle.machine.specs.WellFormed.{Table}
@@ -17,10 +18,10 @@ use Rattle.session.specs.declared.Session.{Session}
 use Rattle.session.specs.declared.State.the-variants.{Open as IsOpen}
 use Rattle.session.specs.declared.Reply.{Reply}
 use Rattle.session.specs.Record.{Represents}
-use Rattle.session.specs.Promise.{Does, KeepsIn, Phased}
+use Rattle.session.specs.Promise.{Does, Promised, HasState}
 use Rattle.session.specs.Standing.{reply, with-table, Slotted, TakesTable}
 use Rattle.session.proofs.Whole.{rows-table}
-use Rattle.session.proofs.Gate.{does-done, does-refused}
+use Rattle.session.proofs.Gate.{in-phase, does-done, does-refused, promised}
 
 -- the record with the arrays' table
 pub takes-done : (s : Session) (high low sets : List ℕ) (n k : ℕ) (slots : List Slot) → Slotted high low n slots → {a : Answer} → a ≡ Done
@@ -37,15 +38,18 @@ pub takes-done : (s : Session) (high low sets : List ℕ) (n k : ℕ) (slots : L
 takes-done s high low sets n k slots h e = rw e (λ rows t f. rw (h rows (t .fit) (f .0), f .0 .count, f .1 .sets-are, f .1 .count))
 
 -- what the batch comes to in the arrays, it comes to in the machine
-pub batch-keeps : {c : Call} {rule : Row → List Row → Turn (List Row)} {batch : List ℕ} → Feeds c rule batch → (s : Session) (a : Answer) (Has Then : List Row → Type 0)
+pub batch-keeps : {c : Call} {rule : Row → List Row → Turn (List Row)} {batch : List ℕ} → Feeds c rule batch → (s : Session) → HasState s IsOpen → (a : Answer) (Has Then : List Row → Type 0)
     → ((m : Machine) → Represents m s → Comes Has (feed rule (m .rows) batch) a) → ((rows : List Row) → Table rows → Has rows → Then rows)
-    → {r : Reply} → TakesTable s Then a r → KeepsIn (Phased IsOpen) s c [] [] r
-batch-keeps {c} {rule} {batch} feeds s a Has Then comes then {r} takes m p e = go (feed rule (m .rows) batch) refl (comes m p)
+    → {r : Reply} → TakesTable s Then a r → Promised s c [] [] r
+batch-keeps {c} {rule} {batch} feeds s state a Has Then comes then {r} takes = promised (state .0) refl (λ m p. by m p (in-phase m s p (state .1)))
   where
-    fed-call : (x : Fed (List Row)) → feed rule (m .rows) batch ≡ x → call m c ≡ with-rows m x
-    fed-call x f = ap (λ (p : Phase). call-in p m c) e ∙ feeds .in-open m ∙ ap (with-rows m) f
+    by : (m : Machine) → Represents m s → m .phase ≡ Open → Does m c [] [] r
+    by m p e = go (feed rule (m .rows) batch) refl (comes m p)
+      where
+        fed-call : (x : Fed (List Row)) → feed rule (m .rows) batch ≡ x → call m c ≡ with-rows m x
+        fed-call x f = ap (λ (p : Phase). call-in p m c) e ∙ feeds .in-open m ∙ ap (with-rows m) f
 
-    go : (x : Fed (List Row)) → feed rule (m .rows) batch ≡ x → Comes Has x a → Does m c [] [] r
-    go (fed rows) f h = does-done m c [] (fed-call (fed rows) f) (rows-table m s p e rows (h .1))
-        (subst (λ (b : Answer). TakesTable s Then b r) (h .0) takes rows (h .1) (then rows (h .1) (h .2)))
-    go (failed n place) f h = does-refused m c [] p (fed-call (failed n place) f) (subst (λ (b : Answer). TakesTable s Then b r) h takes)
+        go : (x : Fed (List Row)) → feed rule (m .rows) batch ≡ x → Comes Has x a → Does m c [] [] r
+        go (fed rows) f h = does-done m c [] (fed-call (fed rows) f) (rows-table m s p e rows (h .1))
+            (subst (λ (b : Answer). TakesTable s Then b r) (h .0) takes rows (h .1) (then rows (h .1) (h .2)))
+        go (failed n place) f h = does-refused m c [] p (fed-call (failed n place) f) (subst (λ (b : Answer). TakesTable s Then b r) h takes)

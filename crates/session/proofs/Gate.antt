@@ -6,10 +6,12 @@ use mathlib.Core.List.{List, [], _∷_}
 use types.Run.{OneOf}
 use denote.Enum.Declared.{tagOf}
 use native.Mathlib.Omega.{arith}
+use lib.ListN.{length}
 use Rattle.machine.specs.declared.Answer.the-variants.{Done, Refused}
 use Rattle.machine.specs.declared.Phase.{Phase}
 use Rattle.machine.specs.Machine.{Machine}
 use Rattle.machine.specs.Calls.{Call, Next, accept, refuse, refuse-at, call-in, call, Tells}
+use Rattle.machine.specs.Causes.{foreign-record}
 use Rattle.machine.proofs.Answers.{tells-as, tells-refused}
 use Rattle.session.specs.declared.Session.{Session}
 use Rattle.session.specs.declared.Reply.{Reply}
@@ -17,11 +19,15 @@ use Rattle.session.specs.declared.State.{State}
 use Rattle.session.proofs.State.{the-type}
 use Rattle.session.specs.declared.State.the-variants.{Foreign, Open as IsOpen, Running as IsRunning, Settled as IsSettled}
 use Rattle.session.specs.Record.{record-of, Represents}
-use Rattle.session.specs.Promise.{Does, Keeps, KeepsIn, Phased, Ranged, RangedIn, HasState}
+use Rattle.session.specs.Promise.{Does, Keeps, Ranged, IsForeign, Promised, HasState}
 use Rattle.session.specs.Standing.{reply}
-use Rattle.session.proofs.Whole.{count-of, set-count-of}
+use Rattle.session.proofs.Whole.{count-of, set-count-of, phase-of}
 
 -- ---- what is done for one machine
+
+-- the machine is in the record's phase
+pub in-phase : (m : Machine) (s : Session) → Represents m s → {p : Phase} → s .phase ≡ p → m .phase ≡ p
+in-phase m s k e = sym (phase-of m s k) ∙ e
 
 module _ (m : Machine) (c : Call) {old new : List ℕ} {r : Reply} where
   pub does-as : (n : Next) → call m c ≡ n → r .session ≡ record-of (n .machine) → Tells (n .answer) old new (r .answer) → Does m c old new r
@@ -34,38 +40,54 @@ module _ (m : Machine) (c : Call) (old : List ℕ) {r : Reply} where
   pub does-refused : {s : Session} {n place : ℕ} → Represents m s → call m c ≡ refuse-at m n place → r ≡ reply s (Refused n place) → Does m c old old r
   does-refused {s} {n} {place} p e g = does-as m c (refuse-at m n place) e (ap (λ (x : Reply). x .session) g ∙ p .whole) (rw g (tells-refused n place old))
 
--- ---- the state
+-- ---- what a record is
 
-pub many-rows : (s : Session) → 256 < s .«row_count» → HasState s Foreign
-many-rows s h = record { phase-is = λ m p. absurd (omega (arith, count-of m s p, p .formed .table .few)); ranged = tt }
+-- the counts of a machine's record are within the arrays
+pub ranged : (m : Machine) (s : Session) → Represents m s → Ranged s
+ranged m s p = record { few = omega (arith, count-of m s p, p .formed .table .few); few-sets = omega (arith, set-count-of m s p, p .formed .table .few-sets) }
 
-pub many-sets : (s : Session) → 64 < s .«set_count» → HasState s Foreign
-many-sets s h = record { phase-is = λ m p. absurd (omega (arith, set-count-of m s p, p .formed .table .few-sets)); ranged = tt }
+-- a foreign record is that of no machine
+pub foreign-none : (m : Machine) (s : Session) → Represents m s → ¬ IsForeign s
+foreign-none m s p f = f (ranged m s p)
 
-module _ (s : Session) {x : State} (h : HasState s x) {q : State} (e : x ≡ q) where
-  -- the phase of every machine that the session represents
-  pub meets : (m : Machine) → Represents m s → Phased q (m .phase)
-  meets m p = subst (λ (y : State). Phased y (m .phase)) e (h .phase-is m p)
+pub many-rows : (s : Session) → 256 < s .«row_count» → IsForeign s
+many-rows s h g = omega (arith, g .few)
 
-  pub in-range : RangedIn q s
-  in-range = subst (λ (y : State). RangedIn y s) e (h .ranged)
+pub many-sets : (s : Session) → 64 < s .«set_count» → IsForeign s
+many-sets s h g = omega (arith, g .few-sets)
 
-  -- what is promised of machines in its phases
-  pub serves : {c : Call} {old new : List ℕ} {r : Reply} → KeepsIn (Phased q) s c old new r → Keeps s c old new r
-  serves k m p = k m p (meets m p)
+-- at the state that was found
+pub known : (s : Session) {x q : State} → HasState s x → x ≡ q → HasState s q
+known s h e = subst (HasState s) e h
 
--- the counts of a session in any phase
+-- in any phase
 pub in-any-phase : (s : Session) (x : State) → HasState s x → OneOf (1 ∷ 2 ∷ 3 ∷ []) (tagOf the-type x) → Ranged s
 in-any-phase s Foreign h k = absurd (⊎-elim (λ e. omega arith) (⊎-elim (λ e. omega arith) (λ e. omega arith)) k)
-in-any-phase s IsOpen h k = h .ranged
-in-any-phase s IsRunning h k = h .ranged
-in-any-phase s (IsSettled v) h k = h .ranged
+in-any-phase s IsOpen h k = h .0
+in-any-phase s IsRunning h k = h .0
+in-any-phase s (IsSettled v) h k = h .0
 
--- on a record that no calls make the answer is free
-pub free : {s : Session} {c : Call} {old new : List ℕ} {r : Reply} → ((m : Machine) → Represents m s → ⊥) → Keeps s c old new r
-free f m p = absurd (f m p)
+-- ---- what is promised
 
--- a refusal in a phase
-pub refuses : (s : Session) (p : Phase) → ((m : Machine) → Represents m s → m .phase ≡ p) → (c : Call) (n : ℕ) → ((m : Machine) → call-in p m c ≡ refuse m n)
-    → (old : List ℕ) {r : Reply} → r ≡ reply s (Refused n 0) → Keeps s c old old r
-refuses s p at c n f old g m h = does-refused m c old h (ap (λ (x : Phase). call-in x m c) (at m h) ∙ f m) g
+module _ {s : Session} {c : Call} {old new : List ℕ} {r : Reply} where
+  pub promised : Ranged s → length new ≡ length old → Keeps s c old new r → Promised s c old new r
+  promised g l k = record { keeps = k; foreign = λ f. absurd (f g); free = l }
+
+module _ (s : Session) {c : Call} {old : List ℕ} {r : Reply} where
+  -- a foreign record
+  pub turns-away : IsForeign s → r ≡ reply s (Refused foreign-record 0) → Promised s c old old r
+  turns-away f g = record {
+    keeps = λ m p. absurd (foreign-none m s p f);
+    foreign = λ h. record { session-is = ap (λ (x : Reply). x .session) g; tells = rw g (tells-refused foreign-record 0 old) };
+    free = refl;
+  }
+
+  -- a refusal in a phase
+  pub refuses : {p : Phase} {n : ℕ} → Ranged s × (s .phase ≡ p) → ((m : Machine) → call-in p m c ≡ refuse m n) → r ≡ reply s (Refused n 0) → Promised s c old old r
+  refuses h f g = promised (h .0) refl (λ m k. does-refused m c old k (ap (λ (x : Phase). call-in x m c) (in-phase m s k (h .1)) ∙ f m) g)
+
+  -- done in a phase
+  pub done-in : {p : Phase} {t : Session} (to : Machine → Machine) → Ranged s × (s .phase ≡ p) → ((m : Machine) → Represents m s → m .phase ≡ p → call-in p m c ≡ accept (to m))
+      → ((m : Machine) → Represents m s → t ≡ record-of (to m)) → r ≡ reply t Done → Promised s c old old r
+  done-in to h f t g = promised (h .0) refl
+      (λ m k. let e = in-phase m s k (h .1) in does-done m c old (ap (λ (x : Phase). call-in x m c) e ∙ f m k e) (t m k) g)

@@ -1,14 +1,13 @@
 -- Close, round and reopen: what the machine does, and what the session does.
 use Prim.Native.Nat.{_≤_}
-use mathlib.Core.Path.{_≡_, ap, _∙_}
+use mathlib.Core.Path.{_≡_, refl}
 use mathlib.Core.List.{[]}
 use lib.ListN.{replicate}
 use native.Mathlib.Omega.{arith}
 use Rattle.machine.specs.declared.Answer.the-variants.{Done}
-use Rattle.machine.specs.declared.Phase.{Phase}
-use Rattle.machine.specs.declared.Phase.the-variants.{Open, Running}
-use Rattle.machine.specs.Machine.{Machine}
-use Rattle.machine.specs.Calls.{close, round, reopen, call-in}
+use Rattle.machine.specs.declared.Phase.the-variants.{Open}
+use Rattle.machine.specs.Machine.{closed, next-round, reopened}
+use Rattle.machine.specs.Calls.{close, round, reopen}
 use Rattle.machine.specs.Causes.{NotOpen}
 use Rattle.machine.proofs.Phases.{open-closes, running-rounds, not-open-reopens}
 use Rattle.machine.proofs.Statements.{never-130th}
@@ -19,26 +18,26 @@ use Rattle.rounds.specs.Promises.{Closes, DoesRound}
 use Rattle.session.specs.declared.Session.{Session}
 use Rattle.session.specs.declared.Reply.{Reply}
 use Rattle.session.specs.declared.State.the-variants.{Open as IsOpen, Running as IsRunning}
-use Rattle.session.specs.Record.{Represents}
-use Rattle.session.specs.Promise.{KeepsIn, Phased}
+use Rattle.session.specs.Promise.{Ranged, Promised, HasState}
 use Rattle.session.specs.Standing.{reply, rounds-in, with-rounds, Reads}
 use Rattle.session.proofs.Whole.{rounds-count}
-use Rattle.session.proofs.Gate.{does-done}
+use Rattle.session.proofs.Gate.{in-phase, promised, done-in}
 use Rattle.session.proofs.Rounded.{closed-record, reopened-record, round-record}
 
--- a machine that runs has done fewer than 129 rounds
-pub never-past : (s : Session) → 129 ≤ s .rounds → (m : Machine) → Represents m s → m .phase ≡ Running → ⊥
-never-past s h m p e = omega (arith, rounds-count m s p, never-130th m (p .formed) e)
+-- a machine that runs has done fewer than 129 rounds: on a record past that the answer is free
+pub never-past : (s : Session) → HasState s IsRunning → 129 ≤ s .rounds → {r : Reply} → Promised s round [] [] r
+never-past s state h = promised (state .0) refl (λ m p. absurd (omega (arith, rounds-count m s p, never-130th m (p .formed) (in-phase m s p (state .1)))))
 
 module _ (s : Session) (a : Automaton) (reads : Reads s a) (now : Progress) {r : Reply} (made : r ≡ reply (with-rounds s now) Done) where
-  pub close-done : Closes (graph-of (a .graph)) (a .initials) (a .finals) now → KeepsIn (Phased IsOpen) s close [] [] r
-  close-done c m p e = does-done m close [] (ap (λ (x : Phase). call-in x m close) e ∙ open-closes m) (closed-record m s p a now reads c) made
+  pub close-done : HasState s IsOpen → Closes (graph-of (a .graph)) (a .initials) (a .finals) now → Promised s close [] [] r
+  close-done state c = done-in s closed state (λ m p e. open-closes m) (λ m p. closed-record m s p a now reads c) made
 
-  pub round-done : DoesRound (graph-of (a .graph)) (a .initials) (a .finals) (s .«set_count») (rounds-in s) now
-      → KeepsIn (Phased IsRunning) s round [] [] r
-  round-done d m p e =
-      does-done m round [] (ap (λ (x : Phase). call-in x m round) e ∙ running-rounds m (never-130th m (p .formed) e)) (round-record m s p a now reads d) made
+  pub round-done : HasState s IsRunning → DoesRound (graph-of (a .graph)) (a .initials) (a .finals) (s .«set_count») (rounds-in s) now
+      → Promised s round [] [] r
+  round-done state d =
+      done-in s next-round state (λ m p e. running-rounds m (never-130th m (p .formed) e)) (λ m p. round-record m s p a now reads d) made
 
-pub reopen-done : (s : Session) {r : Reply} → r ≡ reply (with-rounds s (record { «loop_rounds» = replicate 64 0; «mix_rounds» = replicate 64 0; phase = Open; rounds = 0 })) Done
-    → KeepsIn NotOpen s reopen [] [] r
-reopen-done s made m p n = does-done m reopen [] (not-open-reopens n m) (reopened-record m s p) made
+pub reopen-done : (s : Session) {r : Reply} → Ranged s → NotOpen (s .phase)
+    → r ≡ reply (with-rounds s (record { «loop_rounds» = replicate 64 0; «mix_rounds» = replicate 64 0; phase = Open; rounds = 0 })) Done
+    → Promised s reopen [] [] r
+reopen-done s g n made = done-in s reopened (g, refl) (λ m p e. not-open-reopens n m) (λ m p. reopened-record m s p) made

@@ -22,11 +22,11 @@ use Rattle.whole_sheet.proofs.Automata.{gives-filed}
 use Rattle.whole_sheet.proofs.Saving.{rows-held}
 use Rattle.session.specs.declared.Session.{Session}
 use Rattle.session.specs.declared.State.the-variants.{Settled as IsSettled}
-use Rattle.session.specs.Record.{record-of, Represents}
-use Rattle.session.specs.Promise.{Keeps, KeepsIn, Phased}
+use Rattle.session.specs.Record.{record-of}
+use Rattle.session.specs.Promise.{Ranged, Promised, HasState}
 use Rattle.session.specs.Standing.{standing, reply, rounds-in, Reads}
 use Rattle.session.proofs.Whole.{keyed-of, sets-in-of}
-use Rattle.session.proofs.Gate.{does-as}
+use Rattle.session.proofs.Gate.{in-phase, does-as, promised}
 use Rattle.session.proofs.Rounded.{kept-of}
 
 -- the masks of the machine's rows, from the keys of the standing rows
@@ -35,18 +35,19 @@ pub reads-of : (s : Session) (high low : List ℕ) → Keyed (standing s) high l
 reads-of s high low keyed a g m p = gives-filed (p .formed .table) (keyed-of m s p high low keyed, sets-in-of m s p) g
 
 -- the sheet of a settled session
-pub prints-settled : (s : Session) (v : Verdict) (high low : List ℕ) → Keyed (standing s) high low (s .«row_count»)
-    → (a : Automaton) → Reads s a → (old new : List ℕ) (r : Answer)
-    → PrintsSheet v high low (s .«row_count») (s .sets) (s .«set_count») a (rounds-in s) old new r → KeepsIn (Phased (IsSettled v)) s (print (length old)) old new (reply s r)
-prints-settled s v high low keyed a reads old new r h m p e = record {
-  session-is = p .whole ∙ ap (λ (x : Next). record-of (x .machine)) (sym (writing m (sheets v (length old) e)));
-  tells = h m (p .formed) e (keyed-of m s p high low keyed, sets-in-of m s p) (reads m p) (kept-of m s p);
-}
+pub prints-settled : (s : Session) (v : Verdict) → HasState s (IsSettled v) → (high low : List ℕ) → Keyed (standing s) high low (s .«row_count»)
+    → (a : Automaton) → Reads s a → (old new : List ℕ) → length new ≡ length old → (r : Answer)
+    → PrintsSheet v high low (s .«row_count») (s .sets) (s .«set_count») a (rounds-in s) old new r → Promised s (print (length old)) old new (reply s r)
+prints-settled s v state high low keyed a reads old new l r h = promised (state .0) l (λ m p. let e = in-phase m s p (state .1) in
+    record {
+      session-is = p .whole ∙ ap (λ (x : Next). record-of (x .machine)) (sym (writing m (sheets v (length old) e)));
+      tells = h m (p .formed) e (keyed-of m s p high low keyed, sets-in-of m s p) (reads m p) (kept-of m s p);
+    })
 
 -- the rows of a session
-pub saves-rows : (s : Session) (high low : List ℕ) → Keyed (standing s) high low (s .«row_count») → (old new : List ℕ) (r : Answer)
-    → TellsText (batch-of (row-list high low (s .«row_count»))) old new r → Keeps s (save (length old)) old new (reply s r)
-saves-rows s high low keyed old new r t m p =
+pub saves-rows : (s : Session) → Ranged s → (high low : List ℕ) → Keyed (standing s) high low (s .«row_count») → (old new : List ℕ) → length new ≡ length old → (r : Answer)
+    → TellsText (batch-of (row-list high low (s .«row_count»))) old new r → Promised s (save (length old)) old new (reply s r)
+saves-rows s ranged high low keyed old new l r t = promised ranged l (λ m p.
     let held : row-list high low (s .«row_count») ≡ sort-by row-bytes (m .rows) = rows-held high low (m .rows) (p .formed .table .fit) (s .«row_count») (keyed-of m s p high low keyed) ∙ sym (sort-table (m .rows) (p .formed .table)) in
     does-as m (save (length old)) (write m (length old) (saved m)) (writing m (saves (length old))) (p .whole)
-    (subst (λ (rows : List Row). TellsText (batch-of rows) old new r) held t)
+    (subst (λ (rows : List Row). TellsText (batch-of rows) old new r) held t))

@@ -1,12 +1,12 @@
--- The promises of the session's calls. On a record that no calls make the answer is free: what then holds is that the call ends, and
--- that a buffer keeps its length.
+-- The promises of the session's calls.
 use mathlib.Core.Path.{_≡_}
 use mathlib.Core.List.{List}
+use lib.ListN.{length}
 use Prim.Native.Nat.{ℕ, _≤_}
-use Rattle.machine.specs.declared.Phase.{Phase}
 use Rattle.machine.specs.declared.Phase.the-variants.{Open, Running, Settled}
 use Rattle.machine.specs.Machine.{Machine, fresh}
-use Rattle.machine.specs.Calls.{Call, call, Tells}
+use Rattle.machine.specs.Calls.{Call, refused, call, Tells}
+use Rattle.machine.specs.Causes.{foreign-record}
 use Rattle.session.specs.declared.Session.{Session}
 use Rattle.session.specs.declared.Reply.{Reply}
 use Rattle.session.specs.declared.State.{State}
@@ -27,30 +27,33 @@ pub record Does (m : Machine) (c : Call) (old new : List ℕ) (r : Reply) : Type
 abbrev pub Keeps : Session → Call → List ℕ → List ℕ → Reply → Type 0
 Keeps s c old new r = (m : Machine) → Represents m s → Does m c old new r
 
--- the same of machines in certain phases
-abbrev pub KeepsIn : (Phase → Type 0) → Session → Call → List ℕ → List ℕ → Reply → Type 0
-KeepsIn Then s c old new r = (m : Machine) → Represents m s → Then (m .phase) → Does m c old new r
-
--- the phases of a state: a foreign record has none
-abbrev pub Phased : State → Phase → Type 0
-Phased Foreign p = ⊥
-Phased IsOpen p = p ≡ Open
-Phased IsRunning p = p ≡ Running
-Phased (IsSettled v) p = p ≡ Settled v
-
 -- the counts are within the arrays
 pub record Ranged (s : Session) : Type 0 where
   pub few : s .«row_count» ≤ 256
   pub few-sets : s .«set_count» ≤ 64
 
--- unless the record is foreign
-abbrev pub RangedIn : State → Session → Type 0
-RangedIn Foreign s = Unit {0}
-RangedIn IsOpen s = Ranged s
-RangedIn IsRunning s = Ranged s
-RangedIn (IsSettled v) s = Ranged s
+-- a record that every call knows for one that no calls make
+abbrev pub IsForeign : Session → Type 0
+IsForeign s = ¬ Ranged s
 
--- the state of a record: where it is that of a machine, the machine's phase
-pub record HasState (s : Session) (x : State) : Type 0 where
-  pub phase-is : (m : Machine) → Represents m s → Phased x (m .phase)
-  pub ranged : RangedIn x s
+-- it comes back as it was, refused by the number beside the table, and the buffer is as it was
+pub record TurnsAway (s : Session) (old new : List ℕ) (r : Reply) : Type 0 where
+  pub session-is : r .session ≡ s
+  pub tells : Tells (refused foreign-record 0) old new (r .answer)
+
+-- on any other record that no calls make the answer is free: what holds of it is that the buffer keeps its length
+abbrev pub FreeAnswer : List ℕ → List ℕ → Type 0
+FreeAnswer old new = length new ≡ length old
+
+-- what a call promises on a session that calls make, on a foreign record, and on every other
+pub record Promised (s : Session) (c : Call) (old new : List ℕ) (r : Reply) : Type 0 where
+  pub keeps : Keeps s c old new r
+  pub foreign : IsForeign s → TurnsAway s old new r
+  pub free : FreeAnswer old new
+
+-- the state of a record: foreign, or its phase
+abbrev pub HasState : Session → State → Type 0
+HasState s Foreign = IsForeign s
+HasState s IsOpen = Ranged s × (s .phase ≡ Open)
+HasState s IsRunning = Ranged s × (s .phase ≡ Running)
+HasState s (IsSettled v) = Ranged s × (s .phase ≡ Settled v)

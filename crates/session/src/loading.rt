@@ -4,13 +4,14 @@ use crate::Session;
 use crate::State;
 use crate::tables::slots;
 use machine::Answer;
+use machine::FOREIGN_RECORD;
 use machine::MOST_ROWS;
 use machine::MOST_SETS;
 ghost use Prim.Native.Nat.{_≤_};
 ghost use mathlib.Core.List.{[]};
 ghost use Rattle.machine.specs.Calls.{load, withdraw};
 ghost use Rattle.row_table.specs.Arrays.{Filed};
-ghost use Rattle.session.specs.Promise.{Ranged, Phased, Keeps, KeepsIn};
+ghost use Rattle.session.specs.Promise.{HasState, Promised};
 ghost use Rattle.session.specs.Standing.{TakesTable};
 
 impl Session {
@@ -52,8 +53,8 @@ impl Session {
 
     // The batch into the table of an open session.
     fn load_open(self, batch: &[u8]) -> Reply
-        requires { ⌜ Ranged self ⌝ }
-        ensures { λ r. ⌜ KeepsIn (Phased State.Open) self (load (now (batch .entry))) [] [] r ⌝ }
+        requires { ⌜ HasState self State.Open ⌝ }
+        ensures { λ r. ⌜ Promised self (load (now (batch .entry))) [] [] r ⌝ }
     {
         let keys = self.keys();
         let mut high = keys.high;
@@ -68,8 +69,8 @@ impl Session {
 
     // The batch out of the table of an open session.
     fn withdraw_open(self, batch: &[u8]) -> Reply
-        requires { ⌜ Ranged self ⌝ }
-        ensures { λ r. ⌜ KeepsIn (Phased State.Open) self (withdraw (now (batch .entry))) [] [] r ⌝ }
+        requires { ⌜ HasState self State.Open ⌝ }
+        ensures { λ r. ⌜ Promised self (withdraw (now (batch .entry))) [] [] r ⌝ }
     {
         let keys = self.keys();
         let mut high = keys.high;
@@ -84,10 +85,10 @@ impl Session {
 
     // Load: the rows of the batch stand then too.
     pub fn load(self, batch: &[u8]) -> Reply
-        ensures { λ r. ⌜ Keeps self (load (now (batch .entry))) [] [] r ⌝ }
+        ensures { λ r. ⌜ Promised self (load (now (batch .entry))) [] [] r ⌝ }
     {
         match self.state() {
-            State::Foreign => self.refuse(24),
+            State::Foreign => self.refuse(FOREIGN_RECORD),
             State::Open => self.load_open(batch),
             State::Running => self.refuse(1),
             State::Settled(_) => self.refuse(1),
@@ -96,10 +97,10 @@ impl Session {
 
     // Withdraw: the rows of the batch stand no more.
     pub fn withdraw(self, batch: &[u8]) -> Reply
-        ensures { λ r. ⌜ Keeps self (withdraw (now (batch .entry))) [] [] r ⌝ }
+        ensures { λ r. ⌜ Promised self (withdraw (now (batch .entry))) [] [] r ⌝ }
     {
         match self.state() {
-            State::Foreign => self.refuse(24),
+            State::Foreign => self.refuse(FOREIGN_RECORD),
             State::Open => self.withdraw_open(batch),
             State::Running => self.refuse(1),
             State::Settled(_) => self.refuse(1),

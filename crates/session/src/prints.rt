@@ -2,16 +2,17 @@
 use crate::Reply;
 use crate::Session;
 use crate::State;
+use machine::FOREIGN_RECORD;
 use machine::Verdict;
 ghost use lib.ListN.{length};
 ghost use Rattle.machine.specs.Calls.{print};
-ghost use Rattle.session.specs.Promise.{Ranged, Phased, Keeps, KeepsIn};
+ghost use Rattle.session.specs.Promise.{HasState, Promised};
 
 impl Session {
     // The sheet of a settled session.
     fn print_settled(self, v: Verdict, buffer: &mut [u8]) -> Reply
-        requires { ⌜ Ranged self ⌝ }
-        ensures { λ r. ⌜ KeepsIn (Phased (State.Settled v)) self (print (length (now (buffer .entry))))
+        requires { ⌜ HasState self (State.Settled v) ⌝ }
+        ensures { λ r. ⌜ Promised self (print (length (now (buffer .entry))))
             (now (buffer .entry)) (now (buffer .exit)) r ⌝ }
     {
         let sets = self.sets;
@@ -31,11 +32,11 @@ impl Session {
 
     // Print: the sheet into the buffer, when settled; nothing where the buffer is too short.
     pub fn print(self, buffer: &mut [u8]) -> Reply
-        ensures { λ r. ⌜ Keeps self (print (length (now (buffer .entry))))
+        ensures { λ r. ⌜ Promised self (print (length (now (buffer .entry))))
             (now (buffer .entry)) (now (buffer .exit)) r ⌝ }
     {
         match self.state() {
-            State::Foreign => self.refuse(24),
+            State::Foreign => self.refuse(FOREIGN_RECORD),
             State::Open => self.refuse(9),
             State::Running => self.refuse(11),
             State::Settled(v) => self.print_settled(v, buffer),

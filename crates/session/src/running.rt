@@ -3,6 +3,7 @@ use crate::Reply;
 use crate::Session;
 use crate::State;
 use machine::Answer;
+use machine::FOREIGN_RECORD;
 use machine::MOST_ROUNDS;
 use machine::MOST_SETS;
 use machine::Phase;
@@ -13,7 +14,7 @@ ghost use Prim.Native.Nat.{_<_};
 ghost use Rattle.machine.specs.declared.Answer.the-variants.{Done};
 ghost use Rattle.machine.specs.Calls.{close, round, reopen};
 ghost use Rattle.machine.specs.Causes.{NotOpen};
-ghost use Rattle.session.specs.Promise.{Ranged, Phased, Keeps, KeepsIn};
+ghost use Rattle.session.specs.Promise.{Ranged, HasState, Promised};
 ghost use Rattle.session.specs.Standing.{reply, rounds-in, with-rounds};
 
 impl Session {
@@ -53,8 +54,8 @@ impl Session {
 
     // Close of an open session: no claim is open.
     fn close_open(self) -> Reply
-        requires { ⌜ Ranged self ⌝ }
-        ensures { λ r. ⌜ KeepsIn (Phased State.Open) self close [] [] r ⌝ }
+        requires { ⌜ HasState self State.Open ⌝ }
+        ensures { λ r. ⌜ Promised self close [] [] r ⌝ }
     {
         let a = self.automaton();
         let graph = a.graph;
@@ -64,8 +65,8 @@ impl Session {
 
     // A round of a running session: what it opens depends on the claims that were open before it, and on no other.
     fn round_running(self) -> Reply
-        requires { ⌜ Ranged self × (self .rounds < 129) ⌝ }
-        ensures { λ r. ⌜ KeepsIn (Phased State.Running) self round [] [] r ⌝ }
+        requires { ⌜ HasState self State.Running × (self .rounds < 129) ⌝ }
+        ensures { λ r. ⌜ Promised self round [] [] r ⌝ }
     {
         let n = self.set_count;
         let before = self.kept();
@@ -77,7 +78,8 @@ impl Session {
 
     // Reopen of a session that is not open: the rows stay, the openings and the rounds go.
     fn reopen_closed(self) -> Reply
-        ensures { λ r. ⌜ KeepsIn NotOpen self reopen [] [] r ⌝ }
+        requires { ⌜ Ranged self × NotOpen (self .phase) ⌝ }
+        ensures { λ r. ⌜ Promised self reopen [] [] r ⌝ }
     {
         let loop_rounds = [0u8; MOST_SETS];
         let mix_rounds = [0u8; MOST_SETS];
@@ -93,10 +95,10 @@ impl Session {
 
     // Close: running, or settled where letter steps alone lead from an initial to a final state.
     pub fn close(self) -> Reply
-        ensures { λ r. ⌜ Keeps self close [] [] r ⌝ }
+        ensures { λ r. ⌜ Promised self close [] [] r ⌝ }
     {
         match self.state() {
-            State::Foreign => self.refuse(24),
+            State::Foreign => self.refuse(FOREIGN_RECORD),
             State::Open => self.close_open(),
             State::Running => self.refuse(1),
             State::Settled(_) => self.refuse(1),
@@ -105,11 +107,11 @@ impl Session {
 
     // Round: every claim that holds with the claims open before, and is not open yet, opens. No calls lead to a 130th.
     pub fn round(self) -> Reply
-        ensures { λ r. ⌜ Keeps self round [] [] r ⌝ }
+        ensures { λ r. ⌜ Promised self round [] [] r ⌝ }
     {
         let rounds = self.rounds;
         match self.state() {
-            State::Foreign => self.refuse(24),
+            State::Foreign => self.refuse(FOREIGN_RECORD),
             State::Open => self.refuse(9),
             State::Running => {
                 if rounds < MOST_ROUNDS {
@@ -124,10 +126,10 @@ impl Session {
 
     // Reopen: open again, with the same rows.
     pub fn reopen(self) -> Reply
-        ensures { λ r. ⌜ Keeps self reopen [] [] r ⌝ }
+        ensures { λ r. ⌜ Promised self reopen [] [] r ⌝ }
     {
         match self.state() {
-            State::Foreign => self.refuse(24),
+            State::Foreign => self.refuse(FOREIGN_RECORD),
             State::Open => self.refuse(9),
             State::Running => self.reopen_closed(),
             State::Settled(_) => self.reopen_closed(),

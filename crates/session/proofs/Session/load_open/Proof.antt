@@ -13,11 +13,12 @@ returns : tie.Need-returns
 returns c =
     let l = c .before .before .before in
     let k = l .before .before .before .before .before .before .before in
-    let a = k .before .before .args in
+    let o = k .before .before in
+    let a = o .args in
     let s = a .self in
     let r = l .load-rows .result in
     let has : List Row → Type 0 = Filed (l .load-rows .last .0) (l .load-rows .last .1 .0) (l .load-rows .last .1 .1 .0) (r .rows) (r .sets) in
-    batch-keeps (load-feeds (a .batch .now)) s (r .answer) has has
+    batch-keeps (load-feeds (a .batch .now)) s (o .pre) (r .answer) has has
     (λ m p. l .load-rows .ensures .comes (m .rows) (p .formed .table) (keyed-of m s p (k .keys .result .high) (k .keys .result .low) (k .keys .ensures), sets-in-of m s p))
     (λ rows t h. h) (c .take-table .ensures)
 

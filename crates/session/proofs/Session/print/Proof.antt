@@ -1,10 +1,8 @@
 -- `print` meets its contract, by the state of the session.
 use lib.ListN.{length}
-use Rattle.machine.specs.declared.Phase.the-variants.{Open, Running}
-use Rattle.machine.specs.Calls.{print}
 use Rattle.machine.specs.Causes.{printing}
 use Rattle.machine.proofs.Phases.{open-refuses, running-refuses}
-use Rattle.session.proofs.Gate.{meets, in-range, serves, free, refuses}
+use Rattle.session.proofs.Gate.{known, turns-away, refuses}
 use borrow.Author.Needs.{needs}
 use Rattle.session.proofs.Session.print.Statement.{statement}
 use Rattle.session.proofs.Session.print.Tie as tie
@@ -13,33 +11,25 @@ print-settled-requires : tie.Need-print-settled-requires
 print-settled-requires c κs =
     let v = c .before .before in
     let t = v .before .before in
-    in-range (t .before .before .args .self) (t .state .ensures) (v .v .given .1)
+    known (t .before .before .args .self) (t .state .ensures) (v .v .given .1)
 
 returns : tie.Need-returns
 returns c =
     let t = c .before .before .before in
-    free (meets (t .before .before .args .self) (t .state .ensures) (c .before .enum-told .given .1))
+    let s = t .before .before .args .self in
+    turns-away s (known s (t .state .ensures) (c .before .enum-told .given .1)) (c .refuse .ensures)
 
 returns-2 : tie.Need-returns-2
 returns-2 c =
     let t = c .before .before .before in
     let a = t .before .before .args in
-    let size = length (a .buffer .now) in
-    refuses (a .self) Open (meets (a .self) (t .state .ensures) (c .before .enum-told2 .given .1)) (print size) 9 (open-refuses (printing size)) (a .buffer .now) (c .refuse2 .ensures)
+    refuses (a .self) (known (a .self) (t .state .ensures) (c .before .enum-told2 .given .1)) (open-refuses (printing (length (a .buffer .now)))) (c .refuse2 .ensures)
 
 returns-3 : tie.Need-returns-3
 returns-3 c =
     let t = c .before .before .before in
     let a = t .before .before .args in
-    let size = length (a .buffer .now) in
-    refuses (a .self) Running (meets (a .self) (t .state .ensures) (c .before .enum-told3 .given .1)) (print size) 11 (running-refuses size) (a .buffer .now) (c .refuse3 .ensures)
-
-returns-4 : tie.Need-returns-4
-returns-4 c =
-    let w = c .before .before in
-    let v = w .before .before .before in
-    let t = v .before .before in
-    serves (t .before .before .args .self) (t .state .ensures) (v .v .given .1) (w .print-settled .ensures)
+    refuses (a .self) (known (a .self) (t .state .ensures) (c .before .enum-told3 .given .1)) (running-refuses (length (a .buffer .now))) (c .refuse3 .ensures)
 
 pub print-spec : {M : Type 1} → statement M
 print-spec =
@@ -58,4 +48,4 @@ print-spec =
     returns-2
     returns-3
     (λ c. search needs)
-    returns-4)
+    (λ c. search needs))

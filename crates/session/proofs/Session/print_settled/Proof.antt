@@ -17,7 +17,7 @@ returns c =
     let high = y .keys .result .high in
     let low = y .keys .result .low in
     let new = p .print .last .0 in
-    prints-settled (s .self) (s .v) high low (y .keys .ensures) (a .automaton .result) (a .automaton .ensures) (s .buffer .now) new (p .print .result)
+    prints-settled (s .self) (s .v) (y .before .before .before .pre) high low (y .keys .ensures) (a .automaton .result) (a .automaton .ensures) (s .buffer .now) new (p .print .kept .0) (p .print .result)
     (subst (λ (r : Progress). PrintsSheet (s .v) high low (s .self .«row_count») (s .self .sets) (s .self .«set_count») (a .automaton .result) r (s .buffer .now) new (p .print .result))
     (k .kept .ensures) (p .print .ensures))
 

@@ -1,36 +1,36 @@
 -- `reopen` meets its contract, by the state of the session.
 use mathlib.Core.Path.{sym, subst}
-use mathlib.Core.List.{[]}
-use Rattle.machine.specs.declared.Phase.the-variants.{Open}
-use Rattle.machine.specs.Calls.{reopen}
 use Rattle.machine.specs.Causes.{NotOpen, running, settled, reopening}
 use Rattle.machine.proofs.Phases.{open-refuses}
-use Rattle.session.proofs.Gate.{meets, free, refuses}
+use Rattle.session.proofs.Gate.{known, turns-away, refuses}
 use borrow.Author.Needs.{needs}
 use Rattle.session.proofs.Session.reopen.Statement.{statement}
 use Rattle.session.proofs.Session.reopen.Tie as tie
 
+reopen-closed-requires : tie.Need-reopen-closed-requires
+reopen-closed-requires c κs =
+    let t = c .before .before in
+    let k = known (t .before .args .self) (t .state .ensures) (c .enum-told3 .given .1) in
+    (k .0, subst NotOpen (sym (k .1)) running)
+
+reopen-closed-requires-2 : tie.Need-reopen-closed-requires-2
+reopen-closed-requires-2 c κs =
+    let t = c .before .before in
+    let v = c .enum-told4 .given in
+    let k = known (t .before .args .self) (t .state .ensures) (v .1) in
+    (k .0, subst NotOpen (sym (k .1)) (settled (v .0 .0)))
+
 returns : tie.Need-returns
 returns c =
     let t = c .before .before .before in
-    free (meets (t .before .args .self) (t .state .ensures) (c .before .enum-told .given .1))
+    let s = t .before .args .self in
+    turns-away s (known s (t .state .ensures) (c .before .enum-told .given .1)) (c .refuse .ensures)
 
 returns-2 : tie.Need-returns-2
 returns-2 c =
     let t = c .before .before .before in
     let s = t .before .args .self in
-    refuses s Open (meets s (t .state .ensures) (c .before .enum-told2 .given .1)) reopen 9 (open-refuses reopening) [] (c .refuse2 .ensures)
-
-returns-3 : tie.Need-returns-3
-returns-3 c m p =
-    let t = c .before .before .before in
-    c .reopen-closed .ensures m p (subst NotOpen (sym (meets (t .before .args .self) (t .state .ensures) (c .before .enum-told3 .given .1) m p)) running)
-
-returns-4 : tie.Need-returns-4
-returns-4 c m p =
-    let t = c .before .before .before in
-    let v = c .before .enum-told4 .given in
-    c .reopen-closed2 .ensures m p (subst NotOpen (sym (meets (t .before .args .self) (t .state .ensures) (v .1) m p)) (settled (v .0 .0)))
+    refuses s (known s (t .state .ensures) (c .before .enum-told2 .given .1)) (open-refuses reopening) (c .refuse2 .ensures)
 
 pub reopen-spec : {M : Type 1} → statement M
 reopen-spec =
@@ -42,10 +42,10 @@ reopen-spec =
     (λ c. search needs)
     (λ c κs. search needs)
     (λ c. search needs)
-    (λ c κs. search needs)
+    reopen-closed-requires
     (λ c. search needs)
-    (λ c κs. search needs)
+    reopen-closed-requires-2
     returns
     returns-2
-    returns-3
-    returns-4)
+    (λ c. search needs)
+    (λ c. search needs))

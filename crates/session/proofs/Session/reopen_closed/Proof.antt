@@ -5,7 +5,7 @@ use Rattle.session.proofs.Session.reopen_closed.Statement.{statement}
 use Rattle.session.proofs.Session.reopen_closed.Tie as tie
 
 returns : tie.Need-returns
-returns c = reopen-done (c .before .args .self) (c .done-with .ensures)
+returns c = reopen-done (c .before .args .self) (c .before .pre .0) (c .before .pre .1) (c .done-with .ensures)
 
 pub reopen-closed-spec : {M : Type 1} → statement M
 reopen-closed-spec = tie.close (tie.spec (λ c κs. search needs) returns)

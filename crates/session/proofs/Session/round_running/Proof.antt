@@ -13,7 +13,7 @@ round-requires : tie.Need-round-requires
 round-requires c κs =
     let k = c .before .before .before in
     let start = k .before in
-    (start .pre .0 .few-sets, subst (λ (r : Progress). r .rounds < 129) (sym (k .kept .ensures)) (start .pre .1))
+    (start .pre .0 .0 .few-sets, subst (λ (r : Progress). r .rounds < 129) (sym (k .kept .ensures)) (start .pre .1))
 
 returns : tie.Need-returns
 returns c =
@@ -22,7 +22,7 @@ returns c =
     let k = a .before in
     let s = k .before .args .self in
     let m = a .automaton .result in
-    round-done s m (a .automaton .ensures) (d .round .result) (c .done-with .ensures)
+    round-done s m (a .automaton .ensures) (d .round .result) (c .done-with .ensures) (k .before .pre .0)
     (subst (λ (r : Progress). DoesRound (graph-of (m .graph)) (m .initials) (m .finals) (s .«set_count») r (d .round .result)) (k .kept .ensures) (d .round .ensures))
 
 pub round-running-spec : {M : Type 1} → statement M

@@ -1,5 +1,5 @@
 -- `save` meets its contract, by the state of the session.
-use Rattle.session.proofs.Gate.{meets, in-any-phase, free}
+use Rattle.session.proofs.Gate.{known, in-any-phase, turns-away}
 use borrow.Author.Needs.{needs}
 use Rattle.session.proofs.Session.save.Statement.{statement}
 use Rattle.session.proofs.Session.save.Tie as tie
@@ -12,7 +12,8 @@ save-rows-requires c κs =
 returns : tie.Need-returns
 returns c =
     let t = c .before .before .before in
-    free (meets (t .before .before .args .self) (t .state .ensures) (c .before .enum-told .given .1))
+    let s = t .before .before .args .self in
+    turns-away s (known s (t .state .ensures) (c .before .enum-told .given .1)) (c .refuse .ensures)
 
 pub save-spec : {M : Type 1} → statement M
 save-spec =

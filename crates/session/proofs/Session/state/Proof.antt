@@ -1,7 +1,4 @@
--- `state` meets its contract: counts beyond the arrays are those of no machine; else the phase is the machine's.
-use mathlib.Core.Path.{sym, _∙_}
-use native.Mathlib.Omega.{arith}
-use Rattle.session.proofs.Whole.{phase-of}
+-- `state` meets its contract: foreign where a count is beyond its array, else in its phase.
 use Rattle.session.proofs.Gate.{many-rows, many-sets}
 use borrow.Author.Needs.{needs}
 use Rattle.session.proofs.Session.state.Statement.{statement}
@@ -14,22 +11,13 @@ returns-2 : tie.Need-returns-2
 returns-2 c = many-sets (c .before .before .args .self) (c .if2 .taken)
 
 returns-3 : tie.Need-returns-3
-returns-3 c =
-    let e = c .before .before in
-    let s = e .before .before .args .self in
-    record { phase-is = λ m p. sym (phase-of m s p) ∙ c .enum-told .given .1; ranged = record { few = e .before .if1 .left; few-sets = e .if2 .left } }
+returns-3 c = (record { few = c .before .before .before .if1 .left; few-sets = c .before .before .if2 .left }, c .enum-told .given .1)
 
 returns-4 : tie.Need-returns-4
-returns-4 c =
-    let e = c .before .before in
-    let s = e .before .before .args .self in
-    record { phase-is = λ m p. sym (phase-of m s p) ∙ c .enum-told2 .given .1; ranged = record { few = e .before .if1 .left; few-sets = e .if2 .left } }
+returns-4 c = (record { few = c .before .before .before .if1 .left; few-sets = c .before .before .if2 .left }, c .enum-told2 .given .1)
 
 returns-5 : tie.Need-returns-5
-returns-5 c =
-    let e = c .before .before .before in
-    let s = e .before .before .args .self in
-    record { phase-is = λ m p. sym (phase-of m s p) ∙ c .before .phase .given .1; ranged = record { few = e .before .if1 .left; few-sets = e .if2 .left } }
+returns-5 c = (record { few = c .before .before .before .before .if1 .left; few-sets = c .before .before .before .if2 .left }, c .before .phase .given .1)
 
 pub state-spec : {M : Type 1} → statement M
 state-spec =

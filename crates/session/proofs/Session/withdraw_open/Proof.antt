@@ -12,12 +12,13 @@ returns c =
     let f = c .before .before .before .before in
     let w = f .before .before .before in
     let k = w .before .before .before .before .before in
-    let a = k .before .before .args in
+    let o = k .before .before in
+    let a = o .args in
     let s = a .self in
     let r = w .withdraw-rows .result in
     let high = w .withdraw-rows .last .0 in
     let low = w .withdraw-rows .last .1 .0 in
-    batch-keeps (withdraw-feeds (a .batch .now)) s (r .answer) (λ rows. Keyed rows high low (r .rows)) (Filed high low (f .collect-sets .result .sets) (r .rows) (f .collect-sets .result .count))
+    batch-keeps (withdraw-feeds (a .batch .now)) s (o .pre) (r .answer) (λ rows. Keyed rows high low (r .rows)) (Filed high low (f .collect-sets .result .sets) (r .rows) (f .collect-sets .result .count))
     (λ m p. w .withdraw-rows .ensures .comes (m .rows) (p .formed .table) (keyed-of m s p (k .keys .result .high) (k .keys .result .low) (k .keys .ensures)))
     (λ rows t h. (h, f .collect-sets .ensures .holds rows t h)) (c .take-table .ensures)
 
