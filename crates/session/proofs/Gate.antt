@@ -8,10 +8,12 @@ use denote.Enum.Declared.{tagOf}
 use native.Mathlib.Omega.{arith}
 use lib.ListN.{length}
 use Rattle.machine.specs.declared.Answer.the-variants.{Done, Refused}
+use Rattle.machine.specs.declared.Verdict.{Verdict}
 use Rattle.machine.specs.declared.Phase.{Phase}
+use Rattle.machine.specs.declared.Phase.the-variants.{Open, Running, Settled}
 use Rattle.machine.specs.Machine.{Machine}
 use Rattle.machine.specs.Calls.{Call, Next, accept, refuse, refuse-at, call-in, call, Tells}
-use Rattle.machine.specs.Causes.{foreign-record}
+use Rattle.machine.specs.Causes.{foreign-record, NotOpen, running, settled}
 use Rattle.machine.proofs.Answers.{tells-as, tells-refused}
 use Rattle.session.specs.declared.Session.{Session}
 use Rattle.session.specs.declared.Reply.{Reply}
@@ -50,15 +52,16 @@ ranged m s p = record { few = omega (arith, count-of m s p, p .formed .table .fe
 pub foreign-none : (m : Machine) (s : Session) → Represents m s → ¬ IsForeign s
 foreign-none m s p f = f (ranged m s p)
 
-pub many-rows : (s : Session) → 256 < s .«row_count» → IsForeign s
-many-rows s h g = omega (arith, g .few)
-
-pub many-sets : (s : Session) → 64 < s .«set_count» → IsForeign s
-many-sets s h g = omega (arith, g .few-sets)
-
 -- at the state that was found
-pub known : (s : Session) {x q : State} → HasState s x → x ≡ q → HasState s q
-known s h e = subst (HasState s) e h
+pub known : (s : Session) (x : State) {q : State} → HasState s x → x ≡ q → HasState s q
+known s x h e = subst (HasState s) e h
+
+-- running or settled
+pub closed-running : (s : Session) {x : State} → HasState s x → x ≡ IsRunning → Ranged s × NotOpen (s .phase)
+closed-running s {x} h e = let k = known s x h e in (k .0, subst NotOpen (sym (k .1)) running)
+
+pub closed-settled : (s : Session) {x : State} {v : Verdict} → HasState s x → x ≡ IsSettled v → Ranged s × NotOpen (s .phase)
+closed-settled s {x} {v} h e = let k = known s x h e in (k .0, subst NotOpen (sym (k .1)) (settled v))
 
 -- in any phase
 pub in-any-phase : (s : Session) (x : State) → HasState s x → OneOf (1 ∷ 2 ∷ 3 ∷ []) (tagOf the-type x) → Ranged s
@@ -74,16 +77,8 @@ module _ {s : Session} {c : Call} {old new : List ℕ} {r : Reply} where
   promised g l k = record { keeps = k; foreign = λ f. absurd (f g); free = l }
 
 module _ (s : Session) {c : Call} {old : List ℕ} {r : Reply} where
-  -- a foreign record
-  pub turns-away : IsForeign s → r ≡ reply s (Refused foreign-record 0) → Promised s c old old r
-  turns-away f g = record {
-    keeps = λ m p. absurd (foreign-none m s p f);
-    foreign = λ h. record { session-is = ap (λ (x : Reply). x .session) g; tells = rw g (tells-refused foreign-record 0 old) };
-    free = refl;
-  }
-
-  -- a refusal in a phase
-  pub refuses : {p : Phase} {n : ℕ} → Ranged s × (s .phase ≡ p) → ((m : Machine) → call-in p m c ≡ refuse m n) → r ≡ reply s (Refused n 0) → Promised s c old old r
+  -- refused in a phase
+  refuses : {p : Phase} {n : ℕ} → Ranged s × (s .phase ≡ p) → ((m : Machine) → call-in p m c ≡ refuse m n) → r ≡ reply s (Refused n 0) → Promised s c old old r
   refuses h f g = promised (h .0) refl (λ m k. does-refused m c old k (ap (λ (x : Phase). call-in x m c) (in-phase m s k (h .1)) ∙ f m) g)
 
   -- done in a phase
@@ -91,3 +86,25 @@ module _ (s : Session) {c : Call} {old : List ℕ} {r : Reply} where
       → ((m : Machine) → Represents m s → t ≡ record-of (to m)) → r ≡ reply t Done → Promised s c old old r
   done-in to h f t g = promised (h .0) refl
       (λ m k. let e = in-phase m s k (h .1) in does-done m c old (ap (λ (x : Phase). call-in x m c) e ∙ f m k e) (t m k) g)
+
+-- refused, by the state that was found
+module _ (s : Session) (x : State) (h : HasState s x) {c : Call} {old : List ℕ} {r : Reply} where
+  pub away : x ≡ Foreign → r ≡ reply s (Refused foreign-record 0) → Promised s c old old r
+  away e g = let f = known s x h e in
+      record {
+        keeps = λ m p. absurd (foreign-none m s p f);
+        foreign = λ i. record { session-is = ap (λ (y : Reply). y .session) g; tells = rw g (tells-refused foreign-record 0 old) };
+        free = refl;
+      }
+
+  pub refused-open : {n : ℕ} → x ≡ IsOpen → r ≡ reply s (Refused n 0) → ((m : Machine) → call-in Open m c ≡ refuse m n) → Promised s c old old r
+  refused-open e g f = refuses s (known s x h e) f g
+
+  pub refused-running : {n : ℕ} → x ≡ IsRunning → r ≡ reply s (Refused n 0) → ((m : Machine) → call-in Running m c ≡ refuse m n) → Promised s c old old r
+  refused-running e g f = refuses s (known s x h e) f g
+
+  pub refused-settled : {n : ℕ} (v : Verdict) → x ≡ IsSettled v → r ≡ reply s (Refused n 0) → ((m : Machine) → call-in (Settled v) m c ≡ refuse m n) → Promised s c old old r
+  refused-settled v e g f = refuses s (known s x h e) f g
+
+-- what a call's arms ask; what the machine refuses there is listed beside it
+pub ruleset gate = (known, away, refused-open, refused-running, refused-settled)
