@@ -1,5 +1,5 @@
 -- Close, round and reopen: what the machine does, and what the session does.
-use Prim.Native.Nat.{_≤_}
+use Prim.Native.Nat.{_<_, _≤_}
 use mathlib.Core.Path.{_≡_, refl}
 use mathlib.Core.List.{[]}
 use lib.ListN.{replicate}
@@ -32,10 +32,14 @@ module _ (s : Session) (a : Automaton) (reads : Reads s a) (now : Progress) {r :
   pub close-done : HasState s IsOpen → Closes (graph-of (a .graph)) (a .initials) (a .finals) now → Promised s close [] [] r
   close-done state c = done-in s closed state (λ m p e. open-closes m) (λ m p. closed-record m s p a now reads c) made
 
-  pub round-done : HasState s IsRunning → DoesRound (graph-of (a .graph)) (a .initials) (a .finals) (s .«set_count») (rounds-in s) now
-      → Promised s round [] [] r
-  round-done state d =
-      done-in s next-round state (λ m p e. running-rounds m (never-130th m (p .formed) e)) (λ m p. round-record m s p a now reads d) made
+  pub round-done : HasState s IsRunning → (before : Progress) → before ≡ rounds-in s
+      → DoesRound (graph-of (a .graph)) (a .initials) (a .finals) (s .«set_count») before now → Promised s round [] [] r
+  round-done state before k d =
+      done-in s next-round state (λ m p e. running-rounds m (never-130th m (p .formed) e)) (λ m p. round-record m s p a now reads (rw k at d)) made
+
+-- the count of rounds is the record's
+pub rounds-few : (s : Session) (before : Progress) → before ≡ rounds-in s → s .rounds < 129 → before .rounds < 129
+rounds-few s before k h = rw k h
 
 pub reopen-done : (s : Session) {r : Reply} → Ranged s → NotOpen (s .phase)
     → r ≡ reply (with-rounds s (record { «loop_rounds» = replicate 64 0; «mix_rounds» = replicate 64 0; phase = Open; rounds = 0 })) Done

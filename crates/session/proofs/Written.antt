@@ -16,6 +16,7 @@ use Rattle.machine.proofs.Outcomes.{writing}
 use Rattle.row_table.specs.Arrays.{Keyed}
 use Rattle.automaton.specs.declared.Automaton.{Automaton}
 use Rattle.automaton.specs.Promise.{GivesKeyed}
+use Rattle.rounds.specs.declared.Progress.{Progress}
 use Rattle.whole_sheet.specs.Promise.{PrintsSheet}
 use Rattle.whole_sheet.specs.Saving.{row-list}
 use Rattle.whole_sheet.proofs.Automata.{gives-filed}
@@ -36,12 +37,12 @@ reads-of s high low keyed a g m p = gives-filed (p .formed .table) (keyed-of m s
 
 -- the sheet of a settled session
 pub prints-settled : (s : Session) (v : Verdict) → HasState s (IsSettled v) → (high low : List ℕ) → Keyed (standing s) high low (s .«row_count»)
-    → (a : Automaton) → Reads s a → (old new : List ℕ) → length new ≡ length old → (r : Answer)
-    → PrintsSheet v high low (s .«row_count») (s .sets) (s .«set_count») a (rounds-in s) old new r → Promised s (print (length old)) old new (reply s r)
-prints-settled s v state high low keyed a reads old new l r h = promised (state .0) l (λ m p. let e = in-phase m s p (state .1) in
+    → (a : Automaton) → Reads s a → (old new : List ℕ) → length new ≡ length old → (r : Answer) (rounds : Progress) → rounds ≡ rounds-in s
+    → PrintsSheet v high low (s .«row_count») (s .sets) (s .«set_count») a rounds old new r → Promised s (print (length old)) old new (reply s r)
+prints-settled s v state high low keyed a reads old new l r rounds k h = promised (state .0) l (λ m p. let e = in-phase m s p (state .1) in
     record {
       session-is = p .whole ∙ ap (λ (x : Next). record-of (x .machine)) (sym (writing m (sheets v (length old) e)));
-      tells = h m (p .formed) e (keyed-of m s p high low keyed, sets-in-of m s p) (reads m p) (kept-of m s p);
+      tells = (rw k at h) m (p .formed) e (keyed-of m s p high low keyed, sets-in-of m s p) (reads m p) (kept-of m s p);
     })
 
 -- the rows of a session

@@ -4,8 +4,5 @@ use borrow.Author.Needs.{needs}
 use Rattle.session.proofs.Session.reopen_closed.Statement.{statement}
 use Rattle.session.proofs.Session.reopen_closed.Tie as tie
 
-returns : tie.Need-returns
-returns c = reopen-done (c .before .args .self) (c .before .pre .0) (c .before .pre .1) (c .done-with .ensures)
-
 pub reopen-closed-spec : {M : Type 1} → statement M
-reopen-closed-spec = tie.close (tie.spec (λ c κs. search needs) returns)
+reopen-closed-spec = tie.close (tie.spec (λ c κs. search needs) (λ c. search reopen-done))
