@@ -9,18 +9,22 @@ use Rattle.machine.specs.declared.Answer.the-variants.{Done}
 use Rattle.machine.specs.declared.Phase.{Phase}
 use Rattle.machine.specs.declared.Phase.the-variants.{Open}
 use Rattle.machine.specs.Machine.{Machine}
-use Rattle.machine.specs.Calls.{Call, with-rows, call-in, call}
+use Rattle.machine.specs.Calls.{Call, load, withdraw, with-rows, call-in, call}
 use Rattle.machine.specs.WellFormed.{Table}
-use Rattle.machine.proofs.Phases.{Feeds}
-use Rattle.row_table.specs.Arrays.{Filed, Comes}
+use Rattle.machine.proofs.Phases.{Feeds, load-feeds, withdraw-feeds}
+use Rattle.row_table.specs.declared.LoadedRows.{LoadedRows}
+use Rattle.row_table.specs.declared.WithdrawnRows.{WithdrawnRows}
+use Rattle.row_table.specs.declared.FoundSets.{FoundSets}
+use Rattle.row_table.specs.Arrays.{Keyed, Filed, Comes}
+use Rattle.row_table.specs.Promise.{LoadsRows, WithdrawsRows, CollectsSets}
 use Rattle.session.specs.declared.Slot.{Slot}
 use Rattle.session.specs.declared.Session.{Session}
 use Rattle.session.specs.declared.State.the-variants.{Open as IsOpen}
 use Rattle.session.specs.declared.Reply.{Reply}
 use Rattle.session.specs.Record.{Represents}
 use Rattle.session.specs.Promise.{Does, Promised, HasState}
-use Rattle.session.specs.Standing.{reply, with-table, Slotted, TakesTable}
-use Rattle.session.proofs.Whole.{rows-table}
+use Rattle.session.specs.Standing.{standing, reply, Slotted, TakesTable}
+use Rattle.session.proofs.Whole.{keyed-of, sets-in-of, rows-table}
 use Rattle.session.proofs.Gate.{in-phase, does-done, does-refused, promised}
 
 -- the record with the arrays' table
@@ -38,7 +42,7 @@ pub takes-done : (s : Session) (high low sets : List ℕ) (n k : ℕ) (slots : L
 takes-done s high low sets n k slots h e = rw e (λ rows t f. rw (h rows (t .fit) (f .0), f .0 .count, f .1 .sets-are, f .1 .count))
 
 -- what the batch comes to in the arrays, it comes to in the machine
-pub batch-keeps : {c : Call} {rule : Row → List Row → Turn (List Row)} {batch : List ℕ} → Feeds c rule batch → (s : Session) → HasState s IsOpen → (a : Answer) (Has Then : List Row → Type 0)
+batch-keeps : {c : Call} {rule : Row → List Row → Turn (List Row)} {batch : List ℕ} → Feeds c rule batch → (s : Session) → HasState s IsOpen → (a : Answer) (Has Then : List Row → Type 0)
     → ((m : Machine) → Represents m s → Comes Has (feed rule (m .rows) batch) a) → ((rows : List Row) → Table rows → Has rows → Then rows)
     → {r : Reply} → TakesTable s Then a r → Promised s c [] [] r
 batch-keeps {c} {rule} {batch} feeds s state a Has Then comes then {r} takes = promised (state .0) refl (λ m p. by m p (in-phase m s p (state .1)))
@@ -53,3 +57,15 @@ batch-keeps {c} {rule} {batch} feeds s state a Has Then comes then {r} takes = p
         go (fed rows) f h = does-done m c [] (fed-call (fed rows) f) (rows-table m s p e rows (h .1))
             (subst (λ (b : Answer). TakesTable s Then b r) (h .0) takes rows (h .1) (then rows (h .1) (h .2)))
         go (failed n place) f h = does-refused m c [] p (fed-call (failed n place) f) (subst (λ (b : Answer). TakesTable s Then b r) h takes)
+
+module _ (s : Session) (state : HasState s IsOpen) (high low : List ℕ) (keyed : Keyed (standing s) high low (s .«row_count»)) (batch : List ℕ) {r : Reply} where
+  pub load-keeps : (Has : ℕ → ℕ → List Row → Type 0) (l : LoadedRows) → LoadsRows (Filed high low (s .sets) (s .«row_count») (s .«set_count»)) Has batch l
+      → TakesTable s (Has (l .rows) (l .sets)) (l .answer) r → Promised s (load batch) [] [] r
+  load-keeps Has l h = let has = Has (l .rows) (l .sets) in
+      batch-keeps (load-feeds batch) s state (l .answer) has has (λ m p. h .comes (m .rows) (p .formed .table) (keyed-of m s p high low keyed, sets-in-of m s p)) (λ rows t k. k)
+
+  pub withdraw-keeps : (high′ low′ : List ℕ) (w : WithdrawnRows) → WithdrawsRows (λ rows. Keyed rows high low (s .«row_count»)) (λ n rows. Keyed rows high′ low′ n) batch w
+      → (f : FoundSets) → CollectsSets high′ low′ (w .rows) f → TakesTable s (Filed high′ low′ (f .sets) (w .rows) (f .count)) (w .answer) r → Promised s (withdraw batch) [] [] r
+  withdraw-keeps high′ low′ w h f g =
+      batch-keeps (withdraw-feeds batch) s state (w .answer) (λ rows. Keyed rows high′ low′ (w .rows)) (Filed high′ low′ (f .sets) (w .rows) (f .count))
+      (λ m p. h .comes (m .rows) (p .formed .table) (keyed-of m s p high low keyed)) (λ rows t k. (k, g .holds rows t k))
