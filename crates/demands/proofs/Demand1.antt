@@ -1,18 +1,48 @@
 -- Demand 1, at one call and at every one.
-use Prim.Native.Nat.{ℕ}
-use mathlib.Core.Path.{_≡_, ap, sym, _∙_}
+use Prim.Native.Nat.{ℕ, _≤_}
+use mathlib.Core.Path.{_≡_, refl, ap, sym, _∙_}
+use mathlib.Core.List.{List, [], _∷_, _++_}
+use lib.ListN.{length, drop, length-append, length-drop}
+use native.Mathlib.Omega.{arith}
 use Rattle.machine.specs.declared.Answer.the-variants.{Refused}
 use Rattle.machine.specs.Machine.{Machine}
-use Rattle.machine.specs.Calls.{Call, Outcome, refused, returned, call, buffer-after}
+use Rattle.machine.specs.Calls.{Call, load, withdraw, close, round, reopen, print, save, Outcome, done, wrote, refused, returned, call, buffer-after}
+use Rattle.machine.specs.Causes.{Writes, sheets, saves}
 use Rattle.machine.proofs.Answers.{answer-of, answer-by, refused-by}
-use Rattle.machine.proofs.Outcomes.{refused-keeps}
+use Rattle.machine.proofs.Outcomes.{comes, refused-keeps}
 use Rattle.machine.proofs.Causes.{refusals}
 use Rattle.session.specs.declared.Session.{Session}
 use Rattle.session.specs.declared.Reply.{Reply}
 use Rattle.session.specs.Record.{record-of}
-use Rattle.demands.specs.Trace.{Exchange, given, onward, plain-after}
+use Rattle.demands.specs.Trace.{Exchange, given, lent, Buffered, onward, plain-after}
 use Rattle.demands.specs.Demands.{Answered, Demand1}
 use Rattle.demands.proofs.Reached.{Stands, does, reached}
+
+empty : (l : List ℕ) → length l ≡ 0 → l ≡ []
+empty [] e = refl
+empty (x ∷ l) e = absurd (omega arith)
+
+-- a buffer that is left as it was
+same-buffer : (c : Call) (old new : List ℕ) → length old ≡ lent c → new ≡ old → Buffered c old new
+same-buffer (load b) old new l e = let f = empty old l in (f, e ∙ f)
+same-buffer (withdraw b) old new l e = let f = empty old l in (f, e ∙ f)
+same-buffer close old new l e = let f = empty old l in (f, e ∙ f)
+same-buffer round old new l e = let f = empty old l in (f, e ∙ f)
+same-buffer reopen old new l e = let f = empty old l in (f, e ∙ f)
+same-buffer (print size) old new l e = (l, ap length e ∙ l)
+same-buffer (save size) old new l e = (l, ap length e ∙ l)
+
+module _ (m : Machine) where
+  -- a text in it leaves its length
+  text-buffer : {c : Call} {text : List ℕ} {size : ℕ} → Writes m c text size → (old new : List ℕ) → length old ≡ lent c → length text ≤ size → new ≡ text ++ drop (length text) old
+      → Buffered c old new
+  text-buffer (sheets v size e) old new l h j = (l, ap length j ∙ simp (length-append, length-drop) (omega arith))
+  text-buffer (saves size) old new l h j = (l, ap length j ∙ simp (length-append, length-drop) (omega arith))
+
+  buffered : (c : Call) (o : Outcome) → call m c .answer ≡ o → (old new : List ℕ) → length old ≡ lent c → new ≡ buffer-after o old → Buffered c old new
+  buffered c done k old new l j = same-buffer c old new l j
+  buffered c (wrote text) k old new l j = let w = comes m c (wrote text) k in text-buffer (w .2) old new l (w .3) j
+  buffered c (refused n place) k old new l j = same-buffer c old new l j
 
 answered : (m : Machine) (s : Session) (e : Exchange Call Reply) → Stands m s e → Answered m s e
 answered m s e h = record {
@@ -25,6 +55,7 @@ answered m s e h = record {
     does h .session-is ∙ ap record-of (refused-keeps m (e .asked) n place (by n place i)) ∙ sym (h .record-is .whole),
     does h .tells .buffer-is ∙ ap (λ (o : Outcome). buffer-after o (e .old)) (by n place i),
   );
+  buffered = buffered m (e .asked) (call m (e .asked) .answer) refl (e .old) (e .new) (h .served .lends) (does h .tells .buffer-is);
 }
   where
     by : (n place : ℕ) → e .reply .answer ≡ Refused n place → call m (e .asked) .answer ≡ refused n place

@@ -17,7 +17,6 @@ use Rattle.orderings.proofs.Walks.{allowed-more}
 use Rattle.orderings.proofs.Depths.{accepted-iff-depth}
 use Rattle.orderings.proofs.Timelines.{lawful}
 use Rattle.machine.specs.declared.Answer.{Answer}
-use Rattle.machine.specs.declared.Answer.the-variants.{Done, Wrote}
 use Rattle.machine.specs.declared.Verdict.{Verdict}
 use Rattle.machine.specs.declared.Verdict.the-variants.{NonEmpty, Empty}
 use Rattle.machine.specs.declared.Phase.the-variants.{Settled}

@@ -1,6 +1,6 @@
 -- Demand 3, at one print and at every one.
 use Prim.Native.Nat.{ℕ, _≤_}
-use mathlib.Core.Path.{_≡_, refl, ap, _∙_}
+use mathlib.Core.Path.{_≡_, refl, ap, sym, _∙_}
 use mathlib.Core.List.{List, _++_}
 use lib.ListN.{length, drop}
 use native.Mathlib.Omega.{arith}
@@ -14,10 +14,13 @@ use Rattle.machine.specs.WellFormed.{WellFormed}
 use Rattle.machine.proofs.Answers.{answer-of, answer-by}
 use Rattle.machine.proofs.Second.{second-works}
 use Rattle.machine.proofs.Outcomes.{Done, comes}
-use Rattle.machine.proofs.Statements.{second-is, print-accepts, prints}
+use Rattle.machine.proofs.Statements.{settled-number, second-is, print-accepts, prints}
+use Rattle.session.specs.declared.Session.{Session}
+use Rattle.session.specs.Record.{Represents}
+use Rattle.session.proofs.Whole.{phase-of, rounds-count}
 use Rattle.demands.specs.Trace.{plain-after}
-use Rattle.demands.specs.Demands.{ExactPrint, Demand3}
-use Rattle.demands.proofs.Reached.{told, reached}
+use Rattle.demands.specs.Demands.{ExactPrint, Counted, Demand3}
+use Rattle.demands.proofs.Reached.{told, step, reached}
 
 -- a print is never just done
 never-done : (m : Machine) {m′ : Machine} {size : ℕ} → Done m (print size) m′ → ⊥
@@ -54,6 +57,13 @@ module _ (m : Machine) (w : WellFormed m) where
         numbered = p .numbered;
       }
 
+-- the record has the machine's phase and count
+counted : (m : Machine) (s : Session) → Represents m s → Counted m s
+counted m s h v e = let f : m .phase ≡ Settled v = sym (phase-of m s h) ∙ e in let n = settled-number m (h .formed) v f in (f, rw (rounds-count m s h) (n .0), rw (rounds-count m s h) (n .1))
+
 pub demand-3 : Demand3
-demand-3 s f es t before later e i size j = let m = plain-after before in let h = reached s f es t before later e i in let k = told h print (λ n. refl) size j in
-    at-print m (h .record-is .formed) (e .old) (e .new) (call m (print (length (e .old))) .answer) (e .reply .answer) refl (answer-by k) (k .buffer-is)
+demand-3 = record {
+  prints = λ s f es t before later e i size j. let m = plain-after before in let h = reached s f es t before later e i in let k = told h print (λ n. refl) size j in
+      at-print m (h .record-is .formed) (e .old) (e .new) (call m (print (length (e .old))) .answer) (e .reply .answer) refl (answer-by k) (k .buffer-is);
+  counts = λ s f es t before later e i. counted (call (plain-after before) (e .asked) .machine) (e .reply .session) (step (reached s f es t before later e i));
+}

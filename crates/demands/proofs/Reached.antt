@@ -11,7 +11,7 @@ use Rattle.session.specs.declared.Session.{Session}
 use Rattle.session.specs.declared.Reply.{Reply}
 use Rattle.session.specs.Record.{Represents}
 use Rattle.session.specs.Promise.{Fresh, Does}
-use Rattle.demands.specs.Trace.{Exchange, Trace, given, lent, Served, onward, plain-after}
+use Rattle.demands.specs.Trace.{Exchange, Trace, given, lent, Served, onward}
 use Rattle.demands.specs.Demands.{EveryCall}
 
 -- a call at its place: it got the record of the machine m
@@ -31,7 +31,7 @@ module _ {m : Machine} {s : Session} {e : Exchange Call Reply} (h : Stands m s e
       subst (λ (c : Call). Tells (call m c .answer) (e .old) (e .new) (e .reply .answer)) (j ∙ ap names (sym l)) (does .tells)
 
   -- it hands back the record of the machine after the call
-  step : Represents (call m (e .asked) .machine) (e .reply .session)
+  pub step : Represents (call m (e .asked) .machine) (e .reply .session)
   step = record { formed = call-formed m (e .asked) (h .served .brings) (h .record-is .formed); whole = does .session-is }
 
 along : (before later : List (Exchange Call Reply)) (e : Exchange Call Reply) (m : Machine) (s : Session) → Represents m s → Trace onward Served s (before ++ (e ∷ later))

@@ -26,7 +26,7 @@ use Rattle.session.specs.declared.Session.{Session}
 use Rattle.session.specs.declared.Reply.{Reply}
 use Rattle.session.specs.Record.{record-of}
 use Rattle.session.specs.Promise.{Fresh, Keeps}
-use Rattle.demands.specs.Trace.{Exchange, Trace, given, Served, onward, plain-after}
+use Rattle.demands.specs.Trace.{Exchange, Trace, given, Buffered, Served, onward, plain-after}
 
 -- a call at its place among calls from a fresh session: what holds of the plain machine that was fed the calls before it, and of the
 -- session that was handed to it
@@ -44,6 +44,8 @@ pub record Answered (m : Machine) (s : Session) (e : Exchange Call Reply) : Type
   pub refused : (n place : ℕ) → (e .reply .answer ≡ Refused n place) ↔ Cause m (e .asked) n place
   -- a refusal hands the session back unchanged, and changes no byte of a buffer
   pub unchanged : (n place : ℕ) → e .reply .answer ≡ Refused n place → (e .reply .session ≡ s) × (e .new ≡ e .old)
+  -- whatever came of it, the buffer is the one that the call names
+  pub buffered : Buffered (e .asked) (e .old) (e .new)
 
 abbrev pub Demand1 : Type 0
 Demand1 = EveryCall Answered
@@ -99,5 +101,11 @@ pub record ExactPrint (m : Machine) (old new : List ℕ) (a : Answer) : Type 0 w
   pub numbered : (v : Verdict) → m .phase ≡ Settled v
       → (second (m .rows) .phase ≡ Settled v) × Number (m .rows) v (second (m .rows) .rounds) × (second (m .rows) .rounds ≤ 129)
 
-abbrev pub Demand3 : Type 0
-Demand3 = EveryCall (λ m s e. (size : ℕ) → e .asked ≡ print size → ExactPrint m (e .old) (e .new) (e .reply .answer))
+-- a session that is settled, where the plain machine is m: its count of rounds is the depth that the demand names, at most 129
+abbrev pub Counted : Machine → Session → Type 0
+Counted m s = (v : Verdict) → s .phase ≡ Settled v → (m .phase ≡ Settled v) × Number (m .rows) v (s .rounds) × (s .rounds ≤ 129)
+
+pub record Demand3 : Type 0 where
+  pub prints : EveryCall (λ m s e. (size : ℕ) → e .asked ≡ print size → ExactPrint m (e .old) (e .new) (e .reply .answer))
+  -- of every session that a call hands back
+  pub counts : EveryCall (λ m s e. Counted (call m (e .asked) .machine) (e .reply .session))

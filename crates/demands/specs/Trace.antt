@@ -38,7 +38,21 @@ lent reopen = 0
 lent (print size) = size
 lent (save size) = size
 
--- the call brought bytes, was lent its buffer, and kept its promise, as its method's `ensures` states it
+-- print and save have a buffer of the length that they name, before and after; the other calls have none
+abbrev pub Buffered : Call → List ℕ → List ℕ → Type 0
+Buffered (load l) old new = (old ≡ []) × (new ≡ [])
+Buffered (withdraw l) old new = (old ≡ []) × (new ≡ [])
+Buffered close old new = (old ≡ []) × (new ≡ [])
+Buffered round old new = (old ≡ []) × (new ≡ [])
+Buffered reopen old new = (old ≡ []) × (new ≡ [])
+Buffered (print size) old new = (length old ≡ size) × (length new ≡ size)
+Buffered (save size) old new = (length old ≡ size) × (length new ≡ size)
+
+-- one call with its buffer before and after and its reply
+abbrev pub exchange : Call → List ℕ → List ℕ → Reply → Exchange Call Reply
+exchange c old new r = record { asked = c; old = old; new = new; reply = r }
+
+-- the call brought bytes, was lent its buffer, and kept the promise of a session that calls make, the first of its method's `ensures`
 pub record Served (s : Session) (e : Exchange Call Reply) : Type 0 where
   pub brings : Brings (e .asked)
   pub lends : length (e .old) ≡ lent (e .asked)

@@ -40,13 +40,21 @@ answer-of done = Done
 answer-of (wrote l) = Wrote (length l)
 answer-of (refused n place) = Refused n place
 
-pub answer-by : {o : Outcome} {old new : List ℕ} {r : Answer} → Tells o old new r → r ≡ answer-of o
-answer-by {o} {old} {new} {r} t = by r (sym (t .answer-is))
+pub answer-returns : (o : Outcome) → returned (answer-of o) ≡ due o
+answer-returns done = refl
+answer-returns (wrote l) = refl
+answer-returns (refused n place) = refl
+
+pub answer-due : (o : Outcome) (r : Answer) → returned r ≡ due o → r ≡ answer-of o
+answer-due o r h = by r (sym h)
   where
     by : (r : Answer) → due o ≡ returned r → r ≡ answer-of o
     by Done e = ap answer-of (sym (done-by o e))
     by (Wrote n) e = let w = wrote-by o n e in ap Wrote (w .2) ∙ ap answer-of (sym (w .1))
     by (Refused n place) e = ap answer-of (sym (refused-by o n place e))
+
+pub answer-by : {o : Outcome} {old new : List ℕ} {r : Answer} → Tells o old new r → r ≡ answer-of o
+answer-by {o} {old} {new} {r} t = answer-due o r (t .answer-is)
 
 -- answers that are not done
 pub wrote-not-done : {r : Answer} {n : ℕ} → r ≡ Wrote n → r ≡ Done → ⊥

@@ -1,0 +1,270 @@
+-- Callers: each call goes on a list of calls from a fresh session (`one-more`), and what holds at every call holds at it (`at-call`). The
+-- lists: rounds until settled, and a print (`prints-after`); refusals (`refuses-first`); save and load (`saves-again`, `saves-short`).
+use Prim.Native.Nat.{ℕ, suc, _+_, _≤_, _<_}
+use mathlib.Core.Path.{_≡_, refl, ap, sym, _∙_, subst}
+use mathlib.Core.Bool.{Bool, true, false, cond}
+use mathlib.Core.Logic.{_⊎_, inl, inr, ⊎-elim}
+use mathlib.Core.List.{List, [], _∷_, _++_, map, map-append, append-assoc, append-nil}
+use lib.ListN.{length, take, replicate, replicate-append-replicate}
+use lib.Dec.{ltb}
+use native.Mathlib.Omega.{arith}
+use Rattle.lists.specs.Tests.{Decides}
+use Rattle.lists.proofs.Deciding.{yes·, no·, ltb·}
+use Rattle.rows.specs.declared.Row.{Row}
+use Rattle.rows.specs.Batch.{Fed, fed, failed, feed}
+use Rattle.orderings.specs.Decide.{accepts?}
+use Rattle.machine.specs.declared.Answer.{Answer}
+use Rattle.machine.specs.declared.Answer.the-variants.{Done, Wrote, Refused}
+use Rattle.machine.specs.declared.Phase.{Phase}
+use Rattle.machine.specs.declared.Phase.the-variants.{Open}
+use Rattle.machine.specs.Machine.{Machine, fresh, load-row, judged, closed, opened-next, nothing?, next-round, open-claims}
+use Rattle.machine.specs.Calls.{Call, load, close, round, print, save, done, wrote, refused, returned, Next, with-rows, saved, call-in, call, run, Tells}
+use Rattle.machine.specs.Causes.{NotOpen, running, settled, NeedsClosed, rounding, printing, saves, still-open}
+use Rattle.machine.proofs.Answers.{done-by, answer-of, answer-due, answer-by, tells-as}
+use Rattle.machine.proofs.Phases.{open-closes, running-rounds, settled-refuses}
+use Rattle.machine.proofs.Outcomes.{Done as RoundDone, round-done, comes, writing}
+use Rattle.machine.proofs.Statements.{never-130th}
+use Rattle.session.specs.declared.Session.{Session}
+use Rattle.session.specs.declared.Reply.{Reply}
+use Rattle.session.specs.Record.{record-of, Represents}
+use Rattle.session.specs.Standing.{reply}
+use Rattle.demands.specs.Trace.{Exchange, Trace, given, Served, onward, plain-after, exchange}
+use Rattle.demands.specs.Demands.{EveryCall, Answered, PrintsTrue, SavesRows, ExactPrint}
+use Rattle.demands.specs.Handed.{HandedBack, FirstCall, RoundsAfter, worked, PrintedAfter, RefusedFirst, SavedAgain}
+use Rattle.demands.proofs.Reached.{Stands, told, step, fresh-is, reached}
+use Rattle.demands.proofs.Demand1.{demand-1}
+use Rattle.demands.proofs.Demand2.{demand-2}
+use Rattle.demands.proofs.Demand3.{demand-3}
+
+-- ---- one call more
+
+trace-more : (es : List (Exchange Call Reply)) (s : Session) (e : Exchange Call Reply) → Trace onward Served s es → Served (given onward s es) e
+    → Trace onward Served s (es ++ (e ∷ []))
+trace-more [] s e t k = (k, tt)
+trace-more (d ∷ es) s e t k = (t .0, trace-more es (d .reply .session) e (t .1) k)
+
+given-more : (es : List (Exchange Call Reply)) (s : Session) (e : Exchange Call Reply) → given onward s (es ++ (e ∷ [])) ≡ e .reply .session
+given-more [] s e = refl
+given-more (d ∷ es) s e = given-more es (d .reply .session) e
+
+pub no-calls : HandedBack [] (record-of fresh)
+no-calls = record { exchanges = []; asked-are = refl; trace = tt; last = refl }
+
+module _ (cs : List Call) (s : Session) (h : HandedBack cs s) (e : Exchange Call Reply) (k : Served s e) where
+  longer : Trace onward Served (record-of fresh) (h .exchanges ++ (e ∷ []))
+  longer = trace-more (h .exchanges) (record-of fresh) e (h .trace) (subst (λ (t : Session). Served t e) (sym (h .last)) k)
+
+  pub one-more : HandedBack (cs ++ (e .asked ∷ [])) (e .reply .session)
+  one-more = record {
+    exchanges = h .exchanges ++ (e ∷ []);
+    asked-are = map-append (λ (d : Exchange Call Reply). d .asked) (h .exchanges) (e ∷ []) ∙ ap (λ (x : List Call). x ++ (e .asked ∷ [])) (h .asked-are);
+    trace = longer;
+    last = given-more (h .exchanges) (record-of fresh) e;
+  }
+
+  -- what holds at every call
+  pub at-call : (Then : Machine → Session → Exchange Call Reply → Type 0) → EveryCall Then → Then (run fresh cs) s e
+  at-call Then every = let r = every (record-of fresh) refl (h .exchanges ++ (e ∷ [])) longer (h .exchanges) [] e refl in
+      subst (λ (x : List Call). Then (run fresh x) s e) (h .asked-are) (subst (λ (t : Session). Then (plain-after (h .exchanges)) t e) (h .last) r)
+
+-- the session is the record of the machine that was fed the calls
+record-after : (es : List (Exchange Call Reply)) (m : Machine) (s : Session) → Represents m s → Trace onward Served s es → Represents (run m (map (λ d. d .asked) es)) (given onward s es)
+record-after [] m s h t = h
+record-after (e ∷ es) m s h t = record-after es (call m (e .asked) .machine) (e .reply .session) (step (record { record-is = h; served = t .0 })) (t .1)
+
+handed-is : (cs : List Call) (s : Session) → HandedBack cs s → Represents (run fresh cs) s
+handed-is cs s h = subst (λ (x : List Call). Represents (run fresh x) s) (h .asked-are)
+    (subst (λ (t : Session). Represents (plain-after (h .exchanges)) t) (h .last) (record-after (h .exchanges) fresh (record-of fresh) (fresh-is (record-of fresh) refl) (h .trace)))
+
+-- ---- rounds until one is refused
+
+run-more : (m : Machine) (cs : List Call) (c : Call) → run m (cs ++ (c ∷ [])) ≡ call (run m cs) c .machine
+run-more m [] c = refl
+run-more m (d ∷ cs) c = run-more (call m d .machine) cs c
+
+-- judged, a machine is not open
+judged-not-open : (b vain : Bool) → NotOpen (judged b vain)
+judged-not-open true vain = settled _
+judged-not-open false true = settled _
+judged-not-open false false = running
+
+-- calls, and k rounds that were done
+pub record Rounding (cs : List Call) (k : ℕ) (s : Session) : Type 0 where
+  pub handed : HandedBack (cs ++ replicate k round) s
+  pub not-open : NotOpen (run fresh (cs ++ replicate k round) .phase)
+  pub done : k ≤ run fresh (cs ++ replicate k round) .rounds
+
+pub rounding-start : (cs : List Call) (s : Session) → HandedBack cs s → NotOpen (run fresh cs .phase) → Rounding cs 0 s
+rounding-start cs s h n = let e : cs ++ [] ≡ cs = append-nil cs in record { handed = rw e h; not-open = rw e n; done = omega arith }
+
+module _ (cs : List Call) (k : ℕ) (s : Session) (h : Rounding cs k s) where
+  abbrev so-far : List Call
+  so-far = cs ++ replicate k round
+
+  abbrev m : Machine
+  m = run fresh so-far
+
+  one-round : cs ++ replicate (k + 1) round ≡ so-far ++ (round ∷ [])
+  one-round = ap (λ (x : List Call). cs ++ x) (sym (replicate-append-replicate k 1 round)) ∙ sym (append-assoc cs (replicate k round) (round ∷ []))
+
+  -- a machine that has done a round
+  after-round : {m′ : Machine} → RoundDone m round m′ → NotOpen (m′ .phase) × (m′ .rounds ≡ suc (m .rounds))
+  unfolding next-round
+  after-round (round-done e l) = (judged-not-open (accepts? (m .rows) (open-claims (next-round m))) (nothing? (opened-next m)), refl)
+
+  module _ (r : Reply) (served : Served s (exchange round [] [] r)) where
+    abbrev e : Exchange Call Reply
+    e = exchange round [] [] r
+
+    answered : Answered m s e
+    answered = at-call so-far s (h .handed) e served Answered demand-1
+
+    handed-on : HandedBack (cs ++ replicate (k + 1) round) (r .session)
+    handed-on = subst (λ (x : List Call). HandedBack x (r .session)) (sym one-round) (one-more so-far s (h .handed) e served)
+
+    fed-on : run fresh (cs ++ replicate (k + 1) round) ≡ call m round .machine
+    fed-on = ap (run fresh) one-round ∙ run-more fresh so-far round
+
+    pub rounding-more : r .answer ≡ Done → Rounding cs (k + 1) (r .session)
+    rounding-more i = let n = after-round (comes m round done (done-by (call m round .answer) (sym (answered .result) ∙ ap returned i))) in
+        record { handed = handed-on; not-open = rw fed-on (n .0); done = rw fed-on (omega (arith, n .1, h .done)) }
+
+    -- a round that is not done: the machine was settled
+    pub rounding-stop : k < 129 → (r .answer ≡ Done → ⊥) → RoundsAfter cs (r .session)
+    rounding-stop l not-done = by (m .phase) (h .not-open) refl
+      where
+        by : (p : Phase) → NotOpen p → m .phase ≡ p → RoundsAfter cs (r .session)
+        by _ running f = absurd (not-done (answer-due (call m round .answer) (r .answer) (answered .result) ∙ ap (λ (x : Next). answer-of (x .answer))
+            (ap (λ (p : Phase). call-in p m round) f ∙ running-rounds m (never-130th m (handed-is so-far s (h .handed) .formed) f))))
+        by _ (settled v) f = record {
+          count = k + 1;
+          few = omega arith;
+          handed = handed-on;
+          verdict = v;
+          settled = ap (λ (x : Machine). x .phase) (fed-on ∙ ap (λ (x : Next). x .machine) (ap (λ (p : Phase). call-in p m round) f ∙ settled-refuses v m)) ∙ f;
+        }
+
+  -- no machine runs after 129 rounds
+  pub rounding-full : k ≤ 129 → 129 ≤ k → RoundsAfter cs s
+  rounding-full few l = by (m .phase) (h .not-open) refl
+    where
+      by : (p : Phase) → NotOpen p → m .phase ≡ p → RoundsAfter cs s
+      by _ running f = absurd (omega (arith, h .done, never-130th m (handed-is so-far s (h .handed) .formed) f))
+      by _ (settled v) f = record { count = k; few = few; handed = h .handed; verdict = v; settled = f }
+
+-- ---- load, close, rounds and print
+
+-- a fresh machine that was loaded is open, and closed it is not
+loaded-open : (x : Fed (List Row)) → with-rows fresh x .machine .phase ≡ Open
+loaded-open (fed rows) = refl
+loaded-open (failed n place) = refl
+
+close-closes : (m : Machine) → m .phase ≡ Open → NotOpen (call m close .machine .phase)
+unfolding closed
+close-closes m e = subst (λ (x : Next). NotOpen (x .machine .phase)) (sym (ap (λ (p : Phase). call-in p m close) e ∙ open-closes m)) (judged-not-open (accepts? (m .rows) []) false)
+
+pub closed-not-open : (batch : List ℕ) → NotOpen (run fresh (load batch ∷ close ∷ []) .phase)
+unfolding call-in
+closed-not-open batch = close-closes (call fresh (load batch) .machine) (loaded-open (feed load-row [] batch))
+
+pub first-handed : (c : Call) (old new : List ℕ) (r : Reply) → FirstCall c old new r → HandedBack (c ∷ []) (r .session)
+first-handed c old new r k = one-more [] (record-of fresh) no-calls (exchange c old new r) k
+
+pub prints-after : (batch old new : List ℕ) (t : Session) (r : Reply) → RoundsAfter (load batch ∷ close ∷ []) t → Served t (exchange (print (length old)) old new r)
+    → PrintedAfter batch old new r
+prints-after batch old new t r w k = let cs = worked batch (w .count) in let e = exchange (print (length old)) old new r in record {
+  count = w .count;
+  few = w .few;
+  handed = one-more cs t (w .handed) e k;
+  verdict = w .verdict;
+  settled = w .settled;
+  true-sheet = at-call cs t (w .handed) e k (λ m s e. (size : ℕ) → e .asked ≡ print size → PrintsTrue m (e .old) (e .new) (e .reply .answer)) (demand-2 .prints) (length old) refl;
+  exact = at-call cs t (w .handed) e k (λ m s e. (size : ℕ) → e .asked ≡ print size → ExactPrint m (e .old) (e .new) (e .reply .answer)) (demand-3 .prints) (length old) refl;
+}
+
+-- ---- refusals
+
+first-answered : (c : Call) (old new : List ℕ) (r : Reply) → FirstCall c old new r → Answered fresh (record-of fresh) (exchange c old new r)
+first-answered c old new r k = at-call [] (record-of fresh) no-calls (exchange c old new r) k Answered demand-1
+
+-- reopen, round and print of a fresh session
+first-refused : {c : Call} → NeedsClosed c → (old new : List ℕ) (r : Reply) → FirstCall c old new r → (r .answer ≡ Refused 9 0) × (r .session ≡ record-of fresh) × (new ≡ old)
+first-refused {c} x old new r k = let a = first-answered c old new r k in let i = a .refused 9 0 .1 (still-open c x refl) in
+    (i, a .unchanged 9 0 i .0, a .unchanged 9 0 i .1)
+
+same-answered : (c : Call) (old new : List ℕ) (r : Reply) → FirstCall c old new r → r .session ≡ record-of fresh
+    → Answered fresh (record-of fresh) (exchange c old new (reply (record-of fresh) (r .answer)))
+same-answered c old new r k i = subst (λ (s : Session). Answered fresh (record-of fresh) (exchange c old new (reply s (r .answer)))) i (first-answered c old new r k)
+
+pub refuses-first : (batch old new : List ℕ) (s : Session) (p q l : Reply) → s ≡ record-of fresh → Served s (exchange (print (length old)) old new p)
+    → Served (p .session) (exchange round [] [] q) → Served (q .session) (exchange (load batch) [] [] l)
+    → RefusedFirst batch old new (record { printed = p .answer; rounded = q .answer; loaded = l })
+refuses-first batch old new s p q l f a b c =
+    let a′ : FirstCall (print (length old)) old new p = subst (λ (t : Session). Served t (exchange (print (length old)) old new p)) f a in
+    let i = first-refused (printing (length old)) old new p a′ in
+    let b′ : FirstCall round [] [] q = subst (λ (t : Session). Served t (exchange round [] [] q)) (i .1) b in
+    let j = first-refused rounding [] [] q b′ in
+    let c′ : FirstCall (load batch) [] [] l = subst (λ (t : Session). Served t (exchange (load batch) [] [] l)) (j .1) c in
+    let d = print (length old) in
+    record {
+      handed = one-more (d ∷ round ∷ []) (q .session) (one-more (d ∷ []) (p .session) (first-handed d old new p a′) (exchange round [] [] q) b) (exchange (load batch) [] [] l) c;
+      printed = i .0;
+      unchanged = i .2;
+      print-answered = same-answered (print (length old)) old new p a′ (i .1);
+      rounded = j .0;
+      round-answered = same-answered round [] [] q b′ (j .1);
+      load-answered = first-answered (load batch) [] [] l c′;
+    }
+
+-- ---- save and load
+
+pub refused-not-wrote : {a : Answer} {n place k : ℕ} → a ≡ Refused n place → a ≡ Wrote k → ⊥
+refused-not-wrote e f = let z : _≡_ {A = ℕ} 0 1 = cc in omega arith
+
+module _ (batch old new : List ℕ) (l r : Reply) (first : FirstCall (load batch) [] [] l) (k : Served (l .session) (exchange (save (length old)) old new r)) where
+  abbrev then : Machine
+  then = run fresh (load batch ∷ [])
+
+  abbrev saving : Exchange Call Reply
+  saving = exchange (save (length old)) old new r
+
+  before : HandedBack (load batch ∷ []) (l .session)
+  before = first-handed (load batch) [] [] l first
+
+  tells : Tells (cond (ltb (length old) (length (saved then))) (refused 12 0) (wrote (saved then))) old new (r .answer)
+  tells = tells-as (ap (λ (x : Next). x .answer) (writing then (saves (length old))))
+      (told (at-call (load batch ∷ []) (l .session) before saving k Stands reached) save (λ n. refl) (length old) refl)
+
+  -- the rows fit into the buffer, or it is too short
+  fits-or-short : ((length (saved then) ≤ length old) × (r .answer ≡ Wrote (length (saved then))))
+      ⊎ ((length old < length (saved then)) × (r .answer ≡ Refused 12 0) × (new ≡ old))
+  fits-or-short = by (ltb (length old) (length (saved then))) (ltb· (length old) (length (saved then))) tells
+    where
+      by : (b : Bool) → Decides b (length old < length (saved then)) → Tells (cond b (refused 12 0) (wrote (saved then))) old new (r .answer)
+          → ((length (saved then) ≤ length old) × (r .answer ≡ Wrote (length (saved then)))) ⊎ ((length old < length (saved then)) × (r .answer ≡ Refused 12 0) × (new ≡ old))
+      by true d t = inr (yes· d, answer-by t, t .buffer-is)
+      by false d t = let n = no· d in inl (omega arith, answer-by t)
+
+  -- the count of bytes is within the buffer
+  pub count-fits : (n : ℕ) → r .answer ≡ Wrote n → n ≤ length new
+  count-fits n i = ⊎-elim
+      (λ p. let j = p .1 in let g : n ≡ length (saved then) = cc in
+      omega (arith, p .0, at-call (load batch ∷ []) (l .session) before saving k Answered demand-1 .buffered .1))
+      (λ p. let j = p .1 in let z : _≡_ {A = ℕ} 0 1 = cc in absurd (omega arith)) fits-or-short
+
+  pub saves-again : (n : ℕ) → r .answer ≡ Wrote n → (t : Reply) → FirstCall (load (take n new)) [] [] t → SavedAgain batch old new t
+  saves-again n i t f =
+      let a = at-call (load batch ∷ []) (l .session) before saving k (λ m s e. (size : ℕ) → e .asked ≡ save size → SavesRows m (e .old) (e .new) (e .reply .answer)) (demand-2 .saves) (length old) refl n i in
+      record {
+        again = λ h. ⊎-elim
+            (λ p. let j = p .1 in let g : n ≡ length (saved then) = cc in let o = a .1 (record-of fresh) t refl (f .keeps) in
+            (subst (λ (x : ℕ). take x new ≡ saved then) g (a .0), o .0, o .1))
+            (λ p. absurd (omega (arith, p .0))) fits-or-short;
+        short = λ h. ⊎-elim (λ p. absurd (omega (arith, p .0))) (λ p. let j = p .1 in let z : _≡_ {A = ℕ} 0 1 = cc in absurd (omega arith)) fits-or-short;
+      }
+
+  pub saves-short : ((n : ℕ) → r .answer ≡ Wrote n → ⊥) → SavedAgain batch old new r
+  saves-short no-text = record {
+    again = λ h. ⊎-elim (λ p. absurd (no-text (length (saved then)) (p .1))) (λ p. absurd (omega (arith, p .0))) fits-or-short;
+    short = λ h. ⊎-elim (λ p. absurd (omega (arith, p .0))) (λ p. (p .1, p .2)) fits-or-short;
+  }

@@ -1,0 +1,73 @@
+-- What a caller that makes a list of calls comes to.
+use Prim.Native.Nat.{ℕ, _≤_, _<_}
+use mathlib.Core.Path.{_≡_}
+use mathlib.Core.List.{List, [], _∷_, _++_, map}
+use lib.ListN.{length, take, replicate}
+use Rattle.machine.specs.declared.Answer.the-variants.{Done, Refused}
+use Rattle.machine.specs.declared.Verdict.{Verdict}
+use Rattle.machine.specs.declared.Phase.the-variants.{Settled}
+use Rattle.machine.specs.Machine.{fresh, open-with}
+use Rattle.machine.specs.Calls.{Call, load, close, round, print, run, saved}
+use Rattle.machine.specs.Causes.{NotOpen}
+use Rattle.session.specs.declared.Session.{Session}
+use Rattle.session.specs.declared.Reply.{Reply}
+use Rattle.session.specs.Record.{record-of}
+use Rattle.session.specs.Standing.{reply}
+use Rattle.demands.specs.declared.Refusals.{Refusals}
+use Rattle.demands.specs.Trace.{Exchange, Trace, given, Served, onward, exchange}
+use Rattle.demands.specs.Demands.{Answered, PrintsTrue, ExactPrint}
+
+-- the session is what calls from a fresh one handed back
+pub record HandedBack (cs : List Call) (s : Session) : Type 0 where
+  pub exchanges : List (Exchange Call Reply)
+  pub asked-are : map (λ e. e .asked) exchanges ≡ cs
+  pub trace : Trace onward Served (record-of fresh) exchanges
+  pub last : given onward (record-of fresh) exchanges ≡ s
+
+-- the first call, on a fresh session
+abbrev pub FirstCall : Call → List ℕ → List ℕ → Reply → Type 0
+FirstCall c old new r = Served (record-of fresh) (exchange c old new r)
+
+-- rounds after calls, 129 at most, until the plain machine is settled
+pub record RoundsAfter (cs : List Call) (s : Session) : Type 0 where
+  pub count : ℕ
+  pub few : count ≤ 129
+  pub handed : HandedBack (cs ++ replicate count round) s
+  pub verdict : Verdict
+  pub settled : run fresh (cs ++ replicate count round) .phase ≡ Settled verdict
+
+abbrev pub DoesRounds : Session → Session → Type 0
+DoesRounds s r = (cs : List Call) → HandedBack cs s → NotOpen (run fresh cs .phase) → RoundsAfter cs r
+
+-- load, close and k rounds
+abbrev pub worked : List ℕ → ℕ → List Call
+worked batch k = load batch ∷ close ∷ replicate k round
+
+-- a print after load, close and rounds: demands 2 and 3 at it
+pub record PrintedAfter (batch old new : List ℕ) (r : Reply) : Type 0 where
+  pub count : ℕ
+  pub few : count ≤ 129
+  pub handed : HandedBack (worked batch count ++ (print (length old) ∷ [])) (r .session)
+  pub verdict : Verdict
+  pub settled : run fresh (worked batch count) .phase ≡ Settled verdict
+  pub true-sheet : PrintsTrue (run fresh (worked batch count)) old new (r .answer)
+  pub exact : ExactPrint (run fresh (worked batch count)) old new (r .answer)
+
+-- print and round on a fresh session, and then a load: demand 1 at each. The first two are refused, and change nothing
+pub record RefusedFirst (batch old new : List ℕ) (r : Refusals) : Type 0 where
+  pub handed : HandedBack (print (length old) ∷ round ∷ load batch ∷ []) (r .loaded .session)
+  pub printed : r .printed ≡ Refused 9 0
+  pub unchanged : new ≡ old
+  pub print-answered : Answered fresh (record-of fresh) (exchange (print (length old)) old new (reply (record-of fresh) (r .printed)))
+  pub rounded : r .rounded ≡ Refused 9 0
+  pub round-answered : Answered fresh (record-of fresh) (exchange round [] [] (reply (record-of fresh) (r .rounded)))
+  pub load-answered : Answered fresh (record-of fresh) (exchange (load batch) [] [] (r .loaded))
+
+-- a batch is loaded into a fresh session, its rows are saved, and what was saved is loaded into another fresh session: demand 2 at the save
+pub record SavedAgain (batch old new : List ℕ) (r : Reply) : Type 0 where
+  -- the buffer begins with the rows; loaded, they are accepted, and the same rows stand
+  pub again : length (saved (run fresh (load batch ∷ []))) ≤ length old
+      → (take (length (saved (run fresh (load batch ∷ [])))) new ≡ saved (run fresh (load batch ∷ [])))
+      × (r .answer ≡ Done) × (r .session ≡ record-of (open-with (run fresh (load batch ∷ []) .rows)))
+  -- a buffer too short for them is refused, and stays as it was
+  pub short : length old < length (saved (run fresh (load batch ∷ []))) → (r .answer ≡ Refused 12 0) × (new ≡ old)

@@ -1,0 +1,93 @@
+// Lists of calls, made by a caller: what is promised are the demands at them.
+use crate::Refusals;
+use crate::calls::call_close;
+use crate::calls::call_fresh;
+use crate::calls::call_load;
+use crate::calls::call_print;
+use crate::calls::call_round;
+use crate::calls::call_save;
+use machine::Answer;
+use machine::MOST_ROUNDS;
+use session::Reply;
+use session::Session;
+ghost use mathlib.Core.List.{[], _∷_};
+ghost use Rattle.machine.specs.Calls.{load, close};
+ghost use Rattle.demands.specs.Handed.{HandedBack, FirstCall, DoesRounds};
+ghost use Rattle.demands.specs.Handed.{PrintedAfter, RefusedFirst, SavedAgain};
+
+// Load into a fresh session.
+fn loaded(batch: &[u8]) -> Reply
+    ensures { λ r. ⌜ FirstCall (load (now (batch .entry))) [] [] r ⌝ }
+{
+    let s = call_fresh();
+    call_load(s, batch)
+}
+
+// Load and close.
+fn closed(batch: &[u8]) -> Reply
+    ensures { λ r. ⌜ HandedBack (load (now (batch .entry)) ∷ close ∷ []) (r .session) ⌝ }
+{
+    let r = loaded(batch);
+    call_close(r.session)
+}
+
+// Rounds until one is refused, 129 at most.
+fn rounds_until(session: Session) -> Session
+    ensures { λ r. ⌜ DoesRounds session r ⌝ }
+{
+    let mut s = session;
+    let mut k = 0;
+    while k < MOST_ROUNDS {
+        let r = call_round(s);
+        s = r.session;
+        let answer = r.answer;
+        match answer {
+            Answer::Done => {
+                k += 1;
+            }
+            Answer::Wrote(_) => return s,
+            Answer::Refused(_, _) => return s,
+        }
+    }
+    s
+}
+
+// Load, close, rounds until one is refused, print.
+pub fn print_settled(batch: &[u8], buffer: &mut [u8]) -> Reply
+    ensures { λ r. ⌜ PrintedAfter (now (batch .entry)) (now (buffer .entry)) (now (buffer .exit)) r ⌝ }
+{
+    let r = closed(batch);
+    let s = rounds_until(r.session);
+    call_print(s, buffer)
+}
+
+// Print and round of a fresh session, and a load.
+pub fn refused_first(batch: &[u8], buffer: &mut [u8]) -> Refusals
+    ensures { λ r. ⌜ RefusedFirst (now (batch .entry)) (now (buffer .entry)) (now (buffer .exit)) r ⌝ }
+{
+    let s = call_fresh();
+    let p = call_print(s, buffer);
+    let printed = p.answer;
+    let q = call_round(p.session);
+    let rounded = q.answer;
+    let loaded = call_load(q.session, batch);
+    Refusals {
+        printed,
+        rounded,
+        loaded,
+    }
+}
+
+// Load, save, and what was saved loaded into a fresh session.
+pub fn save_again(batch: &[u8], buffer: &mut [u8]) -> Reply
+    ensures { λ r. ⌜ SavedAgain (now (batch .entry)) (now (buffer .entry)) (now (buffer .exit)) r ⌝ }
+{
+    let r = loaded(batch);
+    let kept = call_save(r.session, buffer);
+    let answer = kept.answer;
+    match answer {
+        Answer::Done => kept,
+        Answer::Wrote(n) => loaded(&buffer[..n]),
+        Answer::Refused(_, _) => kept,
+    }
+}

@@ -1,0 +1,58 @@
+// Each call of a session, made by a caller: its promise is a link of a trace.
+use session::Reply;
+use session::Session;
+ghost use lib.ListN.{length};
+ghost use mathlib.Core.List.{[]};
+ghost use Rattle.machine.specs.Calls.{load, withdraw, close, round, reopen, print, save};
+ghost use Rattle.session.specs.Promise.{Fresh};
+ghost use Rattle.demands.specs.Trace.{Served, exchange};
+
+pub fn call_fresh() -> Session
+    ensures { λ r. ⌜ Fresh r ⌝ }
+{
+    Session::fresh()
+}
+
+pub fn call_load(s: Session, batch: &[u8]) -> Reply
+    ensures { λ r. ⌜ Served s (exchange (load (now (batch .entry))) [] [] r) ⌝ }
+{
+    s.load(batch)
+}
+
+pub fn call_withdraw(s: Session, batch: &[u8]) -> Reply
+    ensures { λ r. ⌜ Served s (exchange (withdraw (now (batch .entry))) [] [] r) ⌝ }
+{
+    s.withdraw(batch)
+}
+
+pub fn call_close(s: Session) -> Reply
+    ensures { λ r. ⌜ Served s (exchange close [] [] r) ⌝ }
+{
+    s.close()
+}
+
+pub fn call_round(s: Session) -> Reply
+    ensures { λ r. ⌜ Served s (exchange round [] [] r) ⌝ }
+{
+    s.round()
+}
+
+pub fn call_reopen(s: Session) -> Reply
+    ensures { λ r. ⌜ Served s (exchange reopen [] [] r) ⌝ }
+{
+    s.reopen()
+}
+
+pub fn call_print(s: Session, buffer: &mut [u8]) -> Reply
+    ensures { λ r. ⌜ Served s (exchange (print (length (now (buffer .entry))))
+        (now (buffer .entry)) (now (buffer .exit)) r) ⌝ }
+{
+    s.print(buffer)
+}
+
+pub fn call_save(s: Session, buffer: &mut [u8]) -> Reply
+    ensures { λ r. ⌜ Served s (exchange (save (length (now (buffer .entry))))
+        (now (buffer .entry)) (now (buffer .exit)) r) ⌝ }
+{
+    s.save(buffer)
+}
