@@ -4,4 +4,3 @@ pub mod Results
 pub mod Demand1
 pub mod Demand2
 pub mod Demand3
-pub mod Handed

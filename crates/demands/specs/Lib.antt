@@ -2,4 +2,3 @@
 pub mod Trace
 pub mod Results
 pub mod Demands
-pub mod Handed

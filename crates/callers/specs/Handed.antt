@@ -13,9 +13,9 @@ use Rattle.session.specs.declared.Session.{Session}
 use Rattle.session.specs.declared.Reply.{Reply}
 use Rattle.session.specs.Record.{record-of}
 use Rattle.session.specs.Standing.{reply}
-use Rattle.demands.specs.declared.Refusals.{Refusals}
+use Rattle.callers.specs.declared.Refusals.{Refusals}
 use Rattle.demands.specs.Trace.{Exchange, Trace, given, Served, onward, exchange}
 use Rattle.demands.specs.Demands.{Answered, PrintsTrue, ExactPrint}
 
 -- the session is what calls from a fresh one handed back
 pub record HandedBack (cs : List Call) (s : Session) : Type 0 where

@@ -1,8 +1,8 @@
 -- `refused_first` meets its contract.
-use Rattle.demands.proofs.Handed.{refuses-first}
+use Rattle.callers.proofs.Handed.{refuses-first}
 use borrow.Author.Needs.{needs}
-use Rattle.demands.proofs.callers.refused_first.Statement.{statement}
-use Rattle.demands.proofs.callers.refused_first.Tie as tie
+use Rattle.callers.proofs.sequences.refused_first.Statement.{statement}
+use Rattle.callers.proofs.sequences.refused_first.Tie as tie
 
 returns : tie.Need-returns
 returns c =

@@ -12,8 +12,8 @@ use session::Reply;
 use session::Session;
 ghost use mathlib.Core.List.{[], _∷_};
 ghost use Rattle.machine.specs.Calls.{load, close};
-ghost use Rattle.demands.specs.Handed.{HandedBack, FirstCall, DoesRounds};
-ghost use Rattle.demands.specs.Handed.{PrintedAfter, RefusedFirst, SavedAgain};
+ghost use Rattle.callers.specs.Handed.{HandedBack, FirstCall, DoesRounds};
+ghost use Rattle.callers.specs.Handed.{PrintedAfter, RefusedFirst, SavedAgain};
 
 // Load into a fresh session.
 fn loaded(batch: &[u8]) -> Reply

@@ -28,13 +28,13 @@ use Rattle.session.specs.declared.Session.{Session}
 use Rattle.session.specs.declared.Reply.{Reply}
 use Rattle.session.specs.Record.{record-of, Represents}
 use Rattle.session.specs.Standing.{reply}
 use Rattle.demands.specs.Trace.{Exchange, Trace, given, Served, onward, plain-after, exchange}
 use Rattle.demands.specs.Demands.{EveryCall, Answered, PrintsTrue, SavesRows, ExactPrint}
-use Rattle.demands.specs.Handed.{HandedBack, FirstCall, RoundsAfter, worked, PrintedAfter, RefusedFirst, SavedAgain}
+use Rattle.callers.specs.Handed.{HandedBack, FirstCall, RoundsAfter, worked, PrintedAfter, RefusedFirst, SavedAgain}
 use Rattle.demands.proofs.Reached.{Stands, told, step, fresh-is, reached}
 use Rattle.demands.proofs.Demand1.{demand-1}
 use Rattle.demands.proofs.Demand2.{demand-2}
 use Rattle.demands.proofs.Demand3.{demand-3}
 
 -- ---- one call more
 

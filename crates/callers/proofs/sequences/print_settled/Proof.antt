@@ -1,10 +1,10 @@
 -- `print_settled` meets its contract.
 use mathlib.Core.List.{[], _∷_}
 use Rattle.machine.specs.Calls.{load, close}
-use Rattle.demands.proofs.Handed.{closed-not-open, prints-after}
+use Rattle.callers.proofs.Handed.{closed-not-open, prints-after}
 use borrow.Author.Needs.{needs}
-use Rattle.demands.proofs.callers.print_settled.Statement.{statement}
-use Rattle.demands.proofs.callers.print_settled.Tie as tie
+use Rattle.callers.proofs.sequences.print_settled.Statement.{statement}
+use Rattle.callers.proofs.sequences.print_settled.Tie as tie
 
 returns : tie.Need-returns
 returns c =

@@ -6,11 +6,11 @@ use Rattle.machine.specs.Machine.{fresh}
 use Rattle.machine.specs.Calls.{Call, run}
 use Rattle.machine.specs.Causes.{NotOpen}
 use Rattle.machine.proofs.Answers.{wrote-not-done, refused-not-done}
-use Rattle.demands.specs.Handed.{HandedBack}
-use Rattle.demands.proofs.Handed.{Rounding, rounding-start, rounding-more, rounding-stop, rounding-full}
+use Rattle.callers.specs.Handed.{HandedBack}
+use Rattle.callers.proofs.Handed.{Rounding, rounding-start, rounding-more, rounding-stop, rounding-full}
 use borrow.Author.Needs.{needs}
-use Rattle.demands.proofs.callers.rounds_until.Statement.{statement}
-use Rattle.demands.proofs.callers.rounds_until.Tie as tie
+use Rattle.callers.proofs.sequences.rounds_until.Statement.{statement}
+use Rattle.callers.proofs.sequences.rounds_until.Tie as tie
 
 abbrev Inv-loop : tie.InvT-loop
 Inv-loop s₀ k₀ s k = (k ≤ 129) × ((cs : List Call) → HandedBack cs s₀ → NotOpen (run fresh cs .phase) → Rounding cs k s)

@@ -3,10 +3,10 @@ use mathlib.Core.Path.{subst}
 use mathlib.Core.List.{[]}
 use Rattle.machine.specs.Calls.{load}
 use Rattle.session.specs.declared.Session.{Session}
 use Rattle.demands.specs.Trace.{Served, exchange}
 use borrow.Author.Needs.{needs}
-use Rattle.demands.proofs.callers.loaded.Statement.{statement}
-use Rattle.demands.proofs.callers.loaded.Tie as tie
+use Rattle.callers.proofs.sequences.loaded.Statement.{statement}
+use Rattle.callers.proofs.sequences.loaded.Tie as tie
 
 returns : tie.Need-returns
 returns c = let f = c .before in

@@ -4,10 +4,10 @@ use Prim.Native.Nat.{_≤_}
 use lib.ListN.{length}
 use lib.Seq.{length-take-le}
 use Rattle.machine.proofs.Answers.{wrote-not-done}
-use Rattle.demands.proofs.Handed.{refused-not-wrote, count-fits, saves-again, saves-short}
+use Rattle.callers.proofs.Handed.{refused-not-wrote, count-fits, saves-again, saves-short}
 use borrow.Author.Needs.{needs}
-use Rattle.demands.proofs.callers.save_again.Statement.{statement}
-use Rattle.demands.proofs.callers.save_again.Tie as tie
+use Rattle.callers.proofs.sequences.save_again.Statement.{statement}
+use Rattle.callers.proofs.sequences.save_again.Tie as tie
 
 -- the bytes are within the buffer
 within : (c : tie.After-known-told) → let k = c .before .before .before .before .before in c .before .answer .given .0 .0 ≤ length (k .call-save .last .1 .0)

@@ -1,11 +1,11 @@
 -- `closed` meets its contract.
 use mathlib.Core.List.{[], _∷_}
 use Rattle.machine.specs.Calls.{load, close}
 use Rattle.demands.specs.Trace.{exchange}
-use Rattle.demands.proofs.Handed.{one-more, first-handed}
+use Rattle.callers.proofs.Handed.{one-more, first-handed}
 use borrow.Author.Needs.{needs}
-use Rattle.demands.proofs.callers.closed.Statement.{statement}
-use Rattle.demands.proofs.callers.closed.Tie as tie
+use Rattle.callers.proofs.sequences.closed.Statement.{statement}
+use Rattle.callers.proofs.sequences.closed.Tie as tie
 
 returns : tie.Need-returns
 returns c = let l = c .before in let b = l .before .before .args .batch .now in let r = l .loaded .result in

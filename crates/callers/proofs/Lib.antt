@@ -1,0 +1,2 @@
+-- What calls from a fresh session handed back, one call after another.
+pub mod Handed

@@ -1,0 +1,2 @@
+-- What a caller that makes a list of calls comes to.
+pub mod Handed

@@ -1,0 +1,13 @@
+// Calls made as a caller of a session makes them, so that the demands rest on what the methods promise: each call, and lists of calls.
+pub mod calls;
+pub mod sequences;
+
+use machine::Answer;
+use session::Reply;
+
+// What the calls of `sequences::refused_first` answered.
+pub struct Refusals {
+    pub printed: Answer,
+    pub rounded: Answer,
+    pub loaded: Reply,
+}
