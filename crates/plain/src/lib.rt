@@ -8,7 +8,7 @@
 mod cells;
 mod claims;
 mod reader;
-mod rounds;
+mod settling;
 mod steps;
 mod text;
 mod walk;
@@ -22,7 +22,7 @@ pub fn sheet(batch: &[u8], out: &mut [u8]) -> usize {
 fn work(batch: &[u8], table: &mut [u64], out: &mut [u8]) -> usize {
     reader::read_rows(batch, table);
     reader::collect_sets(table);
-    let verdict = rounds::settle(table);
+    let verdict = settling::settle(table);
     report(table, verdict, out)
 }
 
@@ -35,7 +35,7 @@ fn verdict_word(nonempty: bool) -> usize {
 }
 
 // The lines: verdict, openings and, if non-empty, the walk.
-fn report(table: &[u64], verdict: rounds::Verdict, out: &mut [u8]) -> usize {
+fn report(table: &[u64], verdict: settling::Verdict, out: &mut [u8]) -> usize {
     let head = text::put_number(out, 0, verdict_word(verdict.nonempty), verdict.rounds);
     let body = text::put_openings(out, head, table);
     let end = walk::put_walk(out, body, table);

@@ -1,11 +1,11 @@
--- `plain::rounds::settle` is safe and ends. The invariant keeps the counter within its bound and the lengths of what is lent; the measure is what is left to count.
+-- `plain::settling::settle` is safe and ends. The invariant keeps the counter within its bound and the lengths of what is lent; the measure is what is left to count.
 use borrow.Author.Needs.{needs}
 use native.Mathlib.Omega.{arith}
 use Prim.Native.Nat.{_≤_, _-_}
 use lib.ListN.{length}
 use mathlib.Core.Path.{_≡_}
-use Rattle.plain.proofs.rounds.settle.Statement.{statement}
-use Rattle.plain.proofs.rounds.settle.Tie as tie
+use Rattle.plain.proofs.settling.settle.Statement.{statement}
+use Rattle.plain.proofs.settling.settle.Tie as tie
 
 abbrev Inv-loop : tie.InvT-loop
 Inv-loop table₀ k₀ table k = (k ≤ 34) × (length table ≡ length table₀)

@@ -1,11 +1,11 @@
--- `plain::rounds::round` is safe and ends. The invariant keeps the counter within its bound and the lengths of what is lent; the measure is what is left to count.
+-- `plain::settling::round` is safe and ends. The invariant keeps the counter within its bound and the lengths of what is lent; the measure is what is left to count.
 use borrow.Author.Needs.{needs}
 use native.Mathlib.Omega.{arith}
 use Prim.Native.Nat.{_≤_, _-_}
 use lib.ListN.{length}
 use mathlib.Core.Path.{_≡_}
-use Rattle.plain.proofs.rounds.round.Statement.{statement}
-use Rattle.plain.proofs.rounds.round.Tie as tie
+use Rattle.plain.proofs.settling.round.Statement.{statement}
+use Rattle.plain.proofs.settling.round.Tie as tie
 
 abbrev Inv-loop : tie.InvT-loop
 Inv-loop table₀ k any₀ i₀ table any i = (i ≤ 16) × (length table ≡ length table₀)
