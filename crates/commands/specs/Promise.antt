@@ -1,5 +1,5 @@
 -- What parsing promises: the command is the meaning, and the batch is in the buffer.
-use Prim.Native.Nat.{ℕ, _≤_}
+use Prim.Native.Nat.{ℕ, _+_, _≤_, _<_}
 use mathlib.Core.Path.{_≡_}
 use mathlib.Core.List.{List}
 use lib.ListN.{length, take, drop}
@@ -42,3 +42,9 @@ Extends word room text buffer r = (meant : Meaning) → Asks meant word → Mean
 pub record Encodes (l new : List ℕ) (n : ℕ) : Type 0 where
   pub holds : FitsIn n new
   pub digits-are : take n new ≡ encoded l
+
+-- where there is room for them; else the text stays as it is, and nothing is counted
+pub record EncodesIn (l old new : List ℕ) (n : ℕ) : Type 0 where
+  pub within : FitsIn n new
+  pub written : length l + length l ≤ length old → take n new ≡ encoded l
+  pub short : length old < length l + length l → (new ≡ old) × (n ≡ 0)

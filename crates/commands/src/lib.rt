@@ -8,7 +8,7 @@ ghost use Rattle.commands.specs.Digits.{digit-value, digits, bytes, numb
 ghost use Rattle.commands.specs.Meaning as m;
 ghost use Rattle.commands.specs.Meaning.{words, passed-over, called, meaning};
 ghost use Rattle.commands.specs.Table.{alone-at, command-of, ends, further, seek};
-ghost use Rattle.commands.specs.Promise.{Means, Asks, TellsWord, Extends, Encodes};
+ghost use Rattle.commands.specs.Promise.{Means, Asks, TellsWord, Extends, Encodes, EncodesIn};
 
 // The calls that a batch comes with.
 pub enum Change {
@@ -97,8 +97,8 @@ fn digit_byte(d: u8) -> u8
     if d < 10 { 48 + d } else { 87 + d }
 }
 
-// Writes bytes as pairs of hex digits, in lower case.
-pub fn encode(bytes: &[u8], text: &mut [u8]) -> usize
+// Writes bytes as pairs of hex digits, in lower case, where they fit.
+fn put_pairs(bytes: &[u8], text: &mut [u8]) -> usize
     requires { ⌜ length (now bytes) + length (now bytes) ≤ length (now text) ⌝ }
     ensures { λ r. ⌜ Encodes (now (bytes .entry)) (now (text .exit)) r ⌝ }
 {
@@ -111,6 +111,16 @@ pub fn encode(bytes: &[u8], text: &mut [u8]) -> usize
         at += 2;
     }
     at
+}
+
+// Writes bytes as pairs of hex digits, in lower case; nothing where the text has no room for all of them.
+pub fn encode(bytes: &[u8], text: &mut [u8]) -> usize
+    ensures { λ r. ⌜ EncodesIn (now (bytes .entry)) (now (text .entry)) (now (text .exit)) r ⌝ }
+{
+    if bytes.len() > text.len() / 2 {
+        return 0;
+    }
+    put_pairs(bytes, text)
 }
 
 // The call with the batch that hex digits name.
