@@ -1,5 +1,6 @@
 // What the programs share: texts and numbers on standard output, and texts compared.
 ghost use mathlib.Core.Path.{_≡_};
+ghost use lib.ListN.{take, drop};
 ghost use Rattle.lists.specs.Tests.{Decides};
 
 // Are the two texts the same?
@@ -20,11 +21,23 @@ pub fn same(a: &[u8], b: &[u8]) -> bool
 }
 
 // The first bytes of a text; all of it where it has fewer.
-pub fn first(text: &[u8], n: usize) -> &[u8] {
+pub fn first(text: &[u8], n: usize) -> &[u8]
+    ensures { λ r. ⌜ now r ≡ take n (now (text .entry)) ⌝ }
+{
     if n < text.len() {
         return &text[..n];
     }
     text
+}
+
+// What stands behind the first bytes of a text; nothing where it has no more.
+pub fn beyond(text: &[u8], n: usize) -> &[u8]
+    ensures { λ r. ⌜ now r ≡ drop n (now (text .entry)) ⌝ }
+{
+    if n < text.len() {
+        return &text[n..];
+    }
+    &text[text.len()..]
 }
 
 // Writes a text.
@@ -46,9 +59,6 @@ pub fn say_count(name: &[u8], n: u64) {
 
 // Writes bytes in hex, where they are 6,400 at most: no sheet, no save and no batch of random has more.
 pub fn say_hex(bytes: &[u8]) {
-    if bytes.len() > 6400 {
-        return;
-    }
     let mut text = [0u8; 12800];
     let n = commands::encode(bytes, &mut text);
     say(&text[..n]);
