@@ -1,4 +1,4 @@
-// What lines and their calls are answered.
+// What lines and their calls are answered. A sheet and rows end their line; other answers are ended by who asks for them.
 use commands::Command;
 use commands::Report;
 use machine::Answer;
@@ -10,21 +10,20 @@ use program_output::say_number;
 
 fn say_verdict(verdict: Verdict) {
     match verdict {
-        Verdict::NonEmpty => say(b"ok nonempty\n"),
-        Verdict::Empty => say(b"ok empty\n"),
+        Verdict::NonEmpty => say(b"ok nonempty"),
+        Verdict::Empty => say(b"ok empty"),
     }
 }
 
 // Writes where an accepted call leads.
 fn say_phase(phase: Phase) {
     match phase {
-        Phase::Open => say(b"ok\n"),
-        Phase::Running => say(b"ok running\n"),
+        Phase::Open => say(b"ok"),
+        Phase::Running => say(b"ok running"),
         Phase::Settled(verdict) => say_verdict(verdict),
     }
 }
 
-// Writes a refusal; its line goes on.
 fn say_refused(number: u8, place: usize) {
     say(b"refused ");
     say_number(number as u64);
@@ -60,6 +59,14 @@ fn say_report(call: Report, answer: Answer, phase: Phase, buffer: &[u8]) {
     }
 }
 
+// Writes the answer to the call of a command.
+pub fn say_answer(command: Command, answer: Answer, phase: Phase, buffer: &[u8]) {
+    match command {
+        Command::Reports(call, _) => say_report(call, answer, phase, buffer),
+        _ => say_done(answer, phase),
+    }
+}
+
 // Writes a line where that is asked for.
 fn say_line(line: &[u8], asked: bool) {
     if asked {
@@ -69,28 +76,11 @@ fn say_line(line: &[u8], asked: bool) {
 }
 
 // Says why a line asks for no call; where checks are asked for, what is passed over is written out.
-fn say_none(command: Command, line: &[u8], checks: bool) {
+pub fn say_none(command: Command, line: &[u8], checks: bool) {
     match command {
         Command::Nothing => say_line(line, checks),
         Command::BadHex => say(b"bad hex\n"),
         Command::TooLong => say(b"too long\n"),
         _ => say(b"unknown command\n"),
-    }
-}
-
-// Writes the answer to a line: that of its call, or why there is none.
-pub fn say_answer(
-    command: Command,
-    answer: Answer,
-    phase: Phase,
-    buffer: &[u8],
-    line: &[u8],
-    checks: bool,
-) {
-    match command {
-        Command::Changes(_, _) => say_done(answer, phase),
-        Command::Reports(call, _) => say_report(call, answer, phase, buffer),
-        Command::Moves(_) => say_done(answer, phase),
-        _ => say_none(command, line, checks),
     }
 }

@@ -1,6 +1,6 @@
 // A line run on a session: the call that it asks for, and its answer.
 use crate::answers::say_answer;
-use crate::checks::refusal;
+use crate::answers::say_none;
 use crate::checks::say_kept;
 use commands::Change;
 use commands::Command;
@@ -9,6 +9,7 @@ use commands::Report;
 use machine::Answer;
 use program_output::first;
 use program_output::say;
+use program_output::say_number;
 use session::Reply;
 use session::Session;
 
@@ -27,7 +28,7 @@ fn go(session: Session, call: Move) -> Reply {
     }
 }
 
-pub fn report(session: Session, call: Report, buffer: &mut [u8]) -> Reply {
+fn report(session: Session, call: Report, buffer: &mut [u8]) -> Reply {
     match call {
         Report::Print => session.print(buffer),
         Report::Save => session.save(buffer),
@@ -58,34 +59,53 @@ fn act(session: Session, command: Command, batch: &[u8], buffer: &mut [u8]) -> R
     }
 }
 
-// Ends the line of a refusal, with the checks where they are asked for.
-fn end(before: Session, reply: Reply, buffer: &[u8], checks: bool) {
-    let answer = reply.answer;
-    if refusal(answer) == 0 {
-        return;
+// Begins the line of the checks after a text, and ends the line of any other answer.
+fn say_written(answer: Answer, checks: bool) {
+    match answer {
+        Answer::Wrote(n) => {
+            if checks {
+                say(b"wrote ");
+                say_number(n as u64);
+            }
+        }
+        _ => {
+            if !checks {
+                say(b"\n");
+            }
+        }
     }
-    if checks {
-        say_kept(before, reply.session, buffer);
-    }
-    say(b"\n");
 }
 
-// Runs a command, and writes its answer.
-fn run_command(
-    session: Session,
-    command: Command,
-    batch: &[u8],
-    line: &[u8],
-    checks: bool,
-) -> Session {
+// Ends the answer to a call, with the checks where they are asked for.
+fn end(before: Session, reply: Reply, buffer: &[u8], checks: bool) {
+    let answer = reply.answer;
+    say_written(answer, checks);
+    if checks {
+        say_kept(before, reply.session, answer, buffer);
+        say(b"\n");
+    }
+}
+
+// Runs a call, and writes its answer.
+fn run_call(session: Session, command: Command, batch: &[u8], checks: bool) -> Session {
     let mut buffer = [170u8; 6400];
     let reply = act(session, command, batch, &mut buffer);
     let after = reply.session;
     let phase = after.phase;
     let answer = reply.answer;
-    say_answer(command, answer, phase, &buffer, line, checks);
+    say_answer(command, answer, phase, &buffer);
     end(session, reply, &buffer, checks);
     after
+}
+
+// Does the command ask for a call?
+fn is_call(command: Command) -> bool {
+    match command {
+        Command::Changes(_, _) => true,
+        Command::Reports(_, _) => true,
+        Command::Moves(_) => true,
+        _ => false,
+    }
 }
 
 // Runs a line: the call that it asks for, or none.
@@ -93,5 +113,9 @@ pub fn run_line(session: Session, line: &[u8], checks: bool) -> Session {
     // Room for the batch of any line that is held.
     let mut batch = [0u8; 70000];
     let command = commands::parse(line, &mut batch);
-    run_command(session, command, &batch, line, checks)
+    if is_call(command) {
+        return run_call(session, command, &batch, checks);
+    }
+    say_none(command, line, checks);
+    session
 }

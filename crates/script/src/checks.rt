@@ -1,61 +1,130 @@
-// Is all as it was after a refusal? Sessions are compared by what print and save show of them.
-use crate::calls::report;
-use commands::Report;
+// Is all as it was after a call? Of records a digest of all fields is compared, of buffers every byte.
 use machine::Answer;
+use machine::MOST_ROWS;
+use machine::MOST_SETS;
+use machine::Phase;
+use machine::Verdict;
+use program_output::beyond;
+use program_output::first;
 use program_output::same;
 use program_output::say;
 use session::Session;
 
-// The number of a refusal, 0 for none.
-pub fn refusal(answer: Answer) -> u8 {
-    match answer {
-        Answer::Refused(number, _) => number,
-        _ => 0,
+// The digest goes on with a word: Marsaglia's xorshift, in which no two words have one successor.
+fn mixed(digest: u64, word: u64) -> u64 {
+    let a = digest ^ word;
+    let b = a ^ (a << 13);
+    let c = b ^ (b >> 7);
+    c ^ (c << 17)
+}
+
+fn wide(b: u8) -> u64 {
+    b as u64
+}
+
+// The digest goes on with bytes.
+fn with_bytes(digest: u64, bytes: &[u8]) -> u64 {
+    let mut found = digest;
+    let mut i = 0;
+    while i < bytes.len() {
+        found = mixed(found, wide(bytes[i]));
+        i += 1;
+    }
+    found
+}
+
+// The set at a place, 0 past the last.
+fn set_at(sets: &[u64], i: usize) -> u64 {
+    if i < sets.len() { sets[i] } else { 0 }
+}
+
+// The digest goes on with sets.
+fn with_sets(digest: u64, sets: &[u64]) -> u64 {
+    let mut found = digest;
+    let mut i = 0;
+    while i < MOST_SETS {
+        found = mixed(found, set_at(sets, i));
+        i += 1;
+    }
+    found
+}
+
+fn verdict_number(verdict: Verdict) -> u64 {
+    match verdict {
+        Verdict::NonEmpty => 2,
+        Verdict::Empty => 3,
     }
 }
 
-// Writes what a call shows of a session, and gives the number of its refusal.
-fn shown(session: Session, call: Report, buffer: &mut [u8]) -> u8 {
-    let reply = report(session, call, buffer);
-    let answer = reply.answer;
-    refusal(answer)
-}
-
-// Does the call refuse both sessions alike, and write the same of both?
-fn same_report(call: Report, a: Session, b: Session) -> bool {
-    let mut p = [0u8; 6400];
-    let mut q = [0u8; 6400];
-    if shown(a, call, &mut p) != shown(b, call, &mut q) {
-        return false;
+fn phase_number(phase: Phase) -> u64 {
+    match phase {
+        Phase::Open => 0,
+        Phase::Running => 1,
+        Phase::Settled(verdict) => verdict_number(verdict),
     }
-    same(&p, &q)
 }
 
-fn same_session(a: Session, b: Session) -> bool {
-    if !same_report(Report::Print, a, b) {
-        return false;
-    }
-    same_report(Report::Save, a, b)
+// The digest of the rows: save shows every place, those too that are not used.
+fn rows_digest(session: Session) -> u64 {
+    let mut buffer = [0u8; 6400];
+    let whole = Session {
+        row_count: MOST_ROWS,
+        set_count: 0,
+        ..session
+    };
+    whole.save(&mut buffer);
+    with_bytes(1, &buffer)
 }
 
-// Is the buffer as it was lent?
-fn is_untouched(buffer: &[u8]) -> bool {
+// The digest of what is no array.
+fn numbers_digest(session: Session) -> u64 {
+    let phase = session.phase;
+    let counts = mixed(session.row_count as u64, session.set_count as u64);
+    mixed(mixed(counts, session.rounds as u64), phase_number(phase))
+}
+
+// The digest of the sets and of the rounds of their claims.
+fn sets_digest(session: Session) -> u64 {
+    let sets = with_sets(1, &session.sets);
+    let loops = with_bytes(sets, &session.loop_rounds);
+    with_bytes(loops, &session.mix_rounds)
+}
+
+fn digest(session: Session) -> u64 {
+    let numbers = mixed(rows_digest(session), numbers_digest(session));
+    mixed(numbers, sets_digest(session))
+}
+
+// Are the bytes as they were lent?
+fn is_untouched(bytes: &[u8]) -> bool {
     let lent = [170u8; 6400];
-    same(buffer, &lent)
+    same(bytes, first(&lent, bytes.len()))
 }
 
 fn say_same(kept: bool) {
     if kept {
         say(b" unchanged");
     } else {
-        say(b" CHANGED");
+        say(b" changed");
+    }
+}
+
+// Says of a text in the buffer whether the bytes beyond it are as they were.
+fn say_beyond(answer: Answer, buffer: &[u8]) {
+    match answer {
+        Answer::Wrote(n) => {
+            say(b", beyond the text");
+            say_same(is_untouched(beyond(buffer, n)));
+        }
+        _ => {}
     }
 }
 
 // Says whether the session and the buffer are as they were.
-pub fn say_kept(before: Session, after: Session, buffer: &[u8]) {
+pub fn say_kept(before: Session, after: Session, answer: Answer, buffer: &[u8]) {
     say(b", session");
-    say_same(same_session(before, after));
+    say_same(digest(before) == digest(after));
     say(b", buffer");
     say_same(is_untouched(buffer));
+    say_beyond(answer, buffer);
 }

@@ -6,11 +6,16 @@ mod input;
 
 use session::Session;
 
-// Runs the lines of standard input on a fresh session. Where it checks, comments are written out, and a refusal says whether the
-// session and the buffer are as they were.
+// Runs the lines of standard input on a fresh session. Where it checks, comments are written out, and the answer to a call says whether
+// the session and the buffer are as they were.
 pub fn run(checks: bool) {
     let mut read = [0u8; 65536];
     // A batch of 65,536 bytes in hex and the word before it have 131,081 bytes at most.
     let mut line = [0u8; 140000];
     input::run(Session::fresh(), &mut read, &mut line, checks);
+}
+
+// Runs one line on any record, with the checks.
+pub fn run_line(record: Session, line: &[u8]) -> Session {
+    calls::run_line(record, line, true)
 }

@@ -1,0 +1,105 @@
+// Records that no calls make. Where a count is outside the arrays, every call is refused as 24, and all is as it was; on others the
+// answer is free, and what is run is that each call ends.
+use machine::Phase;
+use machine::Verdict;
+use program_output::say;
+use session::Session;
+
+// Runs a call on a record, and writes what is seen.
+fn try_call(record: Session, line: &[u8]) {
+    say(line);
+    say(b": ");
+    script::run_line(record, line);
+}
+
+fn try_changes(record: Session) {
+    try_call(record, b"load 020103006100");
+    try_call(record, b"withdraw 0100");
+}
+
+fn try_moves(record: Session) {
+    try_call(record, b"close");
+    try_call(record, b"round");
+    try_call(record, b"reopen");
+}
+
+fn try_reports(record: Session) {
+    try_call(record, b"print");
+    try_call(record, b"save");
+}
+
+// Every call on the record.
+fn try_all(name: &[u8], record: Session) {
+    say(name);
+    try_changes(record);
+    try_moves(record);
+    try_reports(record);
+}
+
+// A record with these counts, and nothing else.
+fn counted(row_count: usize, set_count: usize, phase: Phase, rounds: u8) -> Session {
+    let fresh = Session::fresh();
+    Session {
+        row_count,
+        set_count,
+        phase,
+        rounds,
+        ..fresh
+    }
+}
+
+// Counts outside the arrays, in each phase.
+fn outside() {
+    try_all(b"# 257 rows\n", counted(257, 0, Phase::Open, 0));
+    try_all(b"# 65 sets\n", counted(0, 65, Phase::Running, 0));
+}
+
+fn far_outside() {
+    try_all(
+        b"# 2^64 - 1 rows\n",
+        counted(usize::MAX, 64, Phase::Settled(Verdict::NonEmpty), 1),
+    );
+    try_all(
+        b"# 2^64 - 1 sets\n",
+        counted(256, usize::MAX, Phase::Settled(Verdict::Empty), 1),
+    );
+}
+
+// Counts within the arrays: rows that stand twice and more, and sets of no row.
+fn within() {
+    try_all(
+        b"# open, a row 256 times, 64 times the set 0\n",
+        counted(256, 64, Phase::Open, 0),
+    );
+    try_all(
+        b"# running after 200 rounds\n",
+        counted(3, 2, Phase::Running, 200),
+    );
+}
+
+// Rows that are not in order: those unused behind one of kind 5.
+fn unsorted() {
+    let loaded = script::run_line(Session::fresh(), b"load 05008000000000000000");
+    let record = Session {
+        row_count: 2,
+        set_count: 2,
+        phase: Phase::Running,
+        ..loaded
+    };
+    try_all(b"# running, with rows out of order\n", record);
+}
+
+fn settled() {
+    try_all(
+        b"# settled as non-empty, without a walk\n",
+        counted(2, 1, Phase::Settled(Verdict::NonEmpty), 255),
+    );
+}
+
+pub fn run() {
+    outside();
+    far_outside();
+    within();
+    unsorted();
+    settled();
+}
