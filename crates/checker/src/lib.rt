@@ -10,7 +10,13 @@ use rounds::Progress;
 ghost use Prim.Native.Nat.{_≤_};
 ghost use Rattle.rounds.specs.Promises.{Settles};
 ghost use Rattle.search.specs.Graph.{graph-of};
-ghost use Rattle.checker.specs.Promise.{Finishes, Checks, ShowsSheet};
+ghost use Rattle.checker.specs.Promise.{Finishes, Checks, ShowsSheet, Told};
+
+// A text at the start of an array that has room for any that the program writes, and its length.
+pub struct Written {
+    pub text: [u8; LONGEST_SHEET],
+    pub length: usize,
+}
 
 // The rounds of the automaton, until it is settled.
 fn settled(a: Automaton, set_count: usize) -> Progress
@@ -84,4 +90,13 @@ pub fn show(input: &[u8], out: &mut [u8]) -> usize
         Answer::Wrote(n) => n,
         Answer::Refused(n, place) => sheet_lines::put_refusal_line(out, n as u64, place as u64),
     }
+}
+
+// The same for every input: the array has room for it.
+pub fn shown(input: &[u8]) -> Written
+    ensures { λ r. ⌜ Told (now (input .entry)) r ⌝ }
+{
+    let mut text = [0u8; LONGEST_SHEET];
+    let length = show(input, &mut text);
+    Written { text, length }
 }
