@@ -1,14 +1,14 @@
--- `main` lends the bytes that were read, and no others.
+-- `run` lends the bytes that were read, and no others.
 use mathlib.Core.Path.{subst}
-use Rattle.sheet.specs.Input.{Held}
+use Rattle.sheet_run.specs.Input.{Held}
 use borrow.Author.Needs.{needs}
-use Rattle.sheet.proofs.main.Statement.{statement}
-use Rattle.sheet.proofs.main.Tie as tie
-use Rattle.sheet.proofs.main.Reads as reads
-use Rattle.sheet.proofs.main.Lts as lts
+use Rattle.sheet_run.proofs.run.Statement.{statement}
+use Rattle.sheet_run.proofs.run.Tie as tie
+use Rattle.sheet_run.proofs.run.Reads as reads
+use Rattle.sheet_run.proofs.run.Lts as lts
 use Rattle.os.proofs.fail.Reads as fail-reads
-use Rattle.sheet.proofs.answer.Reads as answer-reads
-use Rattle.sheet.proofs.read_input.Reads as read-input-reads
+use Rattle.sheet_run.proofs.answer.Reads as answer-reads
+use Rattle.sheet_run.proofs.read_input.Reads as read-input-reads
 
 array-share-prefix-buffer : tie.Need-array-share-prefix-buffer
 array-share-prefix-buffer c = let r = c .before .before .before .before .read-input in subst (λ x. Held x (r .last .0)) (c .before .n .given .1) (r .ensures) .0
@@ -16,8 +16,8 @@ array-share-prefix-buffer c = let r = c .before .before .before .before .read-in
 slice-aggregate-answer : tie.Need-slice-aggregate-answer
 slice-aggregate-answer c = let r = c .before .before .before .before .before .read-input in subst (λ x. Held x (r .last .0)) (c .before .before .n .given .1) (r .ensures) .1
 
-pub main-spec : {M : Type 1} → statement M
-main-spec =
+pub run-spec : {M : Type 1} → statement M
+run-spec =
     tie.close
     (tie.spec
     (λ c. search needs)

@@ -1,10 +1,11 @@
 -- What reading standard input leaves.
-use Prim.Native.Nat.{ℕ, _+_, _≤_}
+use Prim.Native.Nat.{ℕ, _+_, _≤_, _<_}
 use mathlib.Core.List.{List}
 use lib.ListN.{length}
 use Rattle.io.specs.Counts.{Counts}
-use Rattle.sheet.specs.declared.Input.{Input}
-use Rattle.sheet.specs.declared.Input.the-variants.{Bytes, Failed}
+use Rattle.machine.specs.Machine.{longest-batch}
+use Rattle.sheet_run.specs.declared.Input.{Input}
+use Rattle.sheet_run.specs.declared.Input.the-variants.{Bytes, Failed}
 
 -- a count of bytes lies within the buffer
 abbrev pub Held : Input → List ℕ → Type 0
@@ -15,3 +16,7 @@ Held Failed buffer = Unit {0}
 abbrev pub Behind : Input → ℕ → List ℕ → Type 0
 Behind (Bytes n) at buffer = at + n ≤ length buffer
 Behind Failed at buffer = Unit {0}
+
+-- the buffer holds more than a batch may have, so that longer input is seen
+abbrev pub SeesLonger : List ℕ → Type 0
+SeesLonger buffer = longest-batch < length buffer

@@ -5,12 +5,12 @@ use lib.ListN.{length}
 use borrow.Author.Needs.{needs}
 use native.Mathlib.Omega.{arith}
 use Rattle.io.proofs.Counting.{counts}
-use Rattle.sheet.specs.Input.{Behind}
-use Rattle.sheet.proofs.read_input.Statement.{statement}
-use Rattle.sheet.proofs.read_input.Tie as tie
-use Rattle.sheet.proofs.read_input.Reads as reads
-use Rattle.sheet.proofs.read_input.Lts as lts
-use Rattle.sheet.proofs.read_at.Reads as read-at-reads
+use Rattle.sheet_run.specs.Input.{Behind}
+use Rattle.sheet_run.proofs.read_input.Statement.{statement}
+use Rattle.sheet_run.proofs.read_input.Tie as tie
+use Rattle.sheet_run.proofs.read_input.Reads as reads
+use Rattle.sheet_run.proofs.read_input.Lts as lts
+use Rattle.sheet_run.proofs.read_at.Reads as read-at-reads
 
 abbrev Inv-loop : tie.InvT-loop
 Inv-loop buffer₀ at₀ buffer at = (at ≤ length buffer) × (length buffer ≡ length buffer₀)
