@@ -1,5 +1,6 @@
-// Runs the checker on stored batches, and compares each sheet with the stored one, byte by byte.
+// Runs the checker and the function of the library on stored batches, and compares each sheet with the stored one, byte by byte.
 // Its arguments are pairs of file names: a batch, and the sheet that it must give.
+use program_output::first;
 use program_output::same;
 use program_output::say;
 use program_output::say_number;
@@ -24,18 +25,55 @@ fn read_file(file: i32, buffer: &mut [u8]) -> usize
     n
 }
 
-// Does the batch in one file give the sheet in the other? Files that cannot be read give nothing.
+// Does the program write the text for the batch?
+fn writes(batch: &[u8], text: &[u8]) -> bool {
+    let mut out = [0u8; 6400];
+    let n = checker::show(batch, &mut out);
+    same(&out[..n], text)
+}
+
+fn say_same(is_same: bool) {
+    if is_same {
+        say(b"same");
+    } else {
+        say(b"different");
+    }
+}
+
+// Says whether the function of the library writes the text for the batch, or what it refuses.
+fn say_library(batch: &[u8], text: &[u8]) {
+    let mut out = [0u8; 6400];
+    let mut place = 0u64;
+    let code = ffi::gozhmerik_sheet(batch, &mut out, &mut place);
+    if code < 4294967296 {
+        say_same(same(first(&out, code as usize), text));
+        return;
+    }
+    say(b"refuses ");
+    say_number(code / 4294967296);
+    say(b" at ");
+    say_number(place);
+}
+
+// Says what becomes of a batch, and whether the program writes the text.
+fn tell(batch: &[u8], text: &[u8]) -> bool {
+    let is_same = writes(batch, text);
+    say_same(is_same);
+    say(b", library ");
+    say_library(batch, text);
+    is_same
+}
+
+// Does the batch in one file give the text in the other? Files that cannot be read give nothing.
 fn gives(batch_file: i32, sheet_file: i32) -> bool {
     if batch_file < 0 || sheet_file < 0 {
         return false;
     }
     let mut batch = [0u8; 65538];
     let n = read_file(batch_file, &mut batch);
-    let mut wanted = [0u8; 8192];
-    let k = read_file(sheet_file, &mut wanted);
-    let mut out = [0u8; 6400];
-    let written = checker::show(&batch[..n], &mut out);
-    same(&out[..written], &wanted[..k])
+    let mut text = [0u8; 8192];
+    let k = read_file(sheet_file, &mut text);
+    tell(&batch[..n], &text[..k])
 }
 
 // Runs one case, says how it went, and counts it where it went wrong.
@@ -44,12 +82,9 @@ fn run_case(batch_index: usize, sheet_index: usize) -> u64
 {
     let batch_file = open_named(batch_index);
     let sheet_file = open_named(sheet_index);
-    if gives(batch_file, sheet_file) {
-        say(b"same\n");
-        return 0;
-    }
-    say(b"different\n");
-    1
+    let is_given = gives(batch_file, sheet_file);
+    say(b"\n");
+    if is_given { 0 } else { 1 }
 }
 
 fn main() {
