@@ -10,12 +10,17 @@ pub const LABEL: u64 = 2;
 
 pub const TO: u64 = 3;
 
+// The rows stand on the first lines, the steps on those after them.
+pub const ROWS: u64 = 80;
+
+pub const LINES: u64 = 1100;
+
 // Where the sets stand, and the rounds of their loops and of their mixes.
-pub const SETS: u64 = 3760;
+pub const SETS: u64 = 4400;
 
-pub const LOOPS: u64 = 3776;
+pub const LOOPS: u64 = 4432;
 
-pub const MIXES: u64 = 3792;
+pub const MIXES: u64 = 4464;
 
 // What stands at `base` and `i` more.
 pub fn at(cells: &[u64], base: u64, i: u64) -> u64 {
@@ -33,7 +38,7 @@ pub fn put(cells: &mut [u64], base: u64, i: u64, v: u64) {
 
 // One cell of a line.
 pub fn cell(table: &[u64], line: u64, column: u64) -> u64 {
-    if line < 940 {
+    if line < LINES {
         at(table, line * 4, column)
     } else {
         0
@@ -50,7 +55,7 @@ pub struct Line {
 
 // Writes a line.
 pub fn put_line(table: &mut [u64], n: u64, line: Line) {
-    if n < 940 {
+    if n < LINES {
         let k = (n * 4) as usize;
         if k + 3 < table.len() {
             table[k] = line.kind;

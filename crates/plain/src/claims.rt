@@ -1,4 +1,4 @@
-// Does a set loop, does it mix, by the steps of the table? Walks inside the set are 12 cells, a set of targets for each state.
+// Does a set loop, does it mix, by the steps of the table? Walks inside the set are 64 cells, a set of targets for each state.
 use crate::cells;
 use crate::reader::row_set;
 
@@ -23,8 +23,8 @@ fn step_added(table: &[u64], n: u64, p: u64, found: u64) -> u64 {
 
 // The steps inside `p`.
 fn link_steps(table: &[u64], p: u64, links: &mut [u64]) {
-    let mut n = 40;
-    while n < 940 && cells::cell(table, n, cells::KIND) != 0 {
+    let mut n = cells::ROWS;
+    while n < cells::LINES && cells::cell(table, n, cells::KIND) != 0 {
         let s = cells::cell(table, n, cells::FROM);
         let found = cells::at(links, s, 0);
         cells::put(links, s, 0, step_added(table, n, p, found));
@@ -41,25 +41,34 @@ fn middle_added(links: &[u64], middle: u64, s: u64) -> u64 {
     found
 }
 
-// Warshall's closure: from each state the targets of walks of one or more steps.
-fn close_links(links: &mut [u64]) {
-    let mut k = 0;
-    while k < 144 {
-        cells::put(links, k % 12, 0, middle_added(links, k / 12, k % 12));
-        k += 1;
+// Walks that go on at `middle`.
+fn close_through(links: &mut [u64], middle: u64) {
+    let mut s = 0;
+    while s < 64 {
+        cells::put(links, s, 0, middle_added(links, middle, s));
+        s += 1;
     }
 }
 
-// Walks of one or more steps inside `p`.
-fn reach(table: &[u64], p: u64, links: &mut [u64]) {
-    link_steps(table, p, links);
-    close_links(links);
+fn close_at(links: &mut [u64], p: u64, middle: u64) {
+    if cells::has(p, middle) {
+        close_through(links, middle);
+    }
+}
+
+// Warshall's closure: from each state the targets of walks of one or more steps, all inside `p`.
+fn close_links(links: &mut [u64], p: u64) {
+    let mut k = 0;
+    while k < 64 {
+        close_at(links, p, k);
+        k += 1;
+    }
 }
 
 // Does every state of P lead to all of P?
 fn is_linked(links: &[u64], p: u64) -> bool {
     let mut s = 0;
-    while s < 12 {
+    while s < 64 {
         if cells::has(p, s) && !cells::is_inside(p, cells::at(links, s, 0)) {
             return false;
         }
@@ -72,7 +81,7 @@ fn is_linked(links: &[u64], p: u64) -> bool {
 fn gates(table: &[u64], kind: u64, p: u64) -> u64 {
     let mut found = 0;
     let mut n = 0;
-    while n < 40 {
+    while n < cells::ROWS {
         if row_set(table, n) == p && cells::cell(table, n, cells::KIND) == kind {
             found = cells::with(found, cells::cell(table, n, cells::FROM));
         }
@@ -81,26 +90,21 @@ fn gates(table: &[u64], kind: u64, p: u64) -> u64 {
     found & p
 }
 
-// Does `s` lie on a walk of one or more steps from `e` to `f`, ends included?
-fn is_between(links: &[u64], e: u64, s: u64, f: u64) -> bool {
-    let first = cells::at(links, e, 0);
-    let second = cells::at(links, s, 0);
-    cells::has(first, f)
-        && cells::has(cells::with(first, e), s)
-        && cells::has(cells::with(second, s), f)
+// Does a walk of one or more steps lead from `e` to one of `ends`, and one of zero or more to `s`?
+fn leads(links: &[u64], e: u64, s: u64, ends: u64) -> bool {
+    let targets = cells::at(links, e, 0);
+    targets & ends != 0 && cells::has(cells::with(targets, e), s)
 }
 
-// Does `s` lie on some piece?
+// Does `s` lie on some piece, ends included? The exits are those that it leads to, itself among them.
 fn is_on_piece(links: &[u64], entrances: u64, exits: u64, s: u64) -> bool {
-    let mut k = 0;
-    while k < 144 {
-        if cells::has(entrances, k / 12)
-            && cells::has(exits, k % 12)
-            && is_between(links, k / 12, s, k % 12)
-        {
+    let ends = exits & cells::with(cells::at(links, s, 0), s);
+    let mut e = 0;
+    while e < 64 {
+        if cells::has(entrances, e) && leads(links, e, s, ends) {
             return true;
         }
-        k += 1;
+        e += 1;
     }
     false
 }
@@ -108,7 +112,7 @@ fn is_on_piece(links: &[u64], entrances: u64, exits: u64, s: u64) -> bool {
 // Does every state of P lie on some piece?
 fn is_covered(links: &[u64], p: u64, entrances: u64, exits: u64) -> bool {
     let mut s = 0;
-    while s < 12 {
+    while s < 64 {
         if cells::has(p, s) && !is_on_piece(links, entrances, exits, s) {
             return false;
         }
@@ -117,26 +121,35 @@ fn is_covered(links: &[u64], p: u64, entrances: u64, exits: u64) -> bool {
     true
 }
 
-fn loops_with(table: &[u64], links: &mut [u64], p: u64) -> bool {
+fn mixes(table: &[u64], links: &[u64], p: u64) -> bool {
+    is_covered(links, p, gates(table, 4, p), gates(table, 5, p))
+}
+
+// What holds of a set.
+pub struct Claims {
+    pub loops: bool,
+    pub mixes: bool,
+}
+
+fn told(table: &[u64], links: &[u64], p: u64) -> Claims {
+    let loops = is_linked(links, p);
+    let mixes = mixes(table, links, p);
+    Claims { loops, mixes }
+}
+
+// Walks of one or more steps inside `p`.
+fn reach(table: &[u64], p: u64, links: &mut [u64]) {
+    link_steps(table, p, links);
+    close_links(links, p);
+}
+
+fn claims_with(table: &[u64], links: &mut [u64], p: u64) -> Claims {
     reach(table, p, links);
-    is_linked(links, p)
+    told(table, links, p)
 }
 
-fn mixes_with(table: &[u64], links: &mut [u64], p: u64) -> bool {
-    let entrances = gates(table, 4, p);
-    let exits = gates(table, 5, p);
-    reach(table, p, links);
-    is_covered(links, p, entrances, exits)
-}
-
-// P loops: walks inside P lead from each state of P to each.
-pub fn loops(table: &[u64], p: u64) -> bool {
-    let mut links = [0u64; 12];
-    loops_with(table, &mut links, p)
-}
-
-// P mixes: every state of P lies on some piece.
-pub fn mixes(table: &[u64], p: u64) -> bool {
-    let mut links = [0u64; 12];
-    mixes_with(table, &mut links, p)
+// P loops: walks inside P lead from each state of P to each. P mixes: every state of P lies on some piece.
+pub fn of_set(table: &[u64], p: u64) -> Claims {
+    let mut links = [0u64; 64];
+    claims_with(table, &mut links, p)
 }

@@ -1,10 +1,10 @@
 // A second search, written plainly from document 01 so that the engine can be run against it. It shares no code with the engine.
 // Nothing is promised of what it writes: each function is proved to stay in bounds and to end, and the sheets are compared.
-// Its limits: states below 12, 40 rows, 16 sets.
+// Its limits: 80 rows, 32 sets, of refusals those of single rows.
 //
-// One table of cells holds all. Lines of four cells, kind, from, label and to: the rows on lines 0 to 39, with the set of a limit as
-// label; the steps on lines 40 to 939, kind 1 letter, 2 omega, 3 back, 4 mix. Then 16 cells for the sets, 16 for the rounds in which
-// their loops opened and 16 for those of their mixes, 0 for not open.
+// One table of cells holds all. Lines of four cells, kind, from, label and to: the rows on lines 0 to 79, with the set of a limit as
+// label; the steps on lines 80 to 1,099, kind 1 letter, 2 omega, 3 back, 4 mix. Then 32 cells for the sets, 32 for the rounds in which
+// their loops opened and 32 for those of their mixes, 0 for not open.
 mod cells;
 mod claims;
 mod reader;
@@ -13,15 +13,22 @@ mod steps;
 mod text;
 mod walk;
 
-// Writes the sheet of the batch's rows into `out` and answers its length.
+// Writes the sheet of the batch's rows into `out`, or the line of its refusal, and answers its length.
 pub fn sheet(batch: &[u8], out: &mut [u8]) -> usize {
-    let mut table = [0u64; 3808];
+    let refused = reader::refusal(batch);
+    if refused.number != 0 {
+        return text::put_refusal(out, refused.number, refused.place as u64);
+    }
+    settled(batch, out)
+}
+
+fn settled(batch: &[u8], out: &mut [u8]) -> usize {
+    let mut table = [0u64; 4496];
     work(batch, &mut table, out)
 }
 
 fn work(batch: &[u8], table: &mut [u64], out: &mut [u8]) -> usize {
-    reader::read_rows(batch, table);
-    reader::collect_sets(table);
+    reader::read(batch, table);
     let verdict = settling::settle(table);
     report(table, verdict, out)
 }
@@ -34,10 +41,20 @@ fn verdict_word(nonempty: bool) -> usize {
     }
 }
 
+// The line of the verdict, without its end.
+fn put_verdict(out: &mut [u8], verdict: settling::Verdict) -> usize {
+    text::put_number(out, 0, verdict_word(verdict.nonempty), verdict.rounds)
+}
+
+// The openings and, if non-empty, the walk.
+fn put_body(out: &mut [u8], head: usize, table: &[u64]) -> usize {
+    let body = text::put_openings(out, head, table);
+    walk::put_walk(out, body, table)
+}
+
 // The lines: verdict, openings and, if non-empty, the walk.
 fn report(table: &[u64], verdict: settling::Verdict, out: &mut [u8]) -> usize {
-    let head = text::put_number(out, 0, verdict_word(verdict.nonempty), verdict.rounds);
-    let body = text::put_openings(out, head, table);
-    let end = walk::put_walk(out, body, table);
+    let head = put_verdict(out, verdict);
+    let end = put_body(out, head, table);
     text::put_end(out, end)
 }

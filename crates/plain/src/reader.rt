@@ -64,11 +64,60 @@ fn row_at(batch: &[u8], place: usize, kind: u64) -> cells::Line {
     }
 }
 
-// Reads all rows.
-pub fn read_rows(batch: &[u8], table: &mut [u64]) {
+// A refusal: its number, 0 for none, and its place.
+pub struct Refused {
+    pub number: u64,
+    pub place: usize,
+}
+
+// Is the row longer than what is left of the batch?
+fn is_cut(batch: &[u8], place: usize, kind: u64) -> bool {
+    wrapping_add_usize(place, row_length(kind)) > batch.len()
+}
+
+// Is a state of the row above 63?
+fn is_high(batch: &[u8], place: usize, kind: u64) -> bool {
+    from_of(batch, place, kind) > 63 || kind == 3 && byte(batch, place, 3) > 63
+}
+
+// The number for which the row is refused, 0 for none.
+fn cause(batch: &[u8], place: usize, kind: u64) -> u64 {
+    if kind == 0 || kind > 5 {
+        return 2;
+    }
+    if is_cut(batch, place, kind) {
+        return 3;
+    }
+    if is_high(batch, place, kind) {
+        return 4;
+    }
+    if kind > 3 && label_of(batch, place, kind) == 0 {
+        return 5;
+    }
+    0
+}
+
+// The first row that is refused, of as many as the table has room for.
+pub fn refusal(batch: &[u8]) -> Refused {
     let mut place = 0;
     let mut n = 0;
-    while n < 40 {
+    while n < cells::ROWS && place < batch.len() {
+        let kind = byte(batch, place, 0);
+        let number = cause(batch, place, kind);
+        if number != 0 {
+            return Refused { number, place };
+        }
+        place = wrapping_add_usize(place, row_length(kind));
+        n += 1;
+    }
+    Refused { number: 0, place }
+}
+
+// Reads all rows.
+fn read_rows(batch: &[u8], table: &mut [u64]) {
+    let mut place = 0;
+    let mut n = 0;
+    while n < cells::ROWS {
         let kind = byte(batch, place, 0);
         cells::put_line(table, n, row_at(batch, place, kind));
         place = wrapping_add_usize(place, row_length(kind));
@@ -101,17 +150,23 @@ fn keep_at(table: &mut [u64], i: u64, set: u64) -> u64 {
 fn keep_set(table: &mut [u64], set: u64) {
     let mut carried = set;
     let mut i = 0;
-    while i < 16 && carried != 0 {
+    while i < 32 && carried != 0 {
         carried = keep_at(table, i, carried);
         i += 1;
     }
 }
 
 // The sets of the rows, rising, and zeros after them.
-pub fn collect_sets(table: &mut [u64]) {
+fn collect_sets(table: &mut [u64]) {
     let mut n = 0;
-    while n < 40 {
+    while n < cells::ROWS {
         keep_set(table, row_set(table, n));
         n += 1;
     }
+}
+
+// Reads the rows and their sets.
+pub fn read(batch: &[u8], table: &mut [u64]) {
+    read_rows(batch, table);
+    collect_sets(table);
 }

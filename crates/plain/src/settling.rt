@@ -18,21 +18,39 @@ fn open(table: &mut [u64], base: u64, i: u64, holds: bool, k: u64) -> bool {
     true
 }
 
-// Tests both claims of set `i`; a place with no set has the set 0, of which nothing is claimed.
-fn test_set(table: &mut [u64], i: u64, k: u64) -> bool {
-    let p = cells::at(table, cells::SETS, i);
-    let loops = p != 0 && claims::loops(table, p);
-    let mixes = p != 0 && claims::mixes(table, p);
-    let looped = open(table, cells::LOOPS, i, loops, k);
-    let mixed = open(table, cells::MIXES, i, mixes, k);
+// Is there nothing to test? A place with no set has the set 0, of which nothing is claimed.
+fn is_done(table: &[u64], i: u64) -> bool {
+    if cells::at(table, cells::SETS, i) == 0 {
+        return true;
+    }
+    cells::at(table, cells::LOOPS, i) != 0 && cells::at(table, cells::MIXES, i) != 0
+}
+
+// Marks what holds of set `i`; says whether anything opened.
+fn open_claims(table: &mut [u64], i: u64, claims: claims::Claims, k: u64) -> bool {
+    let looped = open(table, cells::LOOPS, i, claims.loops, k);
+    let mixed = open(table, cells::MIXES, i, claims.mixes, k);
     looped || mixed
+}
+
+// What holds of set `i`.
+fn claims_of(table: &[u64], i: u64) -> claims::Claims {
+    claims::of_set(table, cells::at(table, cells::SETS, i))
+}
+
+// Tests both claims of set `i`.
+fn test_set(table: &mut [u64], i: u64, k: u64) -> bool {
+    if is_done(table, i) {
+        return false;
+    }
+    open_claims(table, i, claims_of(table, i), k)
 }
 
 // One round: the steps are those from before it, so its openings do not help each other. Says whether it opened anything.
 fn round(table: &mut [u64], k: u64) -> bool {
     let mut any = false;
     let mut i = 0;
-    while i < 16 {
+    while i < 32 {
         let opened = test_set(table, i, k);
         any = any || opened;
         i += 1;
@@ -40,10 +58,10 @@ fn round(table: &mut [u64], k: u64) -> bool {
     any
 }
 
-// Rounds until settled: 16 sets have 32 claims, so 33 are enough. The steps are left as they are at the verdict.
+// Rounds until settled: 32 sets have 64 claims, so 65 are enough. The steps are left as they are at the verdict.
 pub fn settle(table: &mut [u64]) -> Verdict {
     let mut k = 0;
-    while k < 34 {
+    while k < 65 {
         steps::make_steps(table);
         if walk::is_accepted(table) {
             return Verdict {

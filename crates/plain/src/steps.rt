@@ -16,7 +16,7 @@ fn none() -> Line {
 // Is a claim of this set open? `base` says which: loops or mixes.
 fn is_open(table: &[u64], base: u64, set: u64) -> bool {
     let mut i = 0;
-    while i < 16 {
+    while i < 32 {
         if cells::at(table, cells::SETS, i) == set {
             return cells::at(table, base, i) != 0;
         }
@@ -25,7 +25,7 @@ fn is_open(table: &[u64], base: u64, set: u64) -> bool {
     false
 }
 
-// The letter step of a row of kind 3.
+// The letter step of a row.
 fn letter_of(table: &[u64], row: u64) -> Line {
     let from = cells::cell(table, row, cells::FROM);
     let label = cells::cell(table, row, cells::LABEL);
@@ -38,11 +38,11 @@ fn letter_of(table: &[u64], row: u64) -> Line {
     }
 }
 
-// The omega or back step between the state of a row of kind 4 or 5 and a state `q` of its set, where that loops.
+// The omega or back step between the state of a row of kind 4 or 5 and a state `q`; none where that is not in its set.
 fn limit_of(table: &[u64], row: u64, q: u64) -> Line {
     let label = row_set(table, row);
     let r = cells::cell(table, row, cells::FROM);
-    if !cells::has(label, q) || !is_open(table, cells::LOOPS, label) {
+    if !cells::has(label, q) {
         return none();
     }
     if cells::cell(table, row, cells::KIND) == 4 {
@@ -61,15 +61,19 @@ fn limit_of(table: &[u64], row: u64, q: u64) -> Line {
     }
 }
 
-// The mix step of a row q → P and a row P → p, where P mixes.
+// Is the one a row q → P, and the other a row P → p?
+fn is_pair(table: &[u64], right: u64, left: u64) -> bool {
+    cells::cell(table, right, cells::KIND) == 5
+        && cells::cell(table, left, cells::KIND) == 4
+        && row_set(table, right) == row_set(table, left)
+}
+
+// The mix step of a row q → P and a row P → p; none where they are no such rows.
 fn mix_of(table: &[u64], right: u64, left: u64) -> Line {
+    if !is_pair(table, right, left) {
+        return none();
+    }
     let label = row_set(table, right);
-    if cells::cell(table, left, cells::KIND) != 4 || row_set(table, left) != label {
-        return none();
-    }
-    if !is_open(table, cells::MIXES, label) {
-        return none();
-    }
     let from = cells::cell(table, right, cells::FROM);
     let to = cells::cell(table, left, cells::FROM);
     Line {
@@ -80,29 +84,9 @@ fn mix_of(table: &[u64], right: u64, left: u64) -> Line {
     }
 }
 
-// The step of a row with `other`: below 12 a state of the row's set, else 12 more than the second row of a mix. A letter step comes once.
-fn step_of(table: &[u64], row: u64, other: u64) -> Line {
-    let kind = cells::cell(table, row, cells::KIND);
-    if kind == 3 {
-        return if other == 0 {
-            letter_of(table, row)
-        } else {
-            none()
-        };
-    }
-    if other < 12 {
-        return limit_of(table, row, other);
-    }
-    if kind == 5 {
-        mix_of(table, row, other - 12)
-    } else {
-        none()
-    }
-}
-
 // Puts a step on line `n`, and answers the next line; no step is not put.
 fn add_step(table: &mut [u64], n: u64, step: Line) -> u64 {
-    if n < 940 {
+    if n < cells::LINES {
         if step.kind != 0 {
             cells::put_line(table, n, step);
             return n + 1;
@@ -111,13 +95,65 @@ fn add_step(table: &mut [u64], n: u64, step: Line) -> u64 {
     n
 }
 
-// Fills the lines of the steps: each row with each state and each row. Openings are only added, so no step of a fuller table is left
-// behind the last.
+// The omega or back steps of a row, one for each state of its set.
+fn put_limits(table: &mut [u64], line: u64, row: u64) -> u64 {
+    let mut n = line;
+    let mut q = 0;
+    while q < 64 {
+        n = add_step(table, n, limit_of(table, row, q));
+        q += 1;
+    }
+    n
+}
+
+// The mix steps of a row q → P, one for each row P → p.
+fn put_mixes(table: &mut [u64], line: u64, row: u64) -> u64 {
+    let mut n = line;
+    let mut left = 0;
+    while left < cells::ROWS {
+        n = add_step(table, n, mix_of(table, row, left));
+        left += 1;
+    }
+    n
+}
+
+// The letter step of a row of kind 3.
+fn add_letter(table: &mut [u64], n: u64, row: u64) -> u64 {
+    if cells::cell(table, row, cells::KIND) == 3 {
+        return add_step(table, n, letter_of(table, row));
+    }
+    n
+}
+
+// The omega or back steps of a row, where its set loops; the set 0 of a row that has none does not.
+fn add_limits(table: &mut [u64], n: u64, row: u64) -> u64 {
+    if is_open(table, cells::LOOPS, row_set(table, row)) {
+        return put_limits(table, n, row);
+    }
+    n
+}
+
+// The mix steps of a row, where its set mixes.
+fn add_mixes(table: &mut [u64], n: u64, row: u64) -> u64 {
+    if is_open(table, cells::MIXES, row_set(table, row)) {
+        return put_mixes(table, n, row);
+    }
+    n
+}
+
+// The steps of a row.
+fn add_row(table: &mut [u64], line: u64, row: u64) -> u64 {
+    let n = add_letter(table, line, row);
+    let m = add_limits(table, n, row);
+    add_mixes(table, m, row)
+}
+
+// Fills the lines of the steps. Openings are only added, so no step of a fuller table is left behind the last.
 pub fn make_steps(table: &mut [u64]) {
-    let mut n = 40;
-    let mut k = 0;
-    while k < 2080 {
-        n = add_step(table, n, step_of(table, k / 52, k % 52));
-        k += 1;
+    let mut n = cells::ROWS;
+    let mut row = 0;
+    while row < cells::ROWS {
+        n = add_row(table, n, row);
+        row += 1;
     }
 }

@@ -25,11 +25,37 @@ pub const MIXED: usize = 114;
 
 pub const TO: usize = 125;
 
+pub const REFUSED: usize = 130;
+
+pub const AT: usize = 139;
+
+// A byte of the words that start a sheet, and of those of its openings.
+fn first_byte(i: usize) -> u8 {
+    let words = b"verdict empty rounds ~verdict nonempty rounds ~\nopen ~ loop ~ mix ~";
+    if i < 67 { words[i] } else { b'~' }
+}
+
+// A byte of the words of a walk.
+fn walk_byte(i: usize) -> u8 {
+    let words = b"\nstart ~\nstep letter ~\nstep omega ~\nstep back ~\nstep mix ~ to ~";
+    if i < 63 { words[i] } else { b'~' }
+}
+
+// A byte of the words of a refusal.
+fn refusal_byte(i: usize) -> u8 {
+    let words = b"refused ~ at ~";
+    if i < 14 { words[i] } else { b'~' }
+}
+
 // A byte of the text of all words.
 fn word_byte(i: usize) -> u8 {
-    let words =
-        b"verdict empty rounds ~verdict nonempty rounds ~\nopen ~ loop ~ mix ~\nstart ~\nstep letter ~\nstep omega ~\nstep back ~\nstep mix ~ to ~";
-    if i < 130 { words[i] } else { b'~' }
+    if i < START {
+        return first_byte(i);
+    }
+    if i < REFUSED {
+        return walk_byte(i - START);
+    }
+    refusal_byte(i - REFUSED)
 }
 
 // Writes a byte; the tilde, which stands for a leading zero, is not written.
@@ -115,13 +141,13 @@ fn put_opening(
     put_set(out, end, word, cells::at(table, cells::SETS, i))
 }
 
-// The lines of all openings, of 34 rounds: by round, then set, then loop before mix.
+// The lines of all openings, of 65 rounds: by round, then set, then loop before mix.
 pub fn put_openings(out: &mut [u8], place: usize, table: &[u64]) -> usize {
     let mut end = place;
     let mut n = 0;
-    while n < 544 {
-        end = put_opening(out, end, table, cells::LOOPS, LOOP, n / 16 + 1, n % 16);
-        end = put_opening(out, end, table, cells::MIXES, MIX, n / 16 + 1, n % 16);
+    while n < 2080 {
+        end = put_opening(out, end, table, cells::LOOPS, LOOP, n / 32 + 1, n % 32);
+        end = put_opening(out, end, table, cells::MIXES, MIX, n / 32 + 1, n % 32);
         n += 1;
     }
     end
@@ -152,4 +178,11 @@ pub fn put_step(out: &mut [u8], place: usize, kind: u64, label: u64, to: u64) ->
 // The end of the last line.
 pub fn put_end(out: &mut [u8], place: usize) -> usize {
     put_byte(out, place, 10)
+}
+
+// The line of a refusal.
+pub fn put_refusal(out: &mut [u8], number: u64, place: u64) -> usize {
+    let head = put_number(out, 0, REFUSED, number);
+    let end = put_number(out, head, AT, place);
+    put_end(out, end)
 }

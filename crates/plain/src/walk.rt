@@ -6,7 +6,7 @@ use crate::text;
 fn marked(table: &[u64], kind: u64) -> u64 {
     let mut found = 0;
     let mut n = 0;
-    while n < 40 {
+    while n < cells::ROWS {
         if cells::cell(table, n, cells::KIND) == kind {
             found = cells::with(found, cells::cell(table, n, cells::FROM));
         }
@@ -18,8 +18,8 @@ fn marked(table: &[u64], kind: u64) -> u64 {
 // The states of `near`, and those from which a step leads into it.
 fn one_step_more(table: &[u64], near: u64) -> u64 {
     let mut found = near;
-    let mut n = 40;
-    while n < 940 && cells::cell(table, n, cells::KIND) != 0 {
+    let mut n = cells::ROWS;
+    while n < cells::LINES && cells::cell(table, n, cells::KIND) != 0 {
         if cells::has(near, cells::cell(table, n, cells::TO)) {
             found = cells::with(found, cells::cell(table, n, cells::FROM));
         }
@@ -39,13 +39,20 @@ fn near(table: &[u64], k: u64) -> u64 {
     found
 }
 
-// The least number of steps from an initial to a final state; 12 where there is no walk, since a shortest one meets no state twice.
+// No walk: a shortest one meets no state twice.
+const NONE: u64 = 64;
+
+// The least number of steps from an initial to a final state.
 fn walk_length(table: &[u64]) -> u64 {
     let initial = marked(table, 1);
     let mut found = marked(table, 2);
     let mut k = 0;
-    while k < 12 && found & initial == 0 {
-        found = one_step_more(table, found);
+    while k < NONE && found & initial == 0 {
+        let more = one_step_more(table, found);
+        if more == found {
+            return NONE;
+        }
+        found = more;
         k += 1;
     }
     k
@@ -53,12 +60,12 @@ fn walk_length(table: &[u64]) -> u64 {
 
 // Does a walk lead from an initial to a final state?
 pub fn is_accepted(table: &[u64]) -> bool {
-    walk_length(table) < 12
+    walk_length(table) < NONE
 }
 
 fn lowest(set: u64) -> u64 {
     let mut s = 0;
-    while s < 12 && !cells::has(set, s) {
+    while s < 64 && !cells::has(set, s) {
         s += 1;
     }
     s
@@ -87,9 +94,9 @@ fn is_on_way(table: &[u64], n: u64, s: u64, near: u64) -> bool {
 
 // The first step from `s` into `near`; a line past the table where there is none.
 fn first_step(table: &[u64], s: u64, near: u64) -> u64 {
-    let mut best = 940;
-    let mut n = 40;
-    while n < 940 && cells::cell(table, n, cells::KIND) != 0 {
+    let mut best = cells::LINES;
+    let mut n = cells::ROWS;
+    while n < cells::LINES && cells::cell(table, n, cells::KIND) != 0 {
         if is_on_way(table, n, s, near) && is_before(table, n, best) {
             best = n;
         }
@@ -121,7 +128,7 @@ fn put_steps(out: &mut [u8], place: usize, table: &[u64], start: u64, count: u64
 // The lines of the first shortest walk from an initial to a final state, none where there is no walk.
 pub fn put_walk(out: &mut [u8], place: usize, table: &[u64]) -> usize {
     let count = walk_length(table);
-    if count == 12 {
+    if count == NONE {
         return place;
     }
     let start = lowest(near(table, count) & marked(table, 1));

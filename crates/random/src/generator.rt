@@ -1,4 +1,4 @@
-// Random batches. A tower of sets, each with a state more than the one before, and limits between a set and the state that is added
+// Random automata. A tower of sets, each with a state more than the one before, and limits between a set and the state that is added
 // next: so a set loops only after the one below it, and it takes rounds.
 use crate::dice::choice;
 use crate::dice::next;
@@ -6,7 +6,7 @@ use std::num::wrapping_add_u64;
 use std::num::wrapping_sub_u64;
 
 // Puts a byte into the batch and answers the place after; what does not fit is dropped.
-fn put(batch: &mut [u8], place: usize, b: u64) -> usize {
+pub fn put(batch: &mut [u8], place: usize, b: u64) -> usize {
     if place < batch.len() {
         batch[place] = (b % 256) as u8;
         return place + 1;
@@ -27,7 +27,7 @@ fn put_step(batch: &mut [u8], place: usize, p: u64, letter: u64, q: u64) -> usiz
     put(batch, to, q)
 }
 
-fn put_set(batch: &mut [u8], place: usize, set: u64) -> usize {
+pub fn put_set(batch: &mut [u8], place: usize, set: u64) -> usize {
     let mut end = place;
     let mut left = 8u64;
     while left > 0 {
@@ -51,37 +51,39 @@ fn put_right(batch: &mut [u8], place: usize, s: u64, set: u64) -> usize {
     put_set(batch, body, set)
 }
 
-fn has(set: u64, s: u64) -> bool {
+pub fn has(set: u64, s: u64) -> bool {
     if s < 64 { (set >> s) & 1 == 1 } else { false }
 }
 
-fn with(set: u64, s: u64) -> u64 {
+pub fn with(set: u64, s: u64) -> u64 {
     if s < 64 { set | (1u64 << s) } else { set }
 }
 
-// A state of the set: the first of it from `s` on, round the ten states.
+// A state of the set: the first of it from `s` on, round the 16 states.
 fn member(set: u64, s: u64) -> u64 {
-    let mut t = s % 10;
-    let mut left = 10u64;
+    let mut t = s % 16;
+    let mut left = 16u64;
     while left > 0 && !has(set, t) {
-        t = wrapping_add_u64(t, 1) % 10;
+        t = wrapping_add_u64(t, 1) % 16;
         left -= 1;
     }
     t
 }
 
-// One of three letters.
+// One of four letters, the first and the last of all among them.
 fn letter(word: u64, k: u64) -> u64 {
-    wrapping_add_u64(97, choice(word, k, 3))
+    match choice(word, k, 4) {
+        0 => 0,
+        1 => 97,
+        2 => 98,
+        _ => 255,
+    }
 }
 
-// The letter step that makes a set loop with its newest state `s`, seldom left out. The state came by set → s, or by s → set.
+// The letter step that makes a set loop with its newest state `s`. The state came by set → s, or by s → set.
 fn put_return(batch: &mut [u8], place: usize, word: u64, set: u64, s: u64, by_left: bool) -> usize {
-    let t = member(set, choice(word, 0, 10));
+    let t = member(set, choice(word, 0, 16));
     let by = letter(word, 1);
-    if choice(word, 2, 9) == 0 {
-        return place;
-    }
     if by_left {
         return put_step(batch, place, s, by, t);
     }
@@ -102,7 +104,7 @@ fn put_gates(batch: &mut [u8], place: usize, word: u64, set: u64, s: u64) -> usi
         return place;
     }
     let end = put_left(batch, place, set, s);
-    put_right(batch, end, member(set, choice(word, 4, 10)), set)
+    put_right(batch, end, member(set, choice(word, 4, 16)), set)
 }
 
 // The state above, round the states.
@@ -121,20 +123,37 @@ fn down(states: u64, s: u64) -> u64 {
 }
 
 // The state to add next: mostly the next in the round of the states, else any.
-fn new_state(word: u64, states: u64, s: u64) -> u64 {
-    if choice(word, 5, 8) == 0 {
+fn new_state(word: u64, states: u64, s: u64, odds: u64) -> u64 {
+    if choice(word, 5, odds) == 0 {
         return choice(word, 6, states);
     }
     up(states, s)
 }
 
 // The set with its new state, or seldom a new tower on that state alone.
-fn grown(word: u64, set: u64, s: u64) -> u64 {
-    if choice(word, 0, 8) == 0 {
+fn grown(word: u64, set: u64, s: u64, odds: u64) -> u64 {
+    if choice(word, 0, odds) == 0 {
         with(0, s)
     } else {
         with(set, s)
     }
+}
+
+// What makes a set loop with its newest state, seldom left out, and what may make it mix.
+fn put_floor(
+    batch: &mut [u8],
+    place: usize,
+    word: u64,
+    set: u64,
+    s: u64,
+    by_left: bool,
+    odds: u64,
+) -> usize {
+    if choice(word, 2, odds) == 0 {
+        return put_gates(batch, place, word, set, s);
+    }
+    let end = put_return(batch, place, word, set, s, by_left);
+    put_gates(batch, end, word, set, s)
 }
 
 // The end of the batch, and the state that was added last.
@@ -143,7 +162,8 @@ struct Built {
     last: u64,
 }
 
-// The rows of towers with this many floors, from the state `first` on; mostly all limits have the same side.
+// The rows of towers with this many floors, from the state `first` on; mostly all limits have the same side, and each floor has its
+// return, its own set and the next state: `odds` says how mostly.
 fn put_towers(
     batch: &mut [u8],
     start: u64,
@@ -151,6 +171,7 @@ fn put_towers(
     first: u64,
     floors: u64,
     by_left: bool,
+    odds: u64,
 ) -> Built {
     let mut end = 0;
     let mut word = start;
@@ -159,13 +180,12 @@ fn put_towers(
     let mut left_side = by_left;
     let mut left = floors;
     while left > 0 {
-        end = put_return(batch, end, word, set, s, left_side);
-        end = put_gates(batch, end, word, set, s);
-        s = new_state(word, states, s);
-        left_side = by_left == (choice(word, 7, 8) != 0);
+        end = put_floor(batch, end, word, set, s, left_side, odds);
+        s = new_state(word, states, s, odds);
+        left_side = by_left == (choice(word, 7, odds) != 0);
         end = put_limit(batch, end, set, s, left_side);
         word = next(word);
-        set = grown(word, set, s);
+        set = grown(word, set, s, odds);
         left -= 1;
     }
     Built { end, last: s }
@@ -233,29 +253,36 @@ fn put_end(
     put_marks(batch, path.end, next(word ^ 2), states, from, path.last)
 }
 
-// How many states: 3 to 10.
+// How many states: 3 to 16.
 fn states_of(word: u64) -> u64 {
-    wrapping_add_u64(3, choice(word, 0, 8))
+    wrapping_add_u64(3, choice(word, 0, 14))
 }
 
-// How many floors: 1 to 7, and fewer than states.
+// How many floors: fewer than states.
 fn floors_of(word: u64, states: u64) -> u64 {
-    let most = if states < 8 {
-        wrapping_sub_u64(states, 1)
-    } else {
-        7
-    };
-    wrapping_add_u64(1, choice(word, 3, most))
+    wrapping_add_u64(1, choice(word, 3, wrapping_sub_u64(states, 1)))
 }
 
-// Writes the batch of an automaton and answers its length: at most 7 sets and 28 + 4 + 4 rows.
-pub fn automaton(seed: u64, batch: &mut [u8]) -> usize {
-    let word = next(next(seed));
+// One time in how many a floor is unlike the others: in half of the automata seldom, so that high towers stand.
+fn odds_of(word: u64) -> u64 {
+    if choice(word, 5, 2) == 0 { 8 } else { 200 }
+}
+
+// Writes the batch of an automaton and answers its length: at most 15 sets and 60 + 15 + 4 rows.
+pub fn automaton(word: u64, batch: &mut [u8]) -> usize {
     let states = states_of(word);
     let floors = floors_of(word, states);
     let first = choice(word, 1, states);
     let by_left = choice(word, 2, 2) == 0;
-    let built = put_towers(batch, next(word), states, first, floors, by_left);
+    let built = put_towers(
+        batch,
+        next(word),
+        states,
+        first,
+        floors,
+        by_left,
+        odds_of(word),
+    );
     // Few enough steps that the path does not come round to the tower again.
     let room = wrapping_sub_u64(states, floors);
     // Limits of the one side lead up the tower, those of the other down.

@@ -1,55 +1,78 @@
-// Random automata with nested limits, from a fixed seed: the engine's sheet against that of the plain second search.
+// Random automata with nested limits, and spoiled batches, from a fixed seed: the engine's sheet or refusal against that of the plain
+// second search.
+mod batches;
 mod dice;
 mod generator;
+mod naming;
+mod seen;
 mod tally;
 
 use program_output::first;
 
-// How many automata are tried.
-const AUTOMATA: u64 = 6000;
+// How many batches are made.
+const BATCHES: u64 = 6000;
 
-// Compares the sheets and counts what they say.
-fn tell(batch: &[u8], ours: &[u8], theirs: &[u8], counts: &mut [u64]) {
-    tally::compare(batch, ours, theirs, counts);
-    tally::count(ours, counts);
-}
-
-// Tries one batch.
-fn try_batch(batch: &[u8], ours: &mut [u8], theirs: &mut [u8], counts: &mut [u64]) {
+// What the engine makes of one batch against what the plain search makes of the other.
+fn run_pair(
+    batch: &[u8],
+    other: &[u8],
+    told: usize,
+    ours: &mut [u8],
+    theirs: &mut [u8],
+    counts: &mut [u64],
+) {
     let n = checker::show(batch, ours);
-    let m = plain::sheet(batch, theirs);
-    tell(batch, first(ours, n), first(theirs, m), counts);
+    let m = plain::sheet(other, theirs);
+    tally::tell(batch, first(ours, n), first(theirs, m), told, counts);
 }
 
-// The first `n` bytes of a buffer are the batch.
-fn try_part(buffer: &[u8], n: usize, counts: &mut [u64]) {
+fn try_pair(batch: &[u8], other: &[u8], told: usize, counts: &mut [u64]) {
     let mut ours = [0u8; 6400];
     let mut theirs = [0u8; 6400];
-    try_batch(first(buffer, n), &mut ours, &mut theirs, counts);
+    run_pair(batch, other, told, &mut ours, &mut theirs, counts);
 }
 
-fn try_buffer(seed: u64, buffer: &mut [u8], counts: &mut [u64]) {
-    let n = generator::automaton(seed, buffer);
-    try_part(buffer, n, counts);
+// Tries one batch; and of some also that it is told from the same batch without its last row.
+fn try_batch(batch: &[u8], turn: u64, counts: &mut [u64]) {
+    try_pair(batch, batch, tally::DIFFERENT, counts);
+    if turn % 64 == 0 {
+        let n = std::num::wrapping_sub_usize(batch.len(), 2);
+        try_pair(batch, first(batch, n), tally::TOLD, counts);
+    }
 }
 
-fn try_one(seed: u64, counts: &mut [u64]) {
-    let mut buffer = [0u8; 512];
-    try_buffer(seed, &mut buffer, counts);
+// Tries a batch that was not tried before.
+fn try_new(batch: &[u8], turn: u64, seen: &mut [u64], counts: &mut [u64]) {
+    if seen::is_new(seen, batches::digest(batch)) {
+        try_batch(batch, turn, counts);
+    } else {
+        tally::repeated(counts);
+    }
 }
 
-fn try_all(counts: &mut [u64]) {
+fn try_buffer(seed: u64, buffer: &mut [u8], turn: u64, seen: &mut [u64], counts: &mut [u64]) {
+    let n = batches::write(seed, buffer);
+    try_new(first(buffer, n), turn, seen, counts);
+}
+
+fn try_one(seed: u64, turn: u64, seen: &mut [u64], counts: &mut [u64]) {
+    let mut buffer = [0u8; 1024];
+    try_buffer(seed, &mut buffer, turn, seen, counts);
+}
+
+fn try_all(seen: &mut [u64], counts: &mut [u64]) {
     let mut seed = 2026u64;
-    let mut left = AUTOMATA;
+    let mut left = BATCHES;
     while left > 0 {
-        try_one(seed, counts);
+        try_one(seed, left, seen, counts);
         seed = dice::next_seed(seed);
         left -= 1;
     }
 }
 
 fn run(counts: &mut [u64]) {
-    try_all(counts);
+    let mut seen = [0u64; 16384];
+    try_all(&mut seen, counts);
     tally::report(counts);
 }
 

@@ -1,4 +1,5 @@
-// Comparing sheets, and counting what they say. The counts: 0 to 39 by rounds; then empty, non-empty, openings, longest walk, different.
+// Comparing sheets, and counting what they say. The counts: 0 to 39 by rounds; then empty, non-empty, openings, longest walk, different,
+// told different as they must be, pairs that must be, repeated; from 50 on the refusals by number.
 use program_output::say;
 use program_output::say_count;
 
@@ -10,7 +11,15 @@ const OPENINGS: usize = 42;
 
 const LONGEST: usize = 43;
 
-const DIFFERENT: usize = 44;
+pub const DIFFERENT: usize = 44;
+
+pub const TOLD: usize = 45;
+
+const PAIRS: usize = 46;
+
+const REPEATED: usize = 47;
+
+const REFUSED: usize = 50;
 
 // The byte of a sheet at `i`, 0 past its end.
 fn byte(sheet: &[u8], i: usize) -> u8 {
@@ -105,28 +114,72 @@ fn count_lines(sheet: &[u8], counts: &mut [u64]) {
     set(counts, LONGEST, longest);
 }
 
+// Counts a refusal: `refused ` has 8 bytes.
+fn count_refusal(sheet: &[u8], counts: &mut [u64]) {
+    add(
+        counts,
+        std::num::wrapping_add_usize(REFUSED, value(byte(sheet, 8))),
+        1,
+    );
+}
+
+// Counts a batch that was tried before.
+pub fn repeated(counts: &mut [u64]) {
+    add(counts, REPEATED, 1);
+}
+
 // Counts what a sheet says.
-pub fn count(sheet: &[u8], counts: &mut [u64]) {
+fn count_sheet(sheet: &[u8], counts: &mut [u64]) {
     add(counts, rounds(sheet), 1);
     add(counts, verdict(sheet), 1);
     count_lines(sheet, counts);
 }
 
-// The line of a count of rounds, if it came up.
-fn report_round(counts: &[u64], k: usize) {
-    let n = get(counts, k);
+// Counts what the engine wrote.
+fn count(sheet: &[u8], counts: &mut [u64]) {
+    if byte(sheet, 0) == b'r' {
+        count_refusal(sheet, counts);
+    } else {
+        count_sheet(sheet, counts);
+    }
+}
+
+// A line with a word, a number and the count at a place, if it is not 0.
+fn report_line(counts: &[u64], word: &[u8], k: u64, at: usize) {
+    let n = get(counts, at);
     if n == 0 {
         return;
     }
-    say(b"rounds ");
-    program_output::say_number(k as u64);
+    say(word);
+    program_output::say_number(k);
     say_count(b": ", n);
+}
+
+fn report_round(counts: &[u64], k: usize) {
+    report_line(counts, b"rounds ", k as u64, k);
 }
 
 fn report_rounds(counts: &[u64]) {
     let mut k = 0;
     while k < 40 {
         report_round(counts, k);
+        k += 1;
+    }
+}
+
+fn report_refusal(counts: &[u64], k: usize) {
+    report_line(
+        counts,
+        b"refused ",
+        k as u64,
+        std::num::wrapping_add_usize(REFUSED, k),
+    );
+}
+
+fn report_refusals(counts: &[u64]) {
+    let mut k = 0;
+    while k < 10 {
+        report_refusal(counts, k);
         k += 1;
     }
 }
@@ -149,18 +202,25 @@ fn report_verdicts(counts: &[u64]) {
 fn report_sheets(counts: &[u64]) {
     report_count(b"openings ", counts, OPENINGS);
     report_count(b"longest walk ", counts, LONGEST);
+    report_count(b"passed over, as tried before ", counts, REPEATED);
+}
+
+fn report_differences(counts: &[u64]) {
     report_count(b"different ", counts, DIFFERENT);
+    report_count(b"pairs of different batches ", counts, PAIRS);
+    report_count(b"told different ", counts, TOLD);
 }
 
 pub fn report(counts: &[u64]) {
     report_verdicts(counts);
     report_rounds(counts);
+    report_refusals(counts);
     report_sheets(counts);
+    report_differences(counts);
 }
 
-// The first difference: how many automata came before it, the batch and both sheets.
-fn show(batch: &[u8], ours: &[u8], theirs: &[u8], before: u64) {
-    say_count(b"different after ", before);
+// A difference: the batch and both sheets.
+fn show(batch: &[u8], ours: &[u8], theirs: &[u8]) {
     program_output::say_hex(batch);
     say(b"\nthe engine's sheet:\n");
     say(ours);
@@ -168,13 +228,23 @@ fn show(batch: &[u8], ours: &[u8], theirs: &[u8], before: u64) {
     say(theirs);
 }
 
-// Compares the sheets, counts a difference, and shows the first.
-pub fn compare(batch: &[u8], ours: &[u8], theirs: &[u8], counts: &mut [u64]) {
+// Compares the sheets, and counts a difference where it is told.
+fn compare(batch: &[u8], ours: &[u8], theirs: &[u8], told: usize, counts: &mut [u64]) {
     if program_output::same(ours, theirs) {
         return;
     }
-    if get(counts, DIFFERENT) == 0 {
-        show(batch, ours, theirs, tried(counts));
+    add(counts, told, 1);
+    if told == DIFFERENT && get(counts, DIFFERENT) == 1 {
+        show(batch, ours, theirs);
     }
-    add(counts, DIFFERENT, 1);
+}
+
+// Compares the sheets, and counts what they say, or a pair that is to be told different.
+pub fn tell(batch: &[u8], ours: &[u8], theirs: &[u8], told: usize, counts: &mut [u64]) {
+    compare(batch, ours, theirs, told, counts);
+    if told == DIFFERENT {
+        count(ours, counts);
+    } else {
+        add(counts, PAIRS, 1);
+    }
 }

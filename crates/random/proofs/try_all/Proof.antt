@@ -7,25 +7,16 @@ use Rattle.random.proofs.try_all.Statement.{statement}
 use Rattle.random.proofs.try_all.Tie as tie
 
 abbrev Inv-loop : tie.InvT-loop
-Inv-loop counts₀ seed₀ left₀ counts seed left = length counts ≡ length counts₀
+Inv-loop seen₀ counts₀ seed₀ left₀ seen counts seed left = (length seen ≡ length seen₀) × (length counts ≡ length counts₀)
 
 abbrev μ-loop : tie.MeasureT-loop
-μ-loop counts₀ seed₀ left₀ counts seed left = left
-
-try-one-requires : tie.Need-try-one-requires Inv-loop μ-loop
-try-one-requires c κs = tt
-
-next-seed-requires : tie.Need-next-seed-requires Inv-loop μ-loop
-next-seed-requires c κs = tt
+μ-loop seen₀ counts₀ seed₀ left₀ seen counts seed left = left
 
 sub-left : tie.Need-sub-left Inv-loop μ-loop
 sub-left c = omega arith
 
 loop-less : tie.Need-loop-less Inv-loop μ-loop
 loop-less c = omega arith
-
-returns : tie.Need-returns Inv-loop μ-loop
-returns c = tt
 
 pub try-all-spec : {M : Type 1} → statement M
 try-all-spec =
@@ -34,10 +25,11 @@ try-all-spec =
     Inv-loop
     μ-loop
     (λ c. search needs)
-    try-one-requires
-    next-seed-requires
+    (λ c κs. tt)
+    (λ c κs. tt)
     sub-left
     loop-less
     (λ c. search needs)
     (λ c. search needs)
-    returns)
+    (λ c. search needs)
+    (λ c. tt))

@@ -8,25 +8,16 @@ use Rattle.plain.proofs.claims.close_links.Statement.{statement}
 use Rattle.plain.proofs.claims.close_links.Tie as tie
 
 abbrev Inv-loop : tie.InvT-loop
-Inv-loop links₀ k₀ links k = (k ≤ 144) × (length links ≡ length links₀)
+Inv-loop links₀ p k₀ links k = (k ≤ 64) × (length links ≡ length links₀)
 
 abbrev μ-loop : tie.MeasureT-loop
-μ-loop links₀ k₀ links k = 144 - k
-
-middle-added-requires : tie.Need-middle-added-requires Inv-loop μ-loop
-middle-added-requires c κs = tt
-
-put-requires : tie.Need-put-requires Inv-loop μ-loop
-put-requires c κs = tt
+μ-loop links₀ p k₀ links k = 64 - k
 
 add-k : tie.Need-add-k Inv-loop μ-loop
 add-k c = omega arith
 
 loop-less : tie.Need-loop-less Inv-loop μ-loop
 loop-less c = omega arith
-
-returns : tie.Need-returns Inv-loop μ-loop
-returns c = tt
 
 pub close-links-spec : {M : Type 1} → statement M
 close-links-spec =
@@ -35,10 +26,9 @@ close-links-spec =
     Inv-loop
     μ-loop
     (λ c. search needs)
-    middle-added-requires
-    put-requires
+    (λ c κs. tt)
     add-k
     loop-less
     (λ c. search needs)
     (λ c. search needs)
-    returns)
+    (λ c. tt))

@@ -5,28 +5,16 @@ use Rattle.plain.proofs.claims.is_on_piece.Statement.{statement}
 use Rattle.plain.proofs.claims.is_on_piece.Tie as tie
 
 abbrev Inv-loop : tie.InvT-loop
-Inv-loop links entrances exits s k₀ k = k ≤ 144
+Inv-loop links entrances exits s ends e₀ e = e ≤ 64
 
 abbrev μ-loop : tie.MeasureT-loop
-μ-loop links entrances exits s k₀ k = 144 - k
+μ-loop links entrances exits s ends e₀ e = 64 - e
 
 loop-holds : tie.Need-loop-holds Inv-loop μ-loop
 loop-holds c = omega arith
 
-has-requires : tie.Need-has-requires Inv-loop μ-loop
-has-requires c κs = tt
-
-has-requires-2 : tie.Need-has-requires-2 Inv-loop μ-loop
-has-requires-2 c κs = tt
-
-is-between-requires : tie.Need-is-between-requires Inv-loop μ-loop
-is-between-requires c κs = tt
-
-returns : tie.Need-returns Inv-loop μ-loop
-returns c = tt
-
-add-k : tie.Need-add-k Inv-loop μ-loop
-add-k c = omega arith
+add-e : tie.Need-add-e Inv-loop μ-loop
+add-e c = omega arith
 
 loop-less : tie.Need-loop-less Inv-loop μ-loop
 loop-less c = omega arith
@@ -34,21 +22,19 @@ loop-less c = omega arith
 loop-again : tie.Need-loop-again Inv-loop μ-loop
 loop-again c = omega arith
 
-returns-2 : tie.Need-returns-2 Inv-loop μ-loop
-returns-2 c = tt
-
 pub is-on-piece-spec : {M : Type 1} → statement M
 is-on-piece-spec =
     tie.close
     (tie.spec
     Inv-loop
     μ-loop
+    (λ c κs. tt)
+    (λ c κs. tt)
     loop-holds
-    has-requires
-    has-requires-2
-    is-between-requires
-    returns
-    add-k
+    (λ c κs. tt)
+    (λ c κs. tt)
+    (λ c. tt)
+    add-e
     loop-less
     loop-again
-    returns-2)
+    (λ c. tt))

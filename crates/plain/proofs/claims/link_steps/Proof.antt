@@ -8,10 +8,10 @@ use Rattle.plain.proofs.claims.link_steps.Statement.{statement}
 use Rattle.plain.proofs.claims.link_steps.Tie as tie
 
 abbrev Inv-loop : tie.InvT-loop
-Inv-loop table p links₀ n₀ links n = (n ≤ 940) × (length links ≡ length links₀)
+Inv-loop table p links₀ n₀ links n = (n ≤ 1100) × (length links ≡ length links₀)
 
 abbrev μ-loop : tie.MeasureT-loop
-μ-loop table p links₀ n₀ links n = 940 - n
+μ-loop table p links₀ n₀ links n = 1100 - n
 
 cell-requires : tie.Need-cell-requires Inv-loop μ-loop
 cell-requires c κs = tt

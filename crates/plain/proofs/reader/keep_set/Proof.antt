@@ -8,10 +8,10 @@ use Rattle.plain.proofs.reader.keep_set.Statement.{statement}
 use Rattle.plain.proofs.reader.keep_set.Tie as tie
 
 abbrev Inv-loop : tie.InvT-loop
-Inv-loop table₀ set carried₀ i₀ table carried i = (i ≤ 16) × (length table ≡ length table₀)
+Inv-loop table₀ set carried₀ i₀ table carried i = (i ≤ 32) × (length table ≡ length table₀)
 
 abbrev μ-loop : tie.MeasureT-loop
-μ-loop table₀ set carried₀ i₀ table carried i = 16 - i
+μ-loop table₀ set carried₀ i₀ table carried i = 32 - i
 
 keep-at-requires : tie.Need-keep-at-requires Inv-loop μ-loop
 keep-at-requires c κs = tt

@@ -8,10 +8,10 @@ use Rattle.plain.proofs.settling.round.Statement.{statement}
 use Rattle.plain.proofs.settling.round.Tie as tie
 
 abbrev Inv-loop : tie.InvT-loop
-Inv-loop table₀ k any₀ i₀ table any i = (i ≤ 16) × (length table ≡ length table₀)
+Inv-loop table₀ k any₀ i₀ table any i = (i ≤ 32) × (length table ≡ length table₀)
 
 abbrev μ-loop : tie.MeasureT-loop
-μ-loop table₀ k any₀ i₀ table any i = 16 - i
+μ-loop table₀ k any₀ i₀ table any i = 32 - i
 
 test-set-requires : tie.Need-test-set-requires Inv-loop μ-loop
 test-set-requires c κs = tt

@@ -8,10 +8,10 @@ use Rattle.plain.proofs.settling.settle.Statement.{statement}
 use Rattle.plain.proofs.settling.settle.Tie as tie
 
 abbrev Inv-loop : tie.InvT-loop
-Inv-loop table₀ k₀ table k = (k ≤ 34) × (length table ≡ length table₀)
+Inv-loop table₀ k₀ table k = (k ≤ 65) × (length table ≡ length table₀)
 
 abbrev μ-loop : tie.MeasureT-loop
-μ-loop table₀ k₀ table k = 34 - k
+μ-loop table₀ k₀ table k = 65 - k
 
 make-steps-requires : tie.Need-make-steps-requires Inv-loop μ-loop
 make-steps-requires c κs = tt

@@ -5,10 +5,10 @@ use Rattle.plain.proofs.steps.is_open.Statement.{statement}
 use Rattle.plain.proofs.steps.is_open.Tie as tie
 
 abbrev Inv-loop : tie.InvT-loop
-Inv-loop table base set i₀ i = i ≤ 16
+Inv-loop table base set i₀ i = i ≤ 32
 
 abbrev μ-loop : tie.MeasureT-loop
-μ-loop table base set i₀ i = 16 - i
+μ-loop table base set i₀ i = 32 - i
 
 loop-holds : tie.Need-loop-holds Inv-loop μ-loop
 loop-holds c = omega arith

@@ -8,25 +8,16 @@ use Rattle.plain.proofs.steps.make_steps.Statement.{statement}
 use Rattle.plain.proofs.steps.make_steps.Tie as tie
 
 abbrev Inv-loop : tie.InvT-loop
-Inv-loop table₀ n₀ k₀ table n k = (k ≤ 2080) × (length table ≡ length table₀)
+Inv-loop table₀ n₀ row₀ table n row = (row ≤ 80) × (length table ≡ length table₀)
 
 abbrev μ-loop : tie.MeasureT-loop
-μ-loop table₀ n₀ k₀ table n k = 2080 - k
+μ-loop table₀ n₀ row₀ table n row = 80 - row
 
-step-of-requires : tie.Need-step-of-requires Inv-loop μ-loop
-step-of-requires c κs = tt
-
-add-step-requires : tie.Need-add-step-requires Inv-loop μ-loop
-add-step-requires c κs = tt
-
-add-k : tie.Need-add-k Inv-loop μ-loop
-add-k c = omega arith
+add-row : tie.Need-add-row Inv-loop μ-loop
+add-row c = omega arith
 
 loop-less : tie.Need-loop-less Inv-loop μ-loop
 loop-less c = omega arith
-
-returns : tie.Need-returns Inv-loop μ-loop
-returns c = tt
 
 pub make-steps-spec : {M : Type 1} → statement M
 make-steps-spec =
@@ -35,10 +26,9 @@ make-steps-spec =
     Inv-loop
     μ-loop
     (λ c. search needs)
-    step-of-requires
-    add-step-requires
-    add-k
+    (λ c κs. tt)
+    add-row
     loop-less
     (λ c. search needs)
     (λ c. search needs)
-    returns)
+    (λ c. tt))

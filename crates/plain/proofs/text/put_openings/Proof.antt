@@ -8,10 +8,10 @@ use Rattle.plain.proofs.text.put_openings.Statement.{statement}
 use Rattle.plain.proofs.text.put_openings.Tie as tie
 
 abbrev Inv-loop : tie.InvT-loop
-Inv-loop out₀ place table end₀ n₀ out end n = (n ≤ 544) × (length out ≡ length out₀)
+Inv-loop out₀ place table end₀ n₀ out end n = (n ≤ 2080) × (length out ≡ length out₀)
 
 abbrev μ-loop : tie.MeasureT-loop
-μ-loop out₀ place table end₀ n₀ out end n = 544 - n
+μ-loop out₀ place table end₀ n₀ out end n = 2080 - n
 
 add-put-opening : tie.Need-add-put-opening Inv-loop μ-loop
 add-put-opening c = omega arith

@@ -1,10 +1,4 @@
 -- `random::generator::put_towers` is safe and ends. The invariant keeps the counter within its bound and the lengths of what is lent; the measure is what is left to count.
-use native.Mathlib.Omega.{arith}
-use lib.ListN.{length}
-use mathlib.Core.Path.{_≡_}
-use native.Mathlib.Omega.{arith}
-use lib.ListN.{length}
-use mathlib.Core.Path.{_≡_}
 use borrow.Author.Needs.{needs}
 use native.Mathlib.Omega.{arith}
 use lib.ListN.{length}
@@ -13,34 +7,13 @@ use Rattle.random.proofs.generator.put_towers.Statement.{statement}
 use Rattle.random.proofs.generator.put_towers.Tie as tie
 
 abbrev Inv-loop : tie.InvT-loop
-Inv-loop batch₀ start states first floors by-left end₀ word₀ set₀ s₀ left-side₀ left₀ batch end word set s left-side left = length batch ≡ length batch₀
+Inv-loop batch₀ start states first floors by-left odds end₀ word₀ set₀ s₀ left-side₀ left₀ batch end word set s left-side left = length batch ≡ length batch₀
 
 abbrev μ-loop : tie.MeasureT-loop
-μ-loop batch₀ start states first floors by-left end₀ word₀ set₀ s₀ left-side₀ left₀ batch end word set s left-side left = left
+μ-loop batch₀ start states first floors by-left odds end₀ word₀ set₀ s₀ left-side₀ left₀ batch end word set s left-side left = left
 
-with-requires : tie.Need-with-requires Inv-loop μ-loop
-with-requires c κs = tt
-
-put-return-requires : tie.Need-put-return-requires Inv-loop μ-loop
-put-return-requires c κs = tt
-
-put-gates-requires : tie.Need-put-gates-requires Inv-loop μ-loop
-put-gates-requires c κs = tt
-
-new-state-requires : tie.Need-new-state-requires Inv-loop μ-loop
-new-state-requires c κs = tt
-
-choice-requires : tie.Need-choice-requires Inv-loop μ-loop
-choice-requires c κs = tt
-
-put-limit-requires : tie.Need-put-limit-requires Inv-loop μ-loop
-put-limit-requires c κs = tt
-
-next-requires : tie.Need-next-requires Inv-loop μ-loop
-next-requires c κs = tt
-
-grown-requires : tie.Need-grown-requires Inv-loop μ-loop
-grown-requires c κs = tt
+loop-holds : tie.Need-loop-holds Inv-loop μ-loop
+loop-holds c = search needs
 
 sub-left : tie.Need-sub-left Inv-loop μ-loop
 sub-left c = omega arith
@@ -48,8 +21,8 @@ sub-left c = omega arith
 loop-less : tie.Need-loop-less Inv-loop μ-loop
 loop-less c = omega arith
 
-returns : tie.Need-returns Inv-loop μ-loop
-returns c = tt
+loop-again : tie.Need-loop-again Inv-loop μ-loop
+loop-again c = search needs
 
 pub put-towers-spec : {M : Type 1} → statement M
 put-towers-spec =
@@ -57,17 +30,16 @@ put-towers-spec =
     (tie.spec
     Inv-loop
     μ-loop
-    with-requires
-    (λ c. search needs)
-    put-return-requires
-    put-gates-requires
-    new-state-requires
-    choice-requires
-    put-limit-requires
-    next-requires
-    grown-requires
+    (λ c κs. tt)
+    loop-holds
+    (λ c κs. tt)
+    (λ c κs. tt)
+    (λ c κs. tt)
+    (λ c κs. tt)
+    (λ c κs. tt)
+    (λ c κs. tt)
     sub-left
     loop-less
+    loop-again
     (λ c. search needs)
-    (λ c. search needs)
-    returns)
+    (λ c. tt))

@@ -1,0 +1,37 @@
+-- `random::naming::set_at` is safe and ends. The invariant keeps the counter within its bound and the lengths of what is lent; the measure is what is left to count.
+use native.Mathlib.Omega.{arith}
+use Prim.Native.Nat.{_≤_, _-_}
+use Rattle.random.proofs.naming.set_at.Statement.{statement}
+use Rattle.random.proofs.naming.set_at.Tie as tie
+
+abbrev Inv-loop : tie.InvT-loop
+Inv-loop batch at set₀ i₀ set i = i ≤ 8
+
+abbrev μ-loop : tie.MeasureT-loop
+μ-loop batch at set₀ i₀ set i = 8 - i
+
+loop-holds : tie.Need-loop-holds Inv-loop μ-loop
+loop-holds c = omega arith
+
+add-i : tie.Need-add-i Inv-loop μ-loop
+add-i c = omega arith
+
+loop-less : tie.Need-loop-less Inv-loop μ-loop
+loop-less c = omega arith
+
+loop-again : tie.Need-loop-again Inv-loop μ-loop
+loop-again c = omega arith
+
+pub set-at-spec : {M : Type 1} → statement M
+set-at-spec =
+    tie.close
+    (tie.spec
+    Inv-loop
+    μ-loop
+    loop-holds
+    (λ c κs. tt)
+    (λ c κs. tt)
+    add-i
+    loop-less
+    loop-again
+    (λ c. tt))
