@@ -6,11 +6,10 @@ use native.Mathlib.Omega.{arith}
 use lib.ListN.{length, getD, take, set, replicate, length-append, length-map}
 use lib.Seq.{take-suc, take-suc-set, length-take-le, set-at, append-snoc}
 use Rattle.rows.specs.declared.Row.{Row}
-use Rattle.rows.specs.declared.Row.the-variants.{Initial}
 use Rattle.rows.specs.Rows.{AllFit}
 use Rattle.rows.specs.Keys.{high, low, row-from}
 use Rattle.row_table.specs.Arrays.{padded, Keyed}
-use Rattle.row_table.proofs.Keys.{row-there}
+use Rattle.row_table.proofs.Keys.{row-next}
 use Rattle.session.specs.declared.Slot.{Slot}
 use Rattle.session.specs.Record.{slot, blank}
 use Rattle.session.specs.Standing.{first-rows}
@@ -49,10 +48,8 @@ module _ (rows : List Row) (fit : AllFit rows) (highs lows : List ℕ) (n : ℕ)
   pub slot-more : (i : ℕ) → i < n → n ≤ 256
       → set (padded 256 blank (map slot (take i rows))) i (slot (row-from (getD highs i 0) (getD lows i 0))) ≡ padded 256 blank (map slot (take (i + 1) rows))
   slot-more i h g =
-      let k : i < length rows = omega (arith, keyed .count) in
-      let e : length (map slot (take i rows)) ≡ i = length-map (take i rows) slot ∙ length-take-le i rows (omega arith) in
-      let f : take (i + 1) rows ≡ take i rows ++ (getD rows i (Initial 0) ∷ []) = let z : i + 1 ≡ suc i = omega arith in rw z (take-suc rows i (Initial 0) k) in
-      ap (λ (r : Row). set (padded 256 blank (map slot (take i rows))) i (slot r)) (row-there rows fit highs lows n keyed i h)
-      ∙ ap (λ (j : ℕ). set (padded 256 blank (map slot (take i rows))) j (slot (getD rows i (Initial 0)))) (sym e)
-      ∙ padded-more 256 blank (map slot (take i rows)) (slot (getD rows i (Initial 0))) (omega (arith, e))
-      ∙ ap (λ (x : List Slot). padded 256 blank x) (sym (map-append slot (take i rows) (getD rows i (Initial 0) ∷ [])) ∙ ap (map slot) (sym f))
+      let r = row-from (getD highs i 0) (getD lows i 0) in
+      let e : length (map slot (take i rows)) ≡ i = length-map (take i rows) slot ∙ length-take-le i rows (omega (arith, keyed .count)) in
+      ap (λ (j : ℕ). set (padded 256 blank (map slot (take i rows))) j (slot r)) (sym e)
+      ∙ padded-more 256 blank (map slot (take i rows)) (slot r) (omega (arith, e))
+      ∙ ap (λ (x : List Slot). padded 256 blank x) (sym (map-append slot (take i rows) (r ∷ [])) ∙ ap (map slot) (sym (row-next rows fit highs lows n keyed i h)))
