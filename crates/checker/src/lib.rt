@@ -1,29 +1,17 @@
 // One batch in, one sheet out.
-use automaton::Automaton;
 use machine::Answer;
 use machine::LONGEST_BATCH;
 use machine::LONGEST_SHEET;
 use machine::MOST_ROWS;
 use machine::MOST_SETS;
 use machine::Phase;
-use rounds::Progress;
 ghost use Prim.Native.Nat.{_≤_};
-ghost use Rattle.rounds.specs.Promises.{Settles};
-ghost use Rattle.search.specs.Graph.{graph-of};
 ghost use Rattle.checker.specs.Promise.{Finishes, Checks, ShowsSheet, Told};
 
 // A text at the start of an array that has room for any that the program writes, and its length.
 pub struct Written {
     pub text: [u8; LONGEST_SHEET],
     pub length: usize,
-}
-
-// The rounds of the automaton, until it is settled.
-fn settled(a: Automaton, set_count: usize) -> Progress
-    requires { ⌜ «set_count» ≤ 64 ⌝ }
-    ensures { λ r. ⌜ Settles (graph-of (a .graph)) (a .initials) (a .finals) «set_count» r ⌝ }
-{
-    rounds::settle(&a.graph, a.initials, a.finals, set_count)
 }
 
 // Closes the table that the arrays hold, settles it and prints its sheet.
@@ -40,7 +28,8 @@ fn finish(
         (now (sheet .entry)) (now (sheet .exit)) r ⌝ }
 {
     let a = automaton::of_keys(high, low, row_count, sets, set_count);
-    let done = settled(a, set_count);
+    let graph = a.graph;
+    let done = rounds::settle(&graph, a.initials, a.finals, set_count);
     let phase = done.phase;
     match phase {
         Phase::Open => Answer::Refused(9, 0),
@@ -53,7 +42,9 @@ fn finish(
             row_count,
             sets,
             set_count,
-            a,
+            &graph,
+            a.initials,
+            a.finals,
             done,
         ),
     }

@@ -22,8 +22,21 @@ impl Session {
         let high = keys.high;
         let low = keys.low;
         let a = self.automaton();
+        let graph = a.graph;
         let kept = self.kept();
-        let answer = whole_sheet::print(buffer, v, &high, &low, n, &sets, k, a, kept);
+        let answer = whole_sheet::print(
+            buffer,
+            v,
+            &high,
+            &low,
+            n,
+            &sets,
+            k,
+            &graph,
+            a.initials,
+            a.finals,
+            kept,
+        );
         Reply {
             session: self,
             answer,

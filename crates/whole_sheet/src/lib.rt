@@ -1,7 +1,6 @@
 // The sheet of a settled automaton, written from its keys, its sets, its masks and its rounds into a lent buffer; in `saved`, its rows.
 pub mod saved;
 
-use automaton::Automaton;
 use machine::Answer;
 use machine::MOST_ROWS;
 use machine::MOST_SETS;
@@ -11,6 +10,7 @@ use rounds::Progress;
 use search::Claims;
 use search::graphs;
 use search::graphs::MASKS;
+use search::graphs::Masks;
 use walks::FoundWalk;
 ghost use mathlib.Core.Path.{_≡_};
 ghost use mathlib.Core.Option.{some};
@@ -24,7 +24,7 @@ ghost use Rattle.machine.specs.Calls.{TellsText};
 ghost use Rattle.walks.specs.Walks.{as-found, Bounded};
 ghost use Rattle.sheet_parts.specs.Openings.{openings-in};
 ghost use Rattle.whole_sheet.specs.Text.{head-text, walked-text};
-ghost use Rattle.whole_sheet.specs.Promise.{FindsWalk, PrintsSheet};
+ghost use Rattle.whole_sheet.specs.Promise.{automaton-of, FindsWalk, PrintsSheet};
 
 // Writes the lines of the openings from `at` on, and returns the next place.
 fn openings_at(
@@ -92,21 +92,24 @@ fn first_walk(
     low: &[u64; MOST_ROWS],
     row_count: usize,
     set_count: usize,
-    a: Automaton,
+    graph: &Masks,
+    initials: Set,
+    finals: Set,
     rounds: Progress,
 ) -> FoundWalk
     requires { ⌜ («row_count» ≤ 256) × («set_count» ≤ 64) ⌝ }
     ensures bounded { λ r. ⌜ Bounded r ⌝ }
-    ensures finds { λ r. ⌜ FindsWalk (now (high .entry)) (now (low .entry)) «row_count» «set_count» a rounds r ⌝ }
+    ensures finds { λ r. ⌜ FindsWalk (now (high .entry)) (now (low .entry)) «row_count» «set_count»
+        (automaton-of (now (graph .entry)) initials finals) rounds r ⌝ }
 {
     let looped = rounds.loop_rounds;
     let mixed = rounds.mix_rounds;
     let mut back = [0u64; MASKS];
-    graphs::turn(&a.graph, &mut back);
+    graphs::turn(graph, &mut back);
     let loops = rounds::open_mask(&looped, set_count);
     let mixes = rounds::open_mask(&mixed, set_count);
     let force = Claims { loops, mixes };
-    walks::first_walk(high, low, row_count, &back, force, a.initials, a.finals)
+    walks::first_walk(high, low, row_count, &back, force, initials, finals)
 }
 
 // The sheet of an empty automaton: the verdict and the openings.
@@ -159,17 +162,28 @@ pub fn print(
     row_count: usize,
     sets: &[Set; MOST_SETS],
     set_count: usize,
-    a: Automaton,
+    graph: &Masks,
+    initials: Set,
+    finals: Set,
     rounds: Progress,
 ) -> Answer
     requires { ⌜ («row_count» ≤ 256) × («set_count» ≤ 64) ⌝ }
     ensures { λ r. ⌜ PrintsSheet verdict (now (high .entry)) (now (low .entry)) «row_count» (now (sets .entry))
-        «set_count» a rounds
+        «set_count» (automaton-of (now (graph .entry)) initials finals) rounds
         (now (buffer .entry)) (now (buffer .exit)) r ⌝ }
 {
     match verdict {
         Verdict::NonEmpty => {
-            let walk = first_walk(high, low, row_count, set_count, a, rounds);
+            let walk = first_walk(
+                high,
+                low,
+                row_count,
+                set_count,
+                graph,
+                initials,
+                finals,
+                rounds,
+            );
             print_nonempty(buffer, sets, set_count, rounds, walk)
         }
         Verdict::Empty => print_empty(buffer, sets, set_count, rounds),

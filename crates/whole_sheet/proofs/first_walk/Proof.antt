@@ -1,4 +1,5 @@
 -- `first_walk` meets its contract: the arrays stand for the rows and the open claims of the machine.
+use Rattle.whole_sheet.specs.Promise.{automaton-of}
 use Rattle.whole_sheet.proofs.Printing.{finds}
 use mathlib.Core.Path.{refl}
 use borrow.Author.Needs.{needs}
@@ -11,9 +12,9 @@ returns c =
     let mixes = c .before .before in
     let loops = mixes .before .before in
     let turned = loops .before .before in
-    let a = turned .before .before .before .before .before .before .args in (
+    let a = turned .before .before .before .before .args in (
       c .first-walk .ensures .0,
-      finds (a .high .now) (a .low .now) (a .row-count) (a .set-count) (a .t5) (a .rounds) (graph-of (turned .turn .last .1 .0)) (record { loops = loops .open-mask .result; mixes = mixes .open-mask2 .result }) (c .first-walk .result)
+      finds (a .high .now) (a .low .now) (a .row-count) (a .set-count) (automaton-of (a .graph .now) (a .initials) (a .finals)) (a .rounds) (graph-of (turned .turn .last .1 .0)) (record { loops = loops .open-mask .result; mixes = mixes .open-mask2 .result }) (c .first-walk .result)
           (turned .turn .ensures refl) (loops .open-mask .ensures) (mixes .open-mask2 .ensures) (c .first-walk .ensures .1),
     )
 

@@ -1,7 +1,7 @@
 -- `print` meets its contract: by verdict.
 use mathlib.Core.Path.{sym, subst}
 use Rattle.machine.specs.declared.Verdict.{Verdict}
-use Rattle.whole_sheet.specs.Promise.{PrintsSheet}
+use Rattle.whole_sheet.specs.Promise.{automaton-of, PrintsSheet}
 use Rattle.whole_sheet.proofs.Printing.{prints-empty, prints-nonempty}
 use borrow.Author.Needs.{needs}
 use Rattle.whole_sheet.proofs.print.Statement.{statement}
@@ -15,8 +15,8 @@ returns c =
     let a = e .before .before .before .args in
     let new = p .print-nonempty .last .0 in
     let r = p .print-nonempty .result in
-    subst (λ (v : Verdict). PrintsSheet v (a .high .now) (a .low .now) (a .row-count) (a .sets .now) (a .set-count) (a .a) (a .rounds) (a .buffer .now) new r) (sym (e .enum-told .given .1))
-    (prints-nonempty (a .high .now) (a .low .now) (a .row-count) (a .sets .now) (a .set-count) (a .a) (a .rounds) (a .buffer .now) new r (w .first-walk .result) (w .first-walk .ensures .1) (p .print-nonempty .ensures))
+    subst (λ (v : Verdict). PrintsSheet v (a .high .now) (a .low .now) (a .row-count) (a .sets .now) (a .set-count) (automaton-of (a .graph .now) (a .initials) (a .finals)) (a .rounds) (a .buffer .now) new r) (sym (e .enum-told .given .1))
+    (prints-nonempty (a .high .now) (a .low .now) (a .row-count) (a .sets .now) (a .set-count) (automaton-of (a .graph .now) (a .initials) (a .finals)) (a .rounds) (a .buffer .now) new r (w .first-walk .result) (w .first-walk .ensures .1) (p .print-nonempty .ensures))
 
 returns-2 : tie.Need-returns-2
 returns-2 c =
@@ -25,8 +25,8 @@ returns-2 c =
     let a = e .before .before .before .args in
     let new = p .print-empty .last .0 in
     let r = p .print-empty .result in
-    subst (λ (v : Verdict). PrintsSheet v (a .high .now) (a .low .now) (a .row-count) (a .sets .now) (a .set-count) (a .a) (a .rounds) (a .buffer .now) new r) (sym (e .enum-told2 .given .1))
-    (prints-empty (a .high .now) (a .low .now) (a .row-count) (a .sets .now) (a .set-count) (a .a) (a .rounds) (a .buffer .now) new r (p .print-empty .ensures))
+    subst (λ (v : Verdict). PrintsSheet v (a .high .now) (a .low .now) (a .row-count) (a .sets .now) (a .set-count) (automaton-of (a .graph .now) (a .initials) (a .finals)) (a .rounds) (a .buffer .now) new r) (sym (e .enum-told2 .given .1))
+    (prints-empty (a .high .now) (a .low .now) (a .row-count) (a .sets .now) (a .set-count) (automaton-of (a .graph .now) (a .initials) (a .finals)) (a .rounds) (a .buffer .now) new r (p .print-empty .ensures))
 
 pub print-spec : {M : Type 1} → statement M
 print-spec =
