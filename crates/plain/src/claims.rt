@@ -13,46 +13,33 @@ fn content(table: &[u64], n: u64) -> u64 {
     cells::cell(table, n, cells::LABEL) | ends
 }
 
-// The targets of a state, `found`, with that of step `n`, which starts there, if its content is inside `p`.
-fn step_added(table: &[u64], n: u64, p: u64, found: u64) -> u64 {
-    if cells::is_inside(content(table, n), p) {
-        return cells::with(found, cells::cell(table, n, cells::TO));
-    }
-    found
-}
-
 // The steps inside `p`.
 fn link_steps(table: &[u64], p: u64, links: &mut [u64]) {
     let mut n = cells::ROWS;
     while n < cells::LINES && cells::cell(table, n, cells::KIND) != 0 {
         let s = cells::cell(table, n, cells::FROM);
-        let found = cells::at(links, s, 0);
-        cells::put(links, s, 0, step_added(table, n, p, found));
+        let to = if cells::is_inside(content(table, n), p) {
+            cells::with(0, cells::cell(table, n, cells::TO))
+        } else {
+            0
+        };
+        cells::put(links, s, 0, cells::at(links, s, 0) | to);
         n += 1;
     }
 }
 
-// The targets of a state, `found`, with those of `middle` if it is among them.
-fn middle_added(links: &[u64], middle: u64, s: u64) -> u64 {
-    let found = cells::at(links, s, 0);
-    if cells::has(found, middle) {
-        return found | cells::at(links, middle, 0);
+// Walks that go on at `middle`, a state of `p`.
+fn close_through(links: &mut [u64], p: u64, middle: u64) {
+    if !cells::has(p, middle) {
+        return;
     }
-    found
-}
-
-// Walks that go on at `middle`.
-fn close_through(links: &mut [u64], middle: u64) {
+    let on = cells::at(links, middle, 0);
     let mut s = 0;
     while s < 64 {
-        cells::put(links, s, 0, middle_added(links, middle, s));
+        let found = cells::at(links, s, 0);
+        let more = if cells::has(found, middle) { on } else { 0 };
+        cells::put(links, s, 0, found | more);
         s += 1;
-    }
-}
-
-fn close_at(links: &mut [u64], p: u64, middle: u64) {
-    if cells::has(p, middle) {
-        close_through(links, middle);
     }
 }
 
@@ -60,7 +47,7 @@ fn close_at(links: &mut [u64], p: u64, middle: u64) {
 fn close_links(links: &mut [u64], p: u64) {
     let mut k = 0;
     while k < 64 {
-        close_at(links, p, k);
+        close_through(links, p, k);
         k += 1;
     }
 }
@@ -90,18 +77,16 @@ fn gates(table: &[u64], kind: u64, p: u64) -> u64 {
     found & p
 }
 
-// Does a walk of one or more steps lead from `e` to one of `ends`, and one of zero or more to `s`?
-fn leads(links: &[u64], e: u64, s: u64, ends: u64) -> bool {
-    let targets = cells::at(links, e, 0);
-    targets & ends != 0 && cells::has(cells::with(targets, e), s)
-}
-
 // Does `s` lie on some piece, ends included? The exits are those that it leads to, itself among them.
 fn is_on_piece(links: &[u64], entrances: u64, exits: u64, s: u64) -> bool {
     let ends = exits & cells::with(cells::at(links, s, 0), s);
     let mut e = 0;
     while e < 64 {
-        if cells::has(entrances, e) && leads(links, e, s, ends) {
+        let targets = cells::at(links, e, 0);
+        if cells::has(entrances, e)
+            && targets & ends != 0
+            && cells::has(cells::with(targets, e), s)
+        {
             return true;
         }
         e += 1;
@@ -121,35 +106,18 @@ fn is_covered(links: &[u64], p: u64, entrances: u64, exits: u64) -> bool {
     true
 }
 
-fn mixes(table: &[u64], links: &[u64], p: u64) -> bool {
-    is_covered(links, p, gates(table, 4, p), gates(table, 5, p))
-}
-
 // What holds of a set.
 pub struct Claims {
     pub loops: bool,
     pub mixes: bool,
 }
 
-fn told(table: &[u64], links: &[u64], p: u64) -> Claims {
-    let loops = is_linked(links, p);
-    let mixes = mixes(table, links, p);
-    Claims { loops, mixes }
-}
-
-// Walks of one or more steps inside `p`.
-fn reach(table: &[u64], p: u64, links: &mut [u64]) {
-    link_steps(table, p, links);
-    close_links(links, p);
-}
-
-fn claims_with(table: &[u64], links: &mut [u64], p: u64) -> Claims {
-    reach(table, p, links);
-    told(table, links, p)
-}
-
 // P loops: walks inside P lead from each state of P to each. P mixes: every state of P lies on some piece.
 pub fn of_set(table: &[u64], p: u64) -> Claims {
     let mut links = [0u64; 64];
-    claims_with(table, &mut links, p)
+    link_steps(table, p, &mut links);
+    close_links(&mut links, p);
+    let loops = is_linked(&links, p);
+    let mixes = is_covered(&links, p, gates(table, 4, p), gates(table, 5, p));
+    Claims { loops, mixes }
 }

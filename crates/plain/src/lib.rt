@@ -24,37 +24,21 @@ pub fn sheet(batch: &[u8], out: &mut [u8]) -> usize {
 
 fn settled(batch: &[u8], out: &mut [u8]) -> usize {
     let mut table = [0u64; 4496];
-    work(batch, &mut table, out)
-}
-
-fn work(batch: &[u8], table: &mut [u64], out: &mut [u8]) -> usize {
-    reader::read(batch, table);
-    let verdict = settling::settle(table);
-    report(table, verdict, out)
-}
-
-fn verdict_word(nonempty: bool) -> usize {
-    if nonempty {
-        text::NONEMPTY
-    } else {
-        text::EMPTY
-    }
-}
-
-// The line of the verdict, without its end.
-fn put_verdict(out: &mut [u8], verdict: settling::Verdict) -> usize {
-    text::put_number(out, 0, verdict_word(verdict.nonempty), verdict.rounds)
-}
-
-// The openings and, if non-empty, the walk.
-fn put_body(out: &mut [u8], head: usize, table: &[u64]) -> usize {
-    let body = text::put_openings(out, head, table);
-    walk::put_walk(out, body, table)
+    reader::read_rows(batch, &mut table);
+    reader::collect_sets(&mut table);
+    let verdict = settling::settle(&mut table);
+    report(&table, verdict, out)
 }
 
 // The lines: verdict, openings and, if non-empty, the walk.
 fn report(table: &[u64], verdict: settling::Verdict, out: &mut [u8]) -> usize {
-    let head = put_verdict(out, verdict);
-    let end = put_body(out, head, table);
+    let word = if verdict.nonempty {
+        text::NONEMPTY
+    } else {
+        text::EMPTY
+    };
+    let head = text::put_number(out, 0, word, verdict.rounds);
+    let body = text::put_openings(out, head, table);
+    let end = walk::put_walk(out, body, table);
     text::put_end(out, end)
 }

@@ -23,13 +23,15 @@ fn set_at(batch: &[u8], place: usize) -> u64 {
     set
 }
 
-// How long a row of this kind is.
+// How long a row of this kind is, 0 for a kind that no row has.
 fn row_length(kind: u64) -> usize {
     match kind {
+        1 => 2,
+        2 => 2,
         3 => 4,
         4 => 10,
         5 => 10,
-        _ => 2,
+        _ => 0,
     }
 }
 
@@ -70,31 +72,38 @@ pub struct Refused {
     pub place: usize,
 }
 
-// Is the row longer than what is left of the batch?
-fn is_cut(batch: &[u8], place: usize, kind: u64) -> bool {
-    wrapping_add_usize(place, row_length(kind)) > batch.len()
+// The states of a row, their bits joined.
+fn states_of(batch: &[u8], place: usize, kind: u64) -> u64 {
+    let from = from_of(batch, place, kind);
+    if kind == 3 {
+        return from | byte(batch, place, 3);
+    }
+    from
 }
 
-// Is a state of the row above 63?
-fn is_high(batch: &[u8], place: usize, kind: u64) -> bool {
-    from_of(batch, place, kind) > 63 || kind == 3 && byte(batch, place, 3) > 63
+// The number for which a row of a known kind is refused, 0 for none: a state above 63, or a set without states.
+fn content_cause(batch: &[u8], place: usize, kind: u64) -> u64 {
+    if states_of(batch, place, kind) > 63 {
+        return 4;
+    }
+    if kind > 3 {
+        if label_of(batch, place, kind) == 0 {
+            return 5;
+        }
+    }
+    0
 }
 
 // The number for which the row is refused, 0 for none.
 fn cause(batch: &[u8], place: usize, kind: u64) -> u64 {
-    if kind == 0 || kind > 5 {
+    let length = row_length(kind);
+    if length == 0 {
         return 2;
     }
-    if is_cut(batch, place, kind) {
+    if wrapping_add_usize(place, length) > batch.len() {
         return 3;
     }
-    if is_high(batch, place, kind) {
-        return 4;
-    }
-    if kind > 3 && label_of(batch, place, kind) == 0 {
-        return 5;
-    }
-    0
+    content_cause(batch, place, kind)
 }
 
 // The first row that is refused, of as many as the table has room for.
@@ -114,7 +123,7 @@ pub fn refusal(batch: &[u8]) -> Refused {
 }
 
 // Reads all rows.
-fn read_rows(batch: &[u8], table: &mut [u64]) {
+pub fn read_rows(batch: &[u8], table: &mut [u64]) {
     let mut place = 0;
     let mut n = 0;
     while n < cells::ROWS {
@@ -157,16 +166,10 @@ fn keep_set(table: &mut [u64], set: u64) {
 }
 
 // The sets of the rows, rising, and zeros after them.
-fn collect_sets(table: &mut [u64]) {
+pub fn collect_sets(table: &mut [u64]) {
     let mut n = 0;
     while n < cells::ROWS {
         keep_set(table, row_set(table, n));
         n += 1;
     }
-}
-
-// Reads the rows and their sets.
-pub fn read(batch: &[u8], table: &mut [u64]) {
-    read_rows(batch, table);
-    collect_sets(table);
 }

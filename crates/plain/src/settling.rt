@@ -26,24 +26,15 @@ fn is_done(table: &[u64], i: u64) -> bool {
     cells::at(table, cells::LOOPS, i) != 0 && cells::at(table, cells::MIXES, i) != 0
 }
 
-// Marks what holds of set `i`; says whether anything opened.
-fn open_claims(table: &mut [u64], i: u64, claims: claims::Claims, k: u64) -> bool {
-    let looped = open(table, cells::LOOPS, i, claims.loops, k);
-    let mixed = open(table, cells::MIXES, i, claims.mixes, k);
-    looped || mixed
-}
-
-// What holds of set `i`.
-fn claims_of(table: &[u64], i: u64) -> claims::Claims {
-    claims::of_set(table, cells::at(table, cells::SETS, i))
-}
-
 // Tests both claims of set `i`.
 fn test_set(table: &mut [u64], i: u64, k: u64) -> bool {
     if is_done(table, i) {
         return false;
     }
-    open_claims(table, i, claims_of(table, i), k)
+    let claims = claims::of_set(table, cells::at(table, cells::SETS, i));
+    let looped = open(table, cells::LOOPS, i, claims.loops, k);
+    let mixed = open(table, cells::MIXES, i, claims.mixes, k);
+    looped || mixed
 }
 
 // One round: the steps are those from before it, so its openings do not help each other. Says whether it opened anything.
@@ -63,7 +54,7 @@ pub fn settle(table: &mut [u64]) -> Verdict {
     let mut k = 0;
     while k < 65 {
         steps::make_steps(table);
-        if walk::is_accepted(table) {
+        if walk::walk_length(table) < walk::NONE {
             return Verdict {
                 nonempty: true,
                 rounds: k,

@@ -61,19 +61,19 @@ fn limit_of(table: &[u64], row: u64, q: u64) -> Line {
     }
 }
 
-// Is the one a row q → P, and the other a row P → p?
-fn is_pair(table: &[u64], right: u64, left: u64) -> bool {
-    cells::cell(table, right, cells::KIND) == 5
-        && cells::cell(table, left, cells::KIND) == 4
-        && row_set(table, right) == row_set(table, left)
+// The set of a row of this kind, 0 for any other.
+fn set_of_kind(table: &[u64], row: u64, kind: u64) -> u64 {
+    if cells::cell(table, row, cells::KIND) == kind {
+        return cells::cell(table, row, cells::LABEL);
+    }
+    0
 }
 
-// The mix step of a row q → P and a row P → p; none where they are no such rows.
-fn mix_of(table: &[u64], right: u64, left: u64) -> Line {
-    if !is_pair(table, right, left) {
+// The mix step of a row q → P and a row P → p; none where the second is no such row.
+fn mix_of(table: &[u64], label: u64, right: u64, left: u64) -> Line {
+    if set_of_kind(table, left, 4) != label {
         return none();
     }
-    let label = row_set(table, right);
     let from = cells::cell(table, right, cells::FROM);
     let to = cells::cell(table, left, cells::FROM);
     Line {
@@ -95,9 +95,12 @@ fn add_step(table: &mut [u64], n: u64, step: Line) -> u64 {
     n
 }
 
-// The omega or back steps of a row, one for each state of its set.
-fn put_limits(table: &mut [u64], line: u64, row: u64) -> u64 {
+// The omega or back steps of a row, one for each state of its set, where that loops.
+fn add_limits(table: &mut [u64], line: u64, row: u64) -> u64 {
     let mut n = line;
+    if !is_open(table, cells::LOOPS, row_set(table, row)) {
+        return n;
+    }
     let mut q = 0;
     while q < 64 {
         n = add_step(table, n, limit_of(table, row, q));
@@ -106,46 +109,27 @@ fn put_limits(table: &mut [u64], line: u64, row: u64) -> u64 {
     n
 }
 
-// The mix steps of a row q → P, one for each row P → p.
-fn put_mixes(table: &mut [u64], line: u64, row: u64) -> u64 {
+// The mix steps of a row q → P, one for each row P → p, where P mixes.
+fn add_mixes(table: &mut [u64], line: u64, row: u64) -> u64 {
     let mut n = line;
+    let set = set_of_kind(table, row, 5);
+    if !is_open(table, cells::MIXES, set) {
+        return n;
+    }
     let mut left = 0;
     while left < cells::ROWS {
-        n = add_step(table, n, mix_of(table, row, left));
+        n = add_step(table, n, mix_of(table, set, row, left));
         left += 1;
     }
     n
 }
 
-// The letter step of a row of kind 3.
-fn add_letter(table: &mut [u64], n: u64, row: u64) -> u64 {
-    if cells::cell(table, row, cells::KIND) == 3 {
-        return add_step(table, n, letter_of(table, row));
-    }
-    n
-}
-
-// The omega or back steps of a row, where its set loops; the set 0 of a row that has none does not.
-fn add_limits(table: &mut [u64], n: u64, row: u64) -> u64 {
-    if is_open(table, cells::LOOPS, row_set(table, row)) {
-        return put_limits(table, n, row);
-    }
-    n
-}
-
-// The mix steps of a row, where its set mixes.
-fn add_mixes(table: &mut [u64], n: u64, row: u64) -> u64 {
-    if is_open(table, cells::MIXES, row_set(table, row)) {
-        return put_mixes(table, n, row);
-    }
-    n
-}
-
-// The steps of a row.
+// The steps of a row, but for the mix steps.
 fn add_row(table: &mut [u64], line: u64, row: u64) -> u64 {
-    let n = add_letter(table, line, row);
-    let m = add_limits(table, n, row);
-    add_mixes(table, m, row)
+    if cells::cell(table, row, cells::KIND) == 3 {
+        return add_step(table, line, letter_of(table, row));
+    }
+    add_limits(table, line, row)
 }
 
 // Fills the lines of the steps. Openings are only added, so no step of a fuller table is left behind the last.
@@ -154,6 +138,7 @@ pub fn make_steps(table: &mut [u64]) {
     let mut row = 0;
     while row < cells::ROWS {
         n = add_row(table, n, row);
+        n = add_mixes(table, n, row);
         row += 1;
     }
 }

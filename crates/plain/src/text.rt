@@ -29,33 +29,11 @@ pub const REFUSED: usize = 130;
 
 pub const AT: usize = 139;
 
-// A byte of the words that start a sheet, and of those of its openings.
-fn first_byte(i: usize) -> u8 {
-    let words = b"verdict empty rounds ~verdict nonempty rounds ~\nopen ~ loop ~ mix ~";
-    if i < 67 { words[i] } else { b'~' }
-}
-
-// A byte of the words of a walk.
-fn walk_byte(i: usize) -> u8 {
-    let words = b"\nstart ~\nstep letter ~\nstep omega ~\nstep back ~\nstep mix ~ to ~";
-    if i < 63 { words[i] } else { b'~' }
-}
-
-// A byte of the words of a refusal.
-fn refusal_byte(i: usize) -> u8 {
-    let words = b"refused ~ at ~";
-    if i < 14 { words[i] } else { b'~' }
-}
-
 // A byte of the text of all words.
 fn word_byte(i: usize) -> u8 {
-    if i < START {
-        return first_byte(i);
-    }
-    if i < REFUSED {
-        return walk_byte(i - START);
-    }
-    refusal_byte(i - REFUSED)
+    let words =
+        b"verdict empty rounds ~verdict nonempty rounds ~\nopen ~ loop ~ mix ~\nstart ~\nstep letter ~\nstep omega ~\nstep back ~\nstep mix ~ to ~refused ~ at ~";
+    if i < 144 { words[i] } else { b'~' }
 }
 
 // Writes a byte; the tilde, which stands for a leading zero, is not written.
@@ -155,24 +133,20 @@ pub fn put_openings(out: &mut [u8], place: usize, table: &[u64]) -> usize {
 
 fn step_word(kind: u64) -> usize {
     match kind {
-        1 => LETTER,
         2 => OMEGA,
         3 => BACK,
         _ => MIXED,
     }
 }
 
-// The kind of a step with its letter or its set.
-fn put_label(out: &mut [u8], place: usize, kind: u64, label: u64) -> usize {
-    if kind == 1 {
-        return put_number(out, place, LETTER, label);
-    }
-    put_set(out, place, step_word(kind), label)
-}
-
+// The line of a step.
 pub fn put_step(out: &mut [u8], place: usize, kind: u64, label: u64, to: u64) -> usize {
-    let end = put_label(out, place, kind, label);
-    put_number(out, end, TO, to)
+    if kind == 1 {
+        let letter = put_number(out, place, LETTER, label);
+        return put_number(out, letter, TO, to);
+    }
+    let set = put_set(out, place, step_word(kind), label);
+    put_number(out, set, TO, to)
 }
 
 // The end of the last line.

@@ -40,10 +40,10 @@ fn near(table: &[u64], k: u64) -> u64 {
 }
 
 // No walk: a shortest one meets no state twice.
-const NONE: u64 = 64;
+pub const NONE: u64 = 64;
 
 // The least number of steps from an initial to a final state.
-fn walk_length(table: &[u64]) -> u64 {
+pub fn walk_length(table: &[u64]) -> u64 {
     let initial = marked(table, 1);
     let mut found = marked(table, 2);
     let mut k = 0;
@@ -56,11 +56,6 @@ fn walk_length(table: &[u64]) -> u64 {
         k += 1;
     }
     k
-}
-
-// Does a walk lead from an initial to a final state?
-pub fn is_accepted(table: &[u64]) -> bool {
-    walk_length(table) < NONE
 }
 
 fn lowest(set: u64) -> u64 {
@@ -87,17 +82,15 @@ fn is_before(table: &[u64], n: u64, m: u64) -> bool {
     cells::cell(table, n, cells::TO) < cells::cell(table, m, cells::TO)
 }
 
-// Does step `n` lead from `s` into `near`?
-fn is_on_way(table: &[u64], n: u64, s: u64, near: u64) -> bool {
-    cells::cell(table, n, cells::FROM) == s && cells::has(near, cells::cell(table, n, cells::TO))
-}
-
 // The first step from `s` into `near`; a line past the table where there is none.
 fn first_step(table: &[u64], s: u64, near: u64) -> u64 {
     let mut best = cells::LINES;
     let mut n = cells::ROWS;
     while n < cells::LINES && cells::cell(table, n, cells::KIND) != 0 {
-        if is_on_way(table, n, s, near) && is_before(table, n, best) {
+        if cells::cell(table, n, cells::FROM) == s
+            && cells::has(near, cells::cell(table, n, cells::TO))
+            && is_before(table, n, best)
+        {
             best = n;
         }
         n += 1;

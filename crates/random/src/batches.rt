@@ -1,24 +1,11 @@
-// Batches of automata: the states of every other one have other names, and every fifth is spoiled.
+// Batches of automata, every fifth spoiled; and those that were made before.
 use crate::dice::choice;
 use crate::dice::next;
 use crate::generator::automaton;
 use crate::generator::put;
-use crate::naming::byte;
-use crate::naming::rename;
-use crate::naming::row_end;
-use program_output::beyond;
-use program_output::first;
-
-fn rename_half(batch: &mut [u8], n: usize, word: u64) {
-    if choice(word, 0, 2) == 0 {
-        rename(batch, n, word >> 8);
-    }
-}
-
-// A place below `n`, 0 where there is none.
-fn place_below(word: u64, n: usize) -> usize {
-    if n > 0 { word as usize % n } else { 0 }
-}
+use crate::tally::byte;
+use crate::tally::get;
+use crate::tally::set;
 
 // The byte that spoils: 0, so that a set may have no state, or any.
 fn bad_byte(word: u64) -> u64 {
@@ -28,9 +15,12 @@ fn bad_byte(word: u64) -> u64 {
     choice(word, 2, 256)
 }
 
-// Cuts the batch short, or puts another byte in place of one; answers the length.
+// Every fifth batch is cut short, or another byte is put in place of one; answers the length.
 fn spoil(batch: &mut [u8], n: usize, word: u64) -> usize {
-    let at = place_below(word >> 24, n);
+    if n == 0 || choice(word, 7, 5) != 0 {
+        return n;
+    }
+    let at = (word >> 24) as usize % n;
     if choice(word, 0, 4) == 0 {
         return at;
     }
@@ -38,46 +28,45 @@ fn spoil(batch: &mut [u8], n: usize, word: u64) -> usize {
     n
 }
 
-fn spoil_some(batch: &mut [u8], n: usize, word: u64) -> usize {
-    if choice(word, 7, 5) == 0 {
-        return spoil(batch, n, word);
-    }
-    n
-}
-
 // Writes a batch and answers its length.
 pub fn write(seed: u64, batch: &mut [u8]) -> usize {
     let word = next(next(seed));
     let n = automaton(word, batch);
-    rename_half(batch, n, next(word ^ 3));
-    spoil_some(batch, n, next(word ^ 5))
+    spoil(batch, n, next(word ^ 5))
 }
 
-// The digest goes on with bytes.
-fn with_bytes(digest: u64, bytes: &[u8]) -> u64 {
-    let mut found = digest;
+// The digest goes on with a byte.
+fn mixed(digest: u64, b: u8) -> u64 {
+    next(digest ^ b as u64)
+}
+
+// A digest of the batch.
+fn digest(batch: &[u8]) -> u64 {
+    let mut found = 1;
     let mut i = 0;
-    while i < bytes.len() {
-        found = next(found ^ byte(bytes, i));
+    while i < batch.len() {
+        found = mixed(found, byte(batch, i));
         i += 1;
     }
     found
 }
 
-// The digest of the row that the bytes start with.
-fn row_digest(bytes: &[u8]) -> u64 {
-    with_bytes(1, first(bytes, row_end(bytes, 0)))
+// The place where the digest stands, or the first that is free from its remainder on.
+fn place_of(seen: &[u64], digest: u64) -> usize {
+    let mut at = (digest % 30000) as usize;
+    while at < 32768 && get(seen, at) != digest && get(seen, at) != 0 {
+        at += 1;
+    }
+    at
 }
 
-// A digest of the rows, the same in whatever order they come: a sum that wraps.
-pub fn digest(batch: &[u8]) -> u64 {
-    let mut sum = 1;
-    let mut at = 0;
-    let mut left = 400u64;
-    while left > 0 && at < batch.len() {
-        sum = std::num::wrapping_add_u64(sum, row_digest(beyond(batch, at)));
-        at = row_end(batch, at);
-        left -= 1;
+// Keeps the digest of the batch, and says whether it is new.
+pub fn is_new(seen: &mut [u64], batch: &[u8]) -> bool {
+    let d = digest(batch);
+    let at = place_of(seen, d);
+    if get(seen, at) == d {
+        return false;
     }
-    sum
+    set(seen, at, d);
+    true
 }

@@ -1,5 +1,5 @@
 // Random automata. A tower of sets, each with a state more than the one before, and limits between a set and the state that is added
-// next: so a set loops only after the one below it, and it takes rounds.
+// next: so a set loops only after the one below it, and it takes rounds. States are counted from 0 here; `names` says which they are.
 use crate::dice::choice;
 use crate::dice::next;
 use std::num::wrapping_add_u64;
@@ -14,20 +14,41 @@ pub fn put(batch: &mut [u8], place: usize, b: u64) -> usize {
     place
 }
 
-// The kinds 1 and 2.
-fn put_mark(batch: &mut [u8], place: usize, kind: u64, s: u64) -> usize {
-    let state = put(batch, place, kind);
-    put(batch, state, s)
+// The name of a state: itself, or its six bits turned round by three places and some of them changed. No two states share one.
+fn name(s: u64, names: u64) -> u64 {
+    let bits = s % 64;
+    if names % 2 == 0 {
+        return bits;
+    }
+    (((bits << 3) | (bits >> 3)) ^ (names >> 1)) % 64
 }
 
-fn put_step(batch: &mut [u8], place: usize, p: u64, letter: u64, q: u64) -> usize {
-    let from = put(batch, place, 3);
-    let label = put(batch, from, p);
-    let to = put(batch, label, letter);
-    put(batch, to, q)
+fn put_state(batch: &mut [u8], place: usize, s: u64, names: u64) -> usize {
+    put(batch, place, name(s, names))
 }
 
-pub fn put_set(batch: &mut [u8], place: usize, set: u64) -> usize {
+fn has(set: u64, s: u64) -> bool {
+    if s < 64 { (set >> s) & 1 == 1 } else { false }
+}
+
+fn with(set: u64, s: u64) -> u64 {
+    if s < 64 { set | (1u64 << s) } else { set }
+}
+
+// The set of the names of its states.
+fn named(set: u64, names: u64) -> u64 {
+    let mut found = 0;
+    let mut s = 0;
+    while s < 16 {
+        if has(set, s) {
+            found = with(found, name(s, names));
+        }
+        s += 1;
+    }
+    found
+}
+
+fn put_set(batch: &mut [u8], place: usize, set: u64) -> usize {
     let mut end = place;
     let mut left = 8u64;
     while left > 0 {
@@ -37,26 +58,30 @@ pub fn put_set(batch: &mut [u8], place: usize, set: u64) -> usize {
     end
 }
 
-// set → s
-fn put_left(batch: &mut [u8], place: usize, set: u64, s: u64) -> usize {
-    let body = put(batch, place, 4);
-    let state = put_set(batch, body, set);
-    put(batch, state, s)
+// A row of kind 1 or 2.
+fn put_mark(batch: &mut [u8], place: usize, kind: u64, s: u64, names: u64) -> usize {
+    let state = put(batch, place, kind);
+    put_state(batch, state, s, names)
 }
 
-// s → set
-fn put_right(batch: &mut [u8], place: usize, s: u64, set: u64) -> usize {
+// A row of kind 3.
+fn put_step(batch: &mut [u8], place: usize, p: u64, letter: u64, q: u64, names: u64) -> usize {
+    let from = put(batch, place, 3);
+    let label = put_state(batch, from, p, names);
+    let to = put(batch, label, letter);
+    put_state(batch, to, q, names)
+}
+
+// The row set → s or, of the other side, s → set.
+fn put_limit(batch: &mut [u8], place: usize, set: u64, s: u64, by_left: bool, names: u64) -> usize {
+    if by_left {
+        let body = put(batch, place, 4);
+        let state = put_set(batch, body, named(set, names));
+        return put_state(batch, state, s, names);
+    }
     let state = put(batch, place, 5);
-    let body = put(batch, state, s);
-    put_set(batch, body, set)
-}
-
-pub fn has(set: u64, s: u64) -> bool {
-    if s < 64 { (set >> s) & 1 == 1 } else { false }
-}
-
-pub fn with(set: u64, s: u64) -> u64 {
-    if s < 64 { set | (1u64 << s) } else { set }
+    let body = put_state(batch, state, s, names);
+    put_set(batch, body, named(set, names))
 }
 
 // A state of the set: the first of it from `s` on, round the 16 states.
@@ -80,63 +105,38 @@ fn letter(word: u64, k: u64) -> u64 {
     }
 }
 
-// The letter step that makes a set loop with its newest state `s`. The state came by set → s, or by s → set.
-fn put_return(batch: &mut [u8], place: usize, word: u64, set: u64, s: u64, by_left: bool) -> usize {
+// The letter step that makes a set loop with its newest state `s`, seldom left out. The state came by set → s, or by s → set.
+fn put_return(
+    batch: &mut [u8],
+    place: usize,
+    word: u64,
+    set: u64,
+    s: u64,
+    by_left: bool,
+    names: u64,
+) -> usize {
     let t = member(set, choice(word, 0, 16));
     let by = letter(word, 1);
     if by_left {
-        return put_step(batch, place, s, by, t);
+        return put_step(batch, place, s, by, t, names);
     }
-    put_step(batch, place, t, by, s)
-}
-
-// The limit that leads from the set to the state `r` or from there to the set.
-fn put_limit(batch: &mut [u8], place: usize, set: u64, r: u64, by_left: bool) -> usize {
-    if by_left {
-        return put_left(batch, place, set, r);
-    }
-    put_right(batch, place, r, set)
+    put_step(batch, place, t, by, s, names)
 }
 
 // Sometimes an entrance and an exit, so that the set may mix.
-fn put_gates(batch: &mut [u8], place: usize, word: u64, set: u64, s: u64) -> usize {
+fn put_gates(batch: &mut [u8], place: usize, word: u64, set: u64, s: u64, names: u64) -> usize {
     if choice(word, 3, 3) != 0 {
         return place;
     }
-    let end = put_left(batch, place, set, s);
-    put_right(batch, end, member(set, choice(word, 4, 16)), set)
-}
-
-// The state above, round the states.
-fn up(states: u64, s: u64) -> u64 {
-    let t = wrapping_add_u64(s, 1);
-    if t < states { t } else { 0 }
-}
-
-// The state below, round the states.
-fn down(states: u64, s: u64) -> u64 {
-    if s > 0 {
-        s - 1
-    } else {
-        wrapping_sub_u64(states, 1)
-    }
-}
-
-// The state to add next: mostly the next in the round of the states, else any.
-fn new_state(word: u64, states: u64, s: u64, odds: u64) -> u64 {
-    if choice(word, 5, odds) == 0 {
-        return choice(word, 6, states);
-    }
-    up(states, s)
-}
-
-// The set with its new state, or seldom a new tower on that state alone.
-fn grown(word: u64, set: u64, s: u64, odds: u64) -> u64 {
-    if choice(word, 0, odds) == 0 {
-        with(0, s)
-    } else {
-        with(set, s)
-    }
+    let end = put_limit(batch, place, set, s, true, names);
+    put_limit(
+        batch,
+        end,
+        set,
+        member(set, choice(word, 4, 16)),
+        false,
+        names,
+    )
 }
 
 // What makes a set loop with its newest state, seldom left out, and what may make it mix.
@@ -147,13 +147,48 @@ fn put_floor(
     set: u64,
     s: u64,
     by_left: bool,
-    odds: u64,
+    names: u64,
 ) -> usize {
-    if choice(word, 2, odds) == 0 {
-        return put_gates(batch, place, word, set, s);
+    if choice(word, 2, odds(names)) == 0 {
+        return put_gates(batch, place, word, set, s, names);
     }
-    let end = put_return(batch, place, word, set, s, by_left);
-    put_gates(batch, end, word, set, s)
+    let end = put_return(batch, place, word, set, s, by_left, names);
+    put_gates(batch, end, word, set, s, names)
+}
+
+// One time in how many a floor is unlike the others: in half of the automata seldom, so that high towers stand.
+fn odds(names: u64) -> u64 {
+    if names >> 63 == 0 { 8 } else { 200 }
+}
+
+// The state above or below, round the states.
+fn beside(states: u64, s: u64, upwards: bool) -> u64 {
+    if upwards {
+        let t = wrapping_add_u64(s, 1);
+        return if t < states { t } else { 0 };
+    }
+    if s > 0 {
+        s - 1
+    } else {
+        wrapping_sub_u64(states, 1)
+    }
+}
+
+// The state to add next: mostly the next in the round of the states, else any.
+fn new_state(word: u64, states: u64, s: u64, names: u64) -> u64 {
+    if choice(word, 5, odds(names)) == 0 {
+        return choice(word, 6, states);
+    }
+    beside(states, s, true)
+}
+
+// The set with its new state, or seldom a new tower on that state alone.
+fn grown(word: u64, set: u64, s: u64, names: u64) -> u64 {
+    if choice(word, 0, odds(names)) == 0 {
+        with(0, s)
+    } else {
+        with(set, s)
+    }
 }
 
 // The end of the batch, and the state that was added last.
@@ -162,8 +197,7 @@ struct Built {
     last: u64,
 }
 
-// The rows of towers with this many floors, from the state `first` on; mostly all limits have the same side, and each floor has its
-// return, its own set and the next state: `odds` says how mostly.
+// The rows of towers with this many floors, from the state `first` on; mostly all limits have the same side.
 fn put_towers(
     batch: &mut [u8],
     start: u64,
@@ -171,7 +205,7 @@ fn put_towers(
     first: u64,
     floors: u64,
     by_left: bool,
-    odds: u64,
+    names: u64,
 ) -> Built {
     let mut end = 0;
     let mut word = start;
@@ -180,12 +214,12 @@ fn put_towers(
     let mut left_side = by_left;
     let mut left = floors;
     while left > 0 {
-        end = put_floor(batch, end, word, set, s, left_side, odds);
-        s = new_state(word, states, s, odds);
-        left_side = by_left == (choice(word, 7, odds) != 0);
-        end = put_limit(batch, end, set, s, left_side);
+        end = put_floor(batch, end, word, set, s, left_side, names);
+        s = new_state(word, states, s, names);
+        left_side = by_left == (choice(word, 7, odds(names)) != 0);
+        end = put_limit(batch, end, set, s, left_side, names);
         word = next(word);
-        set = grown(word, set, s, odds);
+        set = grown(word, set, s, names);
         left -= 1;
     }
     Built { end, last: s }
@@ -200,18 +234,15 @@ fn put_path(
     first: u64,
     upwards: bool,
     steps: u64,
+    names: u64,
 ) -> Built {
     let mut end = place;
     let mut word = start;
     let mut s = first;
     let mut left = steps;
     while left > 0 {
-        let t = if upwards {
-            up(states, s)
-        } else {
-            down(states, s)
-        };
-        end = put_step(batch, end, s, letter(word, 2), t);
+        let t = beside(states, s, upwards);
+        end = put_step(batch, end, s, letter(word, 2), t, names);
         s = t;
         word = next(word);
         left -= 1;
@@ -220,17 +251,25 @@ fn put_path(
 }
 
 // An initial and a final state, the ends of the construction, and sometimes any two more.
-fn put_marks(batch: &mut [u8], place: usize, word: u64, states: u64, from: u64, to: u64) -> usize {
-    let initial = put_mark(batch, place, 1, from);
-    let end = put_mark(batch, initial, 2, to);
+fn put_marks(
+    batch: &mut [u8],
+    place: usize,
+    word: u64,
+    states: u64,
+    from: u64,
+    to: u64,
+    names: u64,
+) -> usize {
+    let initial = put_mark(batch, place, 1, from, names);
+    let end = put_mark(batch, initial, 2, to, names);
     if choice(word, 0, 6) != 0 {
         return end;
     }
-    let other = put_mark(batch, end, 1, choice(word, 1, states));
-    put_mark(batch, other, 2, choice(word, 2, states))
+    let other = put_mark(batch, end, 1, choice(word, 1, states), names);
+    put_mark(batch, other, 2, choice(word, 2, states), names)
 }
 
-// A path from `middle` to a final state, and the marks.
+// A path of fewer than `room` steps from `middle` to a final state, and the marks.
 fn put_end(
     batch: &mut [u8],
     place: usize,
@@ -240,6 +279,7 @@ fn put_end(
     middle: u64,
     upwards: bool,
     room: u64,
+    names: u64,
 ) -> usize {
     let path = put_path(
         batch,
@@ -249,40 +289,27 @@ fn put_end(
         middle,
         upwards,
         choice(word, 4, room),
+        names,
     );
-    put_marks(batch, path.end, next(word ^ 2), states, from, path.last)
+    put_marks(
+        batch,
+        path.end,
+        next(word ^ 2),
+        states,
+        from,
+        path.last,
+        names,
+    )
 }
 
-// How many states: 3 to 16.
-fn states_of(word: u64) -> u64 {
-    wrapping_add_u64(3, choice(word, 0, 14))
-}
-
-// How many floors: fewer than states.
-fn floors_of(word: u64, states: u64) -> u64 {
-    wrapping_add_u64(1, choice(word, 3, wrapping_sub_u64(states, 1)))
-}
-
-// One time in how many a floor is unlike the others: in half of the automata seldom, so that high towers stand.
-fn odds_of(word: u64) -> u64 {
-    if choice(word, 5, 2) == 0 { 8 } else { 200 }
-}
-
-// Writes the batch of an automaton and answers its length: at most 15 sets and 60 + 15 + 4 rows.
+// Writes the batch of an automaton and answers its length: 3 to 16 states, fewer floors, at most 15 sets and 60 + 15 + 4 rows.
 pub fn automaton(word: u64, batch: &mut [u8]) -> usize {
-    let states = states_of(word);
-    let floors = floors_of(word, states);
+    let names = next(word ^ 3);
+    let states = wrapping_add_u64(3, choice(word, 0, 14));
+    let floors = wrapping_add_u64(1, choice(word, 3, wrapping_sub_u64(states, 1)));
     let first = choice(word, 1, states);
     let by_left = choice(word, 2, 2) == 0;
-    let built = put_towers(
-        batch,
-        next(word),
-        states,
-        first,
-        floors,
-        by_left,
-        odds_of(word),
-    );
+    let built = put_towers(batch, next(word), states, first, floors, by_left, names);
     // Few enough steps that the path does not come round to the tower again.
     let room = wrapping_sub_u64(states, floors);
     // Limits of the one side lead up the tower, those of the other down.
@@ -296,6 +323,7 @@ pub fn automaton(word: u64, batch: &mut [u8]) -> usize {
             built.last,
             true,
             room,
+            names,
         );
     }
     put_end(
@@ -307,5 +335,6 @@ pub fn automaton(word: u64, batch: &mut [u8]) -> usize {
         first,
         false,
         room,
+        names,
     )
 }

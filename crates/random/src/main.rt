@@ -3,33 +3,17 @@
 mod batches;
 mod dice;
 mod generator;
-mod naming;
-mod seen;
 mod tally;
 
 use program_output::first;
 
-// How many batches are made.
-const BATCHES: u64 = 6000;
-
 // What the engine makes of one batch against what the plain search makes of the other.
-fn run_pair(
-    batch: &[u8],
-    other: &[u8],
-    told: usize,
-    ours: &mut [u8],
-    theirs: &mut [u8],
-    counts: &mut [u64],
-) {
-    let n = checker::show(batch, ours);
-    let m = plain::sheet(other, theirs);
-    tally::tell(batch, first(ours, n), first(theirs, m), told, counts);
-}
-
 fn try_pair(batch: &[u8], other: &[u8], told: usize, counts: &mut [u64]) {
     let mut ours = [0u8; 6400];
     let mut theirs = [0u8; 6400];
-    run_pair(batch, other, told, &mut ours, &mut theirs, counts);
+    let n = checker::show(batch, &mut ours);
+    let m = plain::sheet(other, &mut theirs);
+    tally::tell(batch, first(&ours, n), first(&theirs, m), told, counts);
 }
 
 // Tries one batch; and of some also that it is told from the same batch without its last row.
@@ -43,26 +27,21 @@ fn try_batch(batch: &[u8], turn: u64, counts: &mut [u64]) {
 
 // Tries a batch that was not tried before.
 fn try_new(batch: &[u8], turn: u64, seen: &mut [u64], counts: &mut [u64]) {
-    if seen::is_new(seen, batches::digest(batch)) {
-        try_batch(batch, turn, counts);
-    } else {
-        tally::repeated(counts);
+    if batches::is_new(seen, batch) {
+        return try_batch(batch, turn, counts);
     }
-}
-
-fn try_buffer(seed: u64, buffer: &mut [u8], turn: u64, seen: &mut [u64], counts: &mut [u64]) {
-    let n = batches::write(seed, buffer);
-    try_new(first(buffer, n), turn, seen, counts);
+    tally::repeated(counts);
 }
 
 fn try_one(seed: u64, turn: u64, seen: &mut [u64], counts: &mut [u64]) {
     let mut buffer = [0u8; 1024];
-    try_buffer(seed, &mut buffer, turn, seen, counts);
+    let n = batches::write(seed, &mut buffer);
+    try_new(first(&buffer, n), turn, seen, counts);
 }
 
 fn try_all(seen: &mut [u64], counts: &mut [u64]) {
     let mut seed = 2026u64;
-    let mut left = BATCHES;
+    let mut left = tally::BATCHES;
     while left > 0 {
         try_one(seed, left, seen, counts);
         seed = dice::next_seed(seed);
@@ -70,13 +49,9 @@ fn try_all(seen: &mut [u64], counts: &mut [u64]) {
     }
 }
 
-fn run(counts: &mut [u64]) {
-    let mut seen = [0u64; 16384];
-    try_all(&mut seen, counts);
-    tally::report(counts);
-}
-
 fn main() {
-    let mut counts = [0u64; 64];
-    run(&mut counts);
+    let mut counts = [0u64; 100];
+    let mut seen = [0u64; 32768];
+    try_all(&mut seen, &mut counts);
+    tally::report(&counts);
 }

@@ -1,67 +1,41 @@
-// Comparing sheets, and counting what they say. The counts: 0 to 39 by rounds; then empty, non-empty, openings, longest walk, different,
-// told different as they must be, pairs that must be, repeated; from 50 on the refusals by number.
+// Comparing sheets, and counting what they say. The counts: from 0 on the non-empty by rounds, from 40 on the empty, from 80 on the
+// refused by number; then those repeated, different, pairs of different batches, and those of them that were told different.
 use program_output::say;
 use program_output::say_count;
 
+// How many batches are made.
+pub const BATCHES: u64 = 12000;
+
 const EMPTY: usize = 40;
 
-const NONEMPTY: usize = 41;
+const REFUSED: usize = 80;
 
-const OPENINGS: usize = 42;
+const REPEATED: usize = 90;
 
-const LONGEST: usize = 43;
+pub const DIFFERENT: usize = 91;
 
-pub const DIFFERENT: usize = 44;
+const PAIRS: usize = 92;
 
-pub const TOLD: usize = 45;
+pub const TOLD: usize = 93;
 
-const PAIRS: usize = 46;
-
-const REPEATED: usize = 47;
-
-const REFUSED: usize = 50;
-
-// The byte of a sheet at `i`, 0 past its end.
-fn byte(sheet: &[u8], i: usize) -> u8 {
-    if i < sheet.len() { sheet[i] } else { 0 }
+// The byte at `i`, 0 past the end.
+pub fn byte(text: &[u8], i: usize) -> u8 {
+    if i < text.len() { text[i] } else { 0 }
 }
 
-fn get(counts: &[u64], i: usize) -> u64 {
+pub fn get(counts: &[u64], i: usize) -> u64 {
     if i < counts.len() { counts[i] } else { 0 }
 }
 
-fn set(counts: &mut [u64], i: usize, n: u64) {
+pub fn set(counts: &mut [u64], i: usize, n: u64) {
     if i < counts.len() {
         counts[i] = n;
     }
 }
 
-// Adds to a count.
-fn add(counts: &mut [u64], i: usize, n: u64) {
-    set(counts, i, std::num::wrapping_add_u64(get(counts, i), n));
-}
-
-// Is there a line at `i` with these first and third letters?
-fn is_line(sheet: &[u8], i: usize, first: u8, third: u8) -> bool {
-    if i < sheet.len() {
-        if sheet.len() - i > 3 {
-            return sheet[i] == 10 && sheet[i + 1] == first && sheet[i + 3] == third;
-        }
-    }
-    false
-}
-
-// How many lines after the first have these first and third letters.
-fn lines(sheet: &[u8], first: u8, third: u8) -> u64 {
-    let mut found = 0;
-    let mut i = 0;
-    while i < sheet.len() {
-        if is_line(sheet, i, first, third) {
-            found = std::num::wrapping_add_u64(found, 1);
-        }
-        i += 1;
-    }
-    found
+// Adds one to a count.
+fn add(counts: &mut [u64], i: usize) {
+    set(counts, i, std::num::wrapping_add_u64(get(counts, i), 1));
 }
 
 fn value(digit: u8) -> usize {
@@ -87,136 +61,63 @@ fn number(sheet: &[u8], i: usize) -> usize {
     }
 }
 
-fn is_empty(sheet: &[u8]) -> bool {
-    byte(sheet, 8) == b'e'
-}
-
-// The rounds of a sheet: `verdict empty rounds ` has 21 bytes, `verdict nonempty rounds ` 24.
-fn rounds(sheet: &[u8]) -> usize {
-    if is_empty(sheet) {
-        return number(sheet, 21);
+// Where what was written is counted: `refused ` has 8 bytes, `verdict empty rounds ` 21 and `verdict nonempty rounds ` 24.
+fn place_of(sheet: &[u8]) -> usize {
+    if byte(sheet, 0) == b'r' {
+        return std::num::wrapping_add_usize(REFUSED, value(byte(sheet, 8)));
+    }
+    if byte(sheet, 8) == b'e' {
+        return std::num::wrapping_add_usize(EMPTY, number(sheet, 21));
     }
     number(sheet, 24)
 }
 
-fn verdict(sheet: &[u8]) -> usize {
-    if is_empty(sheet) { EMPTY } else { NONEMPTY }
-}
-
-fn max(a: u64, b: u64) -> u64 {
-    if a < b { b } else { a }
-}
-
-// Counts the openings, and keeps the length of the longest walk.
-fn count_lines(sheet: &[u8], counts: &mut [u64]) {
-    add(counts, OPENINGS, lines(sheet, b'o', b'e'));
-    let longest = max(get(counts, LONGEST), lines(sheet, b's', b'e'));
-    set(counts, LONGEST, longest);
-}
-
-// Counts a refusal: `refused ` has 8 bytes.
-fn count_refusal(sheet: &[u8], counts: &mut [u64]) {
-    add(
-        counts,
-        std::num::wrapping_add_usize(REFUSED, value(byte(sheet, 8))),
-        1,
-    );
-}
-
 // Counts a batch that was tried before.
 pub fn repeated(counts: &mut [u64]) {
-    add(counts, REPEATED, 1);
+    add(counts, REPEATED);
 }
 
-// Counts what a sheet says.
-fn count_sheet(sheet: &[u8], counts: &mut [u64]) {
-    add(counts, rounds(sheet), 1);
-    add(counts, verdict(sheet), 1);
-    count_lines(sheet, counts);
-}
-
-// Counts what the engine wrote.
-fn count(sheet: &[u8], counts: &mut [u64]) {
-    if byte(sheet, 0) == b'r' {
-        count_refusal(sheet, counts);
-    } else {
-        count_sheet(sheet, counts);
-    }
-}
-
-// A line with a word, a number and the count at a place, if it is not 0.
-fn report_line(counts: &[u64], word: &[u8], k: u64, at: usize) {
+fn report_line(counts: &[u64], word: &[u8], k: usize, at: usize) {
     let n = get(counts, at);
-    if n == 0 {
-        return;
-    }
-    say(word);
-    program_output::say_number(k);
-    say_count(b": ", n);
-}
-
-fn report_round(counts: &[u64], k: usize) {
-    report_line(counts, b"rounds ", k as u64, k);
-}
-
-fn report_rounds(counts: &[u64]) {
-    let mut k = 0;
-    while k < 40 {
-        report_round(counts, k);
-        k += 1;
+    if n > 0 {
+        say(word);
+        program_output::say_number(k as u64);
+        say_count(b": ", n);
     }
 }
 
-fn report_refusal(counts: &[u64], k: usize) {
-    report_line(
-        counts,
-        b"refused ",
-        k as u64,
-        std::num::wrapping_add_usize(REFUSED, k),
-    );
+// The line of a count, if it is not 0.
+fn report_at(counts: &[u64], at: usize) {
+    if at < EMPTY {
+        return report_line(counts, b"nonempty, rounds ", at, at);
+    }
+    if at < REFUSED {
+        return report_line(counts, b"empty, rounds ", at - EMPTY, at);
+    }
+    report_line(counts, b"refused ", at - REFUSED, at)
 }
 
-fn report_refusals(counts: &[u64]) {
-    let mut k = 0;
-    while k < 10 {
-        report_refusal(counts, k);
-        k += 1;
+// Writes the lines of the counts.
+fn report_all(counts: &[u64]) {
+    let mut at = 0;
+    while at < REPEATED {
+        report_at(counts, at);
+        at += 1;
     }
 }
 
-// How many automata were tried.
-fn tried(counts: &[u64]) -> u64 {
-    std::num::wrapping_add_u64(get(counts, EMPTY), get(counts, NONEMPTY))
-}
-
-fn report_count(name: &[u8], counts: &[u64], i: usize) {
-    say_count(name, get(counts, i));
-}
-
-fn report_verdicts(counts: &[u64]) {
-    say_count(b"automata ", tried(counts));
-    report_count(b"empty ", counts, EMPTY);
-    report_count(b"nonempty ", counts, NONEMPTY);
-}
-
-fn report_sheets(counts: &[u64]) {
-    report_count(b"openings ", counts, OPENINGS);
-    report_count(b"longest walk ", counts, LONGEST);
-    report_count(b"passed over, as tried before ", counts, REPEATED);
-}
-
-fn report_differences(counts: &[u64]) {
-    report_count(b"different ", counts, DIFFERENT);
-    report_count(b"pairs of different batches ", counts, PAIRS);
-    report_count(b"told different ", counts, TOLD);
-}
-
+// Writes what was counted.
 pub fn report(counts: &[u64]) {
-    report_verdicts(counts);
-    report_rounds(counts);
-    report_refusals(counts);
-    report_sheets(counts);
-    report_differences(counts);
+    report_all(counts);
+    let repeated = get(counts, REPEATED);
+    say_count(b"passed over, as tried before: ", repeated);
+    say_count(
+        b"tried, no two the same: ",
+        std::num::wrapping_sub_u64(BATCHES, repeated),
+    );
+    say_count(b"different: ", get(counts, DIFFERENT));
+    say_count(b"pairs of different batches: ", get(counts, PAIRS));
+    say_count(b"told different: ", get(counts, TOLD));
 }
 
 // A difference: the batch and both sheets.
@@ -228,13 +129,13 @@ fn show(batch: &[u8], ours: &[u8], theirs: &[u8]) {
     say(theirs);
 }
 
-// Compares the sheets, and counts a difference where it is told.
+// Compares the sheets, counts a difference where it is told, and shows one that must not be.
 fn compare(batch: &[u8], ours: &[u8], theirs: &[u8], told: usize, counts: &mut [u64]) {
     if program_output::same(ours, theirs) {
         return;
     }
-    add(counts, told, 1);
-    if told == DIFFERENT && get(counts, DIFFERENT) == 1 {
+    add(counts, told);
+    if told == DIFFERENT {
         show(batch, ours, theirs);
     }
 }
@@ -242,9 +143,10 @@ fn compare(batch: &[u8], ours: &[u8], theirs: &[u8], told: usize, counts: &mut [
 // Compares the sheets, and counts what they say, or a pair that is to be told different.
 pub fn tell(batch: &[u8], ours: &[u8], theirs: &[u8], told: usize, counts: &mut [u64]) {
     compare(batch, ours, theirs, told, counts);
-    if told == DIFFERENT {
-        count(ours, counts);
+    let at = if told == DIFFERENT {
+        place_of(ours)
     } else {
-        add(counts, PAIRS, 1);
-    }
+        PAIRS
+    };
+    add(counts, at);
 }

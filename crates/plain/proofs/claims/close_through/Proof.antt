@@ -8,10 +8,10 @@ use Rattle.plain.proofs.claims.close_through.Statement.{statement}
 use Rattle.plain.proofs.claims.close_through.Tie as tie
 
 abbrev Inv-loop : tie.InvT-loop
-Inv-loop links₀ middle s₀ links s = (s ≤ 64) × (length links ≡ length links₀)
+Inv-loop links₀ p middle on s₀ links s = (s ≤ 64) × (length links ≡ length links₀)
 
 abbrev μ-loop : tie.MeasureT-loop
-μ-loop links₀ middle s₀ links s = 64 - s
+μ-loop links₀ p middle on s₀ links s = 64 - s
 
 add-s : tie.Need-add-s Inv-loop μ-loop
 add-s c = omega arith
@@ -25,7 +25,11 @@ close-through-spec =
     (tie.spec
     Inv-loop
     μ-loop
+    (λ c κs. tt)
+    (λ c. tt)
+    (λ c κs. tt)
     (λ c. search needs)
+    (λ c κs. tt)
     (λ c κs. tt)
     (λ c κs. tt)
     add-s

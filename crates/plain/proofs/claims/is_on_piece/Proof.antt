@@ -33,6 +33,8 @@ is-on-piece-spec =
     loop-holds
     (λ c κs. tt)
     (λ c κs. tt)
+    (λ c κs. tt)
+    (λ c κs. tt)
     (λ c. tt)
     add-e
     loop-less

@@ -13,32 +13,11 @@ Inv-loop table p links₀ n₀ links n = (n ≤ 1100) × (length links ≡ lengt
 abbrev μ-loop : tie.MeasureT-loop
 μ-loop table p links₀ n₀ links n = 1100 - n
 
-cell-requires : tie.Need-cell-requires Inv-loop μ-loop
-cell-requires c κs = tt
-
-cell-requires-2 : tie.Need-cell-requires-2 Inv-loop μ-loop
-cell-requires-2 c κs = tt
-
-at-requires : tie.Need-at-requires Inv-loop μ-loop
-at-requires c κs = tt
-
-step-added-requires : tie.Need-step-added-requires Inv-loop μ-loop
-step-added-requires c κs = tt
-
-put-requires : tie.Need-put-requires Inv-loop μ-loop
-put-requires c κs = tt
-
 add-n : tie.Need-add-n Inv-loop μ-loop
 add-n c = omega arith
 
 loop-less : tie.Need-loop-less Inv-loop μ-loop
 loop-less c = omega arith
-
-returns : tie.Need-returns Inv-loop μ-loop
-returns c = tt
-
-returns-2 : tie.Need-returns-2 Inv-loop μ-loop
-returns-2 c = tt
 
 pub link-steps-spec : {M : Type 1} → statement M
 link-steps-spec =
@@ -47,15 +26,18 @@ link-steps-spec =
     Inv-loop
     μ-loop
     (λ c. search needs)
-    cell-requires
-    cell-requires-2
-    at-requires
-    step-added-requires
-    put-requires
+    (λ c κs. tt)
+    (λ c κs. tt)
+    (λ c κs. tt)
+    (λ c κs. tt)
+    (λ c κs. tt)
+    (λ c κs. tt)
+    (λ c κs. tt)
+    (λ c κs. tt)
     add-n
     loop-less
     (λ c. search needs)
     (λ c. search needs)
-    returns
+    (λ c. tt)
     (λ c. search needs)
-    returns-2)
+    (λ c. tt))

@@ -13,29 +13,11 @@ Inv-loop table₀ k₀ table k = (k ≤ 65) × (length table ≡ length table₀
 abbrev μ-loop : tie.MeasureT-loop
 μ-loop table₀ k₀ table k = 65 - k
 
-make-steps-requires : tie.Need-make-steps-requires Inv-loop μ-loop
-make-steps-requires c κs = tt
-
-is-accepted-requires : tie.Need-is-accepted-requires Inv-loop μ-loop
-is-accepted-requires c κs = tt
-
-returns : tie.Need-returns Inv-loop μ-loop
-returns c = tt
-
 add-k : tie.Need-add-k Inv-loop μ-loop
 add-k c = omega arith
 
-round-requires : tie.Need-round-requires Inv-loop μ-loop
-round-requires c κs = tt
-
 loop-less : tie.Need-loop-less Inv-loop μ-loop
 loop-less c = omega arith
-
-returns-2 : tie.Need-returns-2 Inv-loop μ-loop
-returns-2 c = tt
-
-returns-3 : tie.Need-returns-3 Inv-loop μ-loop
-returns-3 c = tt
 
 pub settle-spec : {M : Type 1} → statement M
 settle-spec =
@@ -44,15 +26,15 @@ settle-spec =
     Inv-loop
     μ-loop
     (λ c. search needs)
-    make-steps-requires
-    is-accepted-requires
+    (λ c κs. tt)
+    (λ c κs. tt)
     (λ c. search needs)
-    returns
+    (λ c. tt)
     add-k
-    round-requires
+    (λ c κs. tt)
     loop-less
     (λ c. search needs)
     (λ c. search needs)
-    returns-2
+    (λ c. tt)
     (λ c. search needs)
-    returns-3)
+    (λ c. tt))

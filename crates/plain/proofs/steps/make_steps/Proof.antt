@@ -27,6 +27,7 @@ make-steps-spec =
     μ-loop
     (λ c. search needs)
     (λ c κs. tt)
+    (λ c κs. tt)
     add-row
     loop-less
     (λ c. search needs)

@@ -13,15 +13,6 @@ abbrev μ-loop : tie.MeasureT-loop
 loop-holds : tie.Need-loop-holds Inv-loop μ-loop
 loop-holds c = omega arith
 
-cell-requires : tie.Need-cell-requires Inv-loop μ-loop
-cell-requires c κs = tt
-
-is-on-way-requires : tie.Need-is-on-way-requires Inv-loop μ-loop
-is-on-way-requires c κs = tt
-
-is-before-requires : tie.Need-is-before-requires Inv-loop μ-loop
-is-before-requires c κs = tt
-
 add-n : tie.Need-add-n Inv-loop μ-loop
 add-n c = omega arith
 
@@ -31,12 +22,6 @@ loop-less c = omega arith
 loop-again : tie.Need-loop-again Inv-loop μ-loop
 loop-again c = omega arith
 
-returns : tie.Need-returns Inv-loop μ-loop
-returns c = tt
-
-returns-2 : tie.Need-returns-2 Inv-loop μ-loop
-returns-2 c = tt
-
 pub first-step-spec : {M : Type 1} → statement M
 first-step-spec =
     tie.close
@@ -44,11 +29,13 @@ first-step-spec =
     Inv-loop
     μ-loop
     loop-holds
-    cell-requires
-    is-on-way-requires
-    is-before-requires
+    (λ c κs. tt)
+    (λ c κs. tt)
+    (λ c κs. tt)
+    (λ c κs. tt)
+    (λ c κs. tt)
     add-n
     loop-less
     loop-again
-    returns
-    returns-2)
+    (λ c. tt)
+    (λ c. tt))

@@ -1,25 +1,27 @@
 -- `random::batches::digest` is safe and ends. The invariant keeps the counter within its bound and the lengths of what is lent; the measure is what is left to count.
 use native.Mathlib.Omega.{arith}
+use Prim.Native.Nat.{_≤_, _-_}
+use lib.ListN.{length}
 use Rattle.random.proofs.batches.digest.Statement.{statement}
 use Rattle.random.proofs.batches.digest.Tie as tie
 
 abbrev Inv-loop : tie.InvT-loop
-Inv-loop batch sum₀ at₀ left₀ sum at left = Unit {0}
+Inv-loop batch found₀ i₀ found i = i ≤ length batch
 
 abbrev μ-loop : tie.MeasureT-loop
-μ-loop batch sum₀ at₀ left₀ sum at left = left
+μ-loop batch found₀ i₀ found i = length batch - i
 
 loop-holds : tie.Need-loop-holds Inv-loop μ-loop
-loop-holds c = tt
+loop-holds c = omega arith
 
-sub-left : tie.Need-sub-left Inv-loop μ-loop
-sub-left c = omega arith
+add-i : tie.Need-add-i Inv-loop μ-loop
+add-i c = omega arith
 
 loop-less : tie.Need-loop-less Inv-loop μ-loop
 loop-less c = omega arith
 
 loop-again : tie.Need-loop-again Inv-loop μ-loop
-loop-again c = tt
+loop-again c = omega arith
 
 pub digest-spec : {M : Type 1} → statement M
 digest-spec =
@@ -30,10 +32,7 @@ digest-spec =
     loop-holds
     (λ c κs. tt)
     (λ c κs. tt)
-    (λ c κs. tt)
-    (λ c κs. tt)
-    sub-left
+    add-i
     loop-less
     loop-again
-    (λ c. tt)
     (λ c. tt))

@@ -1,14 +1,14 @@
--- `random::naming::name_set` is safe and ends. The invariant keeps the counter within its bound and the lengths of what is lent; the measure is what is left to count.
+-- `random::generator::named` is safe and ends. The invariant keeps the counter within its bound and the lengths of what is lent; the measure is what is left to count.
 use native.Mathlib.Omega.{arith}
 use Prim.Native.Nat.{_≤_, _-_}
-use Rattle.random.proofs.naming.name_set.Statement.{statement}
-use Rattle.random.proofs.naming.name_set.Tie as tie
+use Rattle.random.proofs.generator.named.Statement.{statement}
+use Rattle.random.proofs.generator.named.Tie as tie
 
 abbrev Inv-loop : tie.InvT-loop
-Inv-loop set names found₀ s₀ found s = s ≤ 64
+Inv-loop set names found₀ s₀ found s = s ≤ 16
 
 abbrev μ-loop : tie.MeasureT-loop
-μ-loop set names found₀ s₀ found s = 64 - s
+μ-loop set names found₀ s₀ found s = 16 - s
 
 loop-holds : tie.Need-loop-holds Inv-loop μ-loop
 loop-holds c = omega arith
@@ -22,8 +22,8 @@ loop-less c = omega arith
 loop-again : tie.Need-loop-again Inv-loop μ-loop
 loop-again c = omega arith
 
-pub name-set-spec : {M : Type 1} → statement M
-name-set-spec =
+pub named-spec : {M : Type 1} → statement M
+named-spec =
     tie.close
     (tie.spec
     Inv-loop

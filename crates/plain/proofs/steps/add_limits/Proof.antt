@@ -1,11 +1,11 @@
--- `plain::steps::put_limits` is safe and ends. The invariant keeps the counter within its bound and the lengths of what is lent; the measure is what is left to count.
+-- `plain::steps::add_limits` is safe and ends. The invariant keeps the counter within its bound and the lengths of what is lent; the measure is what is left to count.
 use borrow.Author.Needs.{needs}
 use native.Mathlib.Omega.{arith}
 use Prim.Native.Nat.{_≤_, _-_}
 use lib.ListN.{length}
 use mathlib.Core.Path.{_≡_}
-use Rattle.plain.proofs.steps.put_limits.Statement.{statement}
-use Rattle.plain.proofs.steps.put_limits.Tie as tie
+use Rattle.plain.proofs.steps.add_limits.Statement.{statement}
+use Rattle.plain.proofs.steps.add_limits.Tie as tie
 
 abbrev Inv-loop : tie.InvT-loop
 Inv-loop table₀ line row n₀ q₀ table n q = (q ≤ 64) × (length table ≡ length table₀)
@@ -19,12 +19,16 @@ add-q c = omega arith
 loop-less : tie.Need-loop-less Inv-loop μ-loop
 loop-less c = omega arith
 
-pub put-limits-spec : {M : Type 1} → statement M
-put-limits-spec =
+pub add-limits-spec : {M : Type 1} → statement M
+add-limits-spec =
     tie.close
     (tie.spec
     Inv-loop
     μ-loop
+    (λ c κs. tt)
+    (λ c κs. tt)
+    (λ c. search needs)
+    (λ c. tt)
     (λ c. search needs)
     (λ c κs. tt)
     (λ c κs. tt)
