@@ -60,7 +60,7 @@ fn say_report(call: Report, answer: Answer, phase: Phase, buffer: &[u8]) {
 }
 
 // Writes the answer to the call of a command.
-pub fn say_answer(command: Command, answer: Answer, phase: Phase, buffer: &[u8]) {
+pub(crate) fn say_answer(command: Command, answer: Answer, phase: Phase, buffer: &[u8]) {
     match command {
         Command::Reports(call, _) => say_report(call, answer, phase, buffer),
         _ => say_done(answer, phase),
@@ -76,7 +76,7 @@ fn say_line(line: &[u8], asked: bool) {
 }
 
 // Says why a line asks for no call; where checks are asked for, what is passed over is written out.
-pub fn say_none(command: Command, line: &[u8], checks: bool) {
+pub(crate) fn say_none(command: Command, line: &[u8], checks: bool) {
     match command {
         Command::Nothing => say_line(line, checks),
         Command::BadHex => say(b"bad hex\n"),

@@ -109,7 +109,7 @@ fn is_call(command: Command) -> bool {
 }
 
 // Runs a line: the call that it asks for, or none.
-pub fn run_line(session: Session, line: &[u8], checks: bool) -> Session {
+pub(crate) fn run_line(session: Session, line: &[u8], checks: bool) -> Session {
     // Room for the batch of any line that is held.
     let mut batch = [0u8; 70000];
     let command = commands::parse(line, &mut batch);

@@ -121,7 +121,7 @@ fn say_beyond(answer: Answer, buffer: &[u8]) {
 }
 
 // Says whether the session and the buffer are as they were.
-pub fn say_kept(before: Session, after: Session, answer: Answer, buffer: &[u8]) {
+pub(crate) fn say_kept(before: Session, after: Session, answer: Answer, buffer: &[u8]) {
     say(b", session");
     say_same(digest(before) == digest(after));
     say(b", buffer");

@@ -120,7 +120,7 @@ fn turn(session: Session, buffer: &mut [u8], line: &mut [u8], held: usize, check
 
 // Reads and runs lines to the end of the input. A proved loop has to end, and nothing says that the input does: so the turns are
 // counted down, from a number that no run uses up.
-pub fn run(session: Session, buffer: &mut [u8], line: &mut [u8], checks: bool) {
+pub(crate) fn run(session: Session, buffer: &mut [u8], line: &mut [u8], checks: bool) {
     let mut last = session;
     let mut held = 0;
     let mut turns = u64::MAX;
