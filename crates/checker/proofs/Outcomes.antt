@@ -69,7 +69,7 @@ wrote-fits t old new r w = let e : length new ≡ length t + length (drop (lengt
 shows-by : (input old new : List ℕ) (r : ℕ) (t : List ℕ) → 6400 ≤ length old → program input ≡ t → Wrote t old new r → ShowsSheet input old new r
 shows-by input old new r t h e w = record {
   shown = λ g. subst (λ x. Wrote x old new r) (sym e) w;
-  short = λ g. absurd (g h);
+  short = λ g. absurd (g (omega arith));
   fits = wrote-fits t old new r w;
   counted = sym (length-take-le r new (wrote-fits t old new r w));
 }
