@@ -27,9 +27,9 @@ fn read_file(file: i32, buffer: &mut [u8]) -> usize
 
 // Does the program write the text for the batch?
 fn writes(batch: &[u8], text: &[u8]) -> bool {
-    let mut out = [0u8; 6400];
-    let n = checker::show(batch, &mut out);
-    same(&out[..n], text)
+    let shown = checker::shown(batch);
+    let written = shown.text;
+    same(&written[..shown.length], text)
 }
 
 fn say_same(is_same: bool) {

@@ -4,7 +4,6 @@ use mathlib.Core.Path.{_≡_, refl, ap, sym, _∙_, subst}
 use mathlib.Core.Bool.{Bool, true, false}
 use mathlib.Core.List.{List, []}
 use lib.ListN.{length, drop, replicate, length-append}
-use lib.Seq.{length-take-le}
 use native.Mathlib.Omega.{arith}
 use Rattle.lists.specs.Writing.{Wrote}
 use Rattle.lists.proofs.Deciding.{not-so, ltb·}
@@ -24,7 +23,7 @@ use Rattle.machine.proofs.Phases.{load-feeds}
 use Rattle.machine.proofs.Program.{outcome-size}
 use Rattle.texts.proofs.Digits.{number-short}
 use Rattle.row_table.specs.Arrays.{Filed, Comes}
-use Rattle.checker.specs.Promise.{Checks, ShowsSheet}
+use Rattle.checker.specs.Promise.{Checks}
 
 -- ---- the answer of the load
 
@@ -63,25 +62,20 @@ refusal-short n place h g =
     let l = number-short place g in
     simp length-append (omega arith)
 
-wrote-fits : (t old new : List ℕ) (r : ℕ) → Wrote t old new r → r ≤ length new
+pub wrote-fits : (t old new : List ℕ) (r : ℕ) → Wrote t old new r → r ≤ length new
 wrote-fits t old new r w = let e : length new ≡ length t + length (drop (length t) old) = ap length (w .bytes-are) ∙ length-append t (drop (length t) old) in omega (arith, w .length-is)
 
-shows-by : (input old new : List ℕ) (r : ℕ) (t : List ℕ) → 6400 ≤ length old → program input ≡ t → Wrote t old new r → ShowsSheet input old new r
-shows-by input old new r t h e w = record {
-  shown = λ g. subst (λ x. Wrote x old new r) (sym e) w;
-  short = λ g. absurd (g (omega arith));
-  fits = wrote-fits t old new r w;
-  counted = sym (length-take-le r new (wrote-fits t old new r w));
-}
+-- what the program writes is in the buffer
+abbrev Shows : List ℕ → List ℕ → List ℕ → ℕ → Type 0
+Shows input old new r = Wrote (program input) old new r
 
--- nothing into a short buffer
-pub shows-short : (input old : List ℕ) → length old < 6400 → ShowsSheet input old old 0
-shows-short input old h = record { shown = λ g. absurd (omega arith); short = λ g. (refl, refl); fits = omega arith; counted = refl }
+shows-by : (input old new : List ℕ) (r : ℕ) (t : List ℕ) → program input ≡ t → Wrote t old new r → Shows input old new r
+shows-by input old new r t e w = subst (λ x. Wrote x old new r) (sym e) w
 
 -- input longer than a batch may be
-pub shows-long : (input old new : List ℕ) (r : ℕ) → 6400 ≤ length old → 65536 < length input → Wrote (line (text "too long")) old new r → ShowsSheet input old new r
+pub shows-long : (input old new : List ℕ) (r : ℕ) → 65536 < length input → Wrote (line (text "too long")) old new r → Shows input old new r
 unfolding program
-shows-long input old new r h g w = shows-by input old new r (line (text "too long")) h
+shows-long input old new r g w = shows-by input old new r (line (text "too long"))
     (ap (λ (b : Bool). elim b [ true ↦ line (text "too long") | false ↦ shown (outcome input 6400) ]) (ltb· 65536 (length input) .of g)) w
 
 program-is : (input : List ℕ) (size : ℕ) → Bytes input → 6400 ≤ size → length input ≤ 65536 → program input ≡ shown (outcome input size)
@@ -96,18 +90,18 @@ kept-buffer input old mid n place c = c .buffer-is ∙ ap (λ (a : Outcome). buf
 
 -- a batch whose answer is known
 module _ (input old : List ℕ) (b : Bytes input) (h : 6400 ≤ length old) (g : length input ≤ 65536) where
-  shows-told : (a : Outcome) (new : List ℕ) (r : ℕ) → outcome input (length old) ≡ a → Wrote (shown a) old new r → ShowsSheet input old new r
-  shows-told a new r e w = shows-by input old new r (shown a) h (program-is input (length old) b h g ∙ ap shown e) w
+  shows-told : (a : Outcome) (new : List ℕ) (r : ℕ) → outcome input (length old) ≡ a → Wrote (shown a) old new r → Shows input old new r
+  shows-told a new r e w = shows-by input old new r (shown a) (program-is input (length old) b h g ∙ ap shown e) w
 
-  pub shows-done : (new : List ℕ) → Checks input old new Done → ShowsSheet input old new 0
+  pub shows-done : (new : List ℕ) → Checks input old new Done → Shows input old new 0
   shows-done new c = let e = done-by (outcome input (length old)) (sym (c .answer-is)) in
       shows-told done new 0 e (record { length-is = refl; bytes-are = c .buffer-is ∙ ap (λ (a : Outcome). buffer-after a old) e })
 
-  pub shows-wrote : (n : ℕ) (new : List ℕ) → Checks input old new (WroteCount n) → ShowsSheet input old new n
+  pub shows-wrote : (n : ℕ) (new : List ℕ) → Checks input old new (WroteCount n) → Shows input old new n
   shows-wrote n new c = let e = wrote-by (outcome input (length old)) n (sym (c .answer-is)) in
       shows-told (wrote (e .0)) new n (e .1) (record { length-is = e .2; bytes-are = c .buffer-is ∙ ap (λ (a : Outcome). buffer-after a old) (e .1) })
 
-  pub shows-refused : (n place : ℕ) (mid new : List ℕ) (r : ℕ) → Checks input old mid (Refused n place) → Wrote (refusal-line n place) mid new r → ShowsSheet input old new r
+  pub shows-refused : (n place : ℕ) (mid new : List ℕ) (r : ℕ) → Checks input old mid (Refused n place) → Wrote (refusal-line n place) mid new r → Shows input old new r
   shows-refused n place mid new r c w =
       shows-told (refused n place) new r (refused-by (outcome input (length old)) n place (sym (c .answer-is)))
       (subst (λ (l : List ℕ). Wrote (refusal-line n place) l new r) (kept-buffer input old mid n place c) w)

@@ -3,7 +3,6 @@ use Prim.Native.Nat.{ℕ, _≤_}
 use mathlib.Core.Path.{_≡_}
 use mathlib.Core.List.{List}
 use lib.ListN.{length, take}
-use Rattle.lists.specs.Writing.{Wrote}
 use Rattle.rows.specs.declared.Row.{Row}
 use Rattle.machine.specs.declared.Answer.{Answer}
 use Rattle.machine.specs.Machine.{longest-sheet, open-with}
@@ -27,15 +26,8 @@ Checks batch old new r = Tells (outcome batch (length old)) old new r
 abbrev pub Roomy : List ℕ → Type 0
 Roomy buffer = longest-sheet ≤ length buffer
 
--- such a buffer holds what the program writes; a shorter one stays as it is, and nothing is counted. The count lies within the buffer,
--- which is said twice, as the caller that lends those bytes is asked both
-pub record ShowsSheet (input old new : List ℕ) (r : ℕ) : Type 0 where
-  pub shown : Roomy old → Wrote (program input) old new r
-  pub short : ¬ Roomy old → (new ≡ old) × (r ≡ 0)
-  pub fits : r ≤ length new
-  pub counted : r ≡ length (take r new)
-
--- what the program writes stands at the start of the array, which has room for it
+-- what the program writes stands at the start of the array. The count lies within it, which is said twice, as the caller that lends
+-- those bytes is asked both
 pub record Told (input : List ℕ) (r : Written) : Type 0 where
   pub text-is : take (r .length) (r .text) ≡ program input
   pub within : r .length ≤ length (r .text)

@@ -6,7 +6,9 @@ use machine::MOST_ROWS;
 use machine::MOST_SETS;
 use machine::Phase;
 ghost use Prim.Native.Nat.{_≤_};
-ghost use Rattle.checker.specs.Promise.{Finishes, Checks, ShowsSheet, Told};
+ghost use Rattle.lists.specs.Writing.{Wrote};
+ghost use Rattle.machine.specs.Program.{program};
+ghost use Rattle.checker.specs.Promise.{Finishes, Checks, Roomy, Told};
 
 // A text at the start of an array that has room for any that the program writes, and its length.
 pub struct Written {
@@ -66,13 +68,11 @@ pub fn check(batch: &[u8], sheet: &mut [u8]) -> Answer
     }
 }
 
-// What the program `sheet` writes for its input: the sheet, the line of the refusal, or `too long`.
-pub fn show(input: &[u8], out: &mut [u8]) -> usize
-    ensures { λ r. ⌜ ShowsSheet (now (input .entry)) (now (out .entry)) (now (out .exit)) r ⌝ }
+// What the program `sheet` writes for its input, into a buffer that has room for it: the sheet, the line of the refusal, or `too long`.
+fn show(input: &[u8], out: &mut [u8]) -> usize
+    requires { ⌜ Roomy (now out) ⌝ }
+    ensures { λ r. ⌜ Wrote (program (now (input .entry))) (now (out .entry)) (now (out .exit)) r ⌝ }
 {
-    if out.len() < LONGEST_SHEET {
-        return 0;
-    }
     if input.len() > LONGEST_BATCH {
         return texts::put_text(out, b"too long\n");
     }
@@ -83,7 +83,7 @@ pub fn show(input: &[u8], out: &mut [u8]) -> usize
     }
 }
 
-// The same for every input: the array has room for it.
+// What the program `sheet` writes for its input.
 pub fn shown(input: &[u8]) -> Written
     ensures { λ r. ⌜ Told (now (input .entry)) r ⌝ }
 {

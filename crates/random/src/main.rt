@@ -9,11 +9,17 @@ use program_output::first;
 
 // What the engine makes of one batch against what the plain search makes of the other.
 fn try_pair(batch: &[u8], other: &[u8], told: usize, counts: &mut [u64]) {
-    let mut ours = [0u8; 6400];
+    let shown = checker::shown(batch);
+    let ours = shown.text;
     let mut theirs = [0u8; 6400];
-    let n = checker::show(batch, &mut ours);
     let m = plain::sheet(other, &mut theirs);
-    tally::tell(batch, first(&ours, n), first(&theirs, m), told, counts);
+    tally::tell(
+        batch,
+        first(&ours, shown.length),
+        first(&theirs, m),
+        told,
+        counts,
+    );
 }
 
 // Tries one batch; and of some also that it is told from the same batch without its last row.

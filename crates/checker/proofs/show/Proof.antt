@@ -6,27 +6,22 @@ use lib.ListN.{length}
 use Rattle.machine.specs.Program.{refusal-line}
 use Rattle.rows.proofs.Reading.{all-bytes}
 use Rattle.checker.specs.Promise.{Checks}
-use Rattle.checker.proofs.Outcomes.{refusal-short, kept-buffer, shows-short, shows-long, shows-done, shows-wrote, shows-refused}
+use Rattle.checker.proofs.Outcomes.{refusal-short, kept-buffer, shows-long, shows-done, shows-wrote, shows-refused}
 use borrow.Author.Needs.{needs}
 use Rattle.checker.proofs.show.Statement.{statement}
 use Rattle.checker.proofs.show.Tie as tie
 
 returns : tie.Need-returns
 returns c =
-    let a = c .before .before .before .args in
-    shows-short (a .input .now) (a .out .now) (omega arith)
-
-returns-2 : tie.Need-returns-2
-returns-2 c =
     let t = c .before .before in
-    let a = t .before .before .before .before .before .before .before .args in
-    shows-long (a .input .now) (a .out .now) _ _ (omega arith) (omega arith) (t .put-text .ensures)
+    let a = t .before .before .before .before .before .before .args in
+    shows-long (a .input .now) (a .out .now) _ _ (omega arith) (t .put-text .ensures)
 
 put-refusal-line-requires : tie.Need-put-refusal-line-requires
 put-refusal-line-requires c κs =
     let o = c .before .before in
     let k = o .before .before .before .before in
-    let known = k .before .before .before .before .before in
+    let known = k .before .before .before .before in
     let a = known .before .args in
     let n = o .n2 .given .0 .0 in
     let place = o .n2 .given .0 .1 .0 in
@@ -37,29 +32,29 @@ put-refusal-line-requires c κs =
     let g : length (refusal-line n place) ≤ length mid = omega arith in
     g
 
-returns-3 : tie.Need-returns-3
-returns-3 c =
+returns-2 : tie.Need-returns-2
+returns-2 c =
     let k = c .before .before .before .before in
-    let known = k .before .before .before .before .before in
+    let known = k .before .before .before .before in
     let a = known .before .args in
     shows-done (a .input .now) (a .out .now) (all-bytes (a .input .now) (λ i. omega (arith, known .shared-slice-known .given i))) (omega arith) (omega arith) _
     (subst (λ r. Checks (a .input .now) (a .out .now) (k .check .last .1 .0) r) (c .enum-told .given .1) (k .check .ensures))
 
-returns-4 : tie.Need-returns-4
-returns-4 c =
+returns-3 : tie.Need-returns-3
+returns-3 c =
     let o = c .before in
     let k = o .before .before .before .before in
-    let known = k .before .before .before .before .before in
+    let known = k .before .before .before .before in
     let a = known .before .args in
     shows-wrote (a .input .now) (a .out .now) (all-bytes (a .input .now) (λ i. omega (arith, known .shared-slice-known .given i))) (omega arith) (omega arith) _ _
     (subst (λ r. Checks (a .input .now) (a .out .now) (k .check .last .1 .0) r) (o .n .given .1) (k .check .ensures))
 
-returns-5 : tie.Need-returns-5
-returns-5 c =
+returns-4 : tie.Need-returns-4
+returns-4 c =
     let w = c .before .before in
     let o = w .before .before .before in
     let k = o .before .before .before .before in
-    let known = k .before .before .before .before .before in
+    let known = k .before .before .before .before in
     let a = known .before .args in
     shows-refused (a .input .now) (a .out .now) (all-bytes (a .input .now) (λ i. omega (arith, known .shared-slice-known .given i))) (omega arith) (omega arith)
     (o .n2 .given .0 .0) (o .n2 .given .0 .1 .0) (k .check .last .1 .0) _ _
@@ -69,11 +64,10 @@ pub show-spec : {M : Type 1} → statement M
 show-spec =
     tie.close
     (tie.spec
-    returns
     (λ c. search needs)
     (λ c κs. search needs)
     (λ c. search needs)
-    returns-2
+    returns
     (λ c κs. search needs)
     (λ c. search needs)
     (λ c. search needs)
@@ -81,8 +75,8 @@ show-spec =
     (λ c. search needs)
     put-refusal-line-requires
     (λ c. search needs)
+    returns-2
+    (λ c. search needs)
     returns-3
     (λ c. search needs)
-    returns-4
-    (λ c. search needs)
-    returns-5)
+    returns-4)
