@@ -1,4 +1,4 @@
--- Steps as the masks have them: the states to which they lead (`onward-hop`, `onward-inside`), steps turned round (`hop-turn`), steps by old
+-- Steps as the masks have them: the states to which they lead (`onward-hop`), steps turned round (`hop-turn`), steps by old
 -- claims and by new ones (`hop-either`), and the ends that new claims add (`ends-more`, `added-next`).
 use Prim.Native.Nat.{ℕ, _+_, _<_, _≤_}
 use mathlib.Core.Path.{_≡_, refl, sym, subst, _∙_}
@@ -15,7 +15,7 @@ use Rattle.masks.proofs.Member.{member-lt, member-or, union-left, union-right, 
 use Rattle.search.specs.declared.Claims.{Claims}
 use Rattle.search.specs.Graph.{Graph, TurnedGraph}
 use Rattle.search.specs.Promises.{MoreEnds}
-use Rattle.search.specs.Hops.{Passes, Lettered, Claimed, Hop, LetterHop, Onward, Inner, InnerClaims, Unites, WithNew}
+use Rattle.search.specs.Hops.{ByPlaces, Lettered, Claimed, Hop, Onward, Inner, InnerClaims, Unites, WithNew}
 use Rattle.search.proofs.Parts.{turn-back}
 
 -- steps of one kind or of another
@@ -42,18 +42,18 @@ module _ {g : Graph} {force : Claims} {p : ℕ} where
   )
 
 -- the two ends of a step by a place, read from other lists and turned round
-passes-turn : (here there here′ there′ : List ℕ) → ((i : ℕ) → getD here i 0 ≡ getD here′ i 0) → ((i : ℕ) → getD there i 0 ≡ getD there′ i 0)
-    → (places a b : ℕ) → Passes here there places a b → Passes there′ here′ places b a
-passes-turn here there here′ there′ f g places a b e =
+places-turn : (here there here′ there′ : List ℕ) → ((i : ℕ) → getD here i 0 ≡ getD here′ i 0) → ((i : ℕ) → getD there i 0 ≡ getD there′ i 0)
+    → (places a b : ℕ) → ByPlaces here there places a b → ByPlaces there′ here′ places b a
+places-turn here there here′ there′ f g places a b e =
     (e .0, e .1, subst (λ (x : ℕ). b ∈ x) (g (e .0)) (e .3), subst (λ (x : ℕ). a ∈ x) (f (e .0)) (e .2))
 
 module _ {g back : Graph} (is : TurnedGraph g back) where
   claimed-back : (force : Claims) (a b : ℕ) → Claimed back force a b → Claimed g force b a
   claimed-back force a b = ⊎-elim
       (⊎-elim
-      (λ e. inl (inr (passes-turn (back .sets) (back .lefts) (g .sets) (g .rights) (is .sets-are) (is .lefts-are) (force .loops) a b e)))
-      (λ e. inl (inl (passes-turn (back .rights) (back .sets) (g .lefts) (g .sets) (is .rights-are) (is .sets-are) (force .loops) a b e))))
-      (λ e. inr (passes-turn (back .rights) (back .lefts) (g .lefts) (g .rights) (is .rights-are) (is .lefts-are) (force .mixes) a b e))
+      (λ e. inl (inr (places-turn (back .sets) (back .lefts) (g .sets) (g .rights) (is .sets-are) (is .lefts-are) (force .loops) a b e)))
+      (λ e. inl (inl (places-turn (back .rights) (back .sets) (g .lefts) (g .sets) (is .rights-are) (is .sets-are) (force .loops) a b e))))
+      (λ e. inr (places-turn (back .rights) (back .lefts) (g .lefts) (g .rights) (is .rights-are) (is .lefts-are) (force .mixes) a b e))
 
   -- each step of the graph turned round is a step, turned round
   pub hop-back : {force : Claims} {p : ℕ} (a b : ℕ) → Hop back force p a b → Hop g force p b a
@@ -73,55 +73,30 @@ module _ {g back : Graph} (is : TurnedGraph g back) where
 pub hop-turn : {g back : Graph} → TurnedGraph g back → {force : Claims} {p : ℕ} (a b : ℕ) → Hop g force p a b → Hop back force p b a
 hop-turn is = hop-back (turn-back is)
 
--- steps E from the states of m in p, to states in p
-pub onward-inside : {E : ℕ → ℕ → Type 0} (p m near u r : ℕ) → ((t : ℕ) → member t near ≡ (member t m && member t p)) → Onward E near u
-    → ((t : ℕ) → member t r ≡ (member t u && member t p)) → Onward (λ a b. (a ∈ p) × (b ∈ p) × E a b) m r
-onward-inside p m near u r is-near f is t = (
-  (λ h. let x = f t .0 (intersection-left u p r is t h) in
-      (x .0, intersection-left m p near is-near (x .0) (x .1), (intersection-right m p near is-near (x .0) (x .1), intersection-right u p r is t h, x .2))),
-  λ x. intersection-both u p r is t (f t .1 (x .0, intersection-both m p near is-near (x .0) (x .1) (x .2 .0), x .2 .2)) (x .2 .1),
-)
-
--- ---- letters and claims
-
--- a step inside p by a claim
-abbrev pub ClaimHop : Graph → Claims → ℕ → ℕ → ℕ → Type 0
-ClaimHop g force p a b = (a ∈ p) × (b ∈ p) × Claimed g force a b
-
-module _ (g : Graph) (force : Claims) (p : ℕ) where
-  pub hop-letter : (a b : ℕ) → LetterHop g p a b → Hop g force p a b
-  hop-letter a b e = record { start = e .0; end = e .1; kind = inl (e .2) }
-
-  pub hop-claim : (a b : ℕ) → ClaimHop g force p a b → Hop g force p a b
-  hop-claim a b e = record { start = e .0; end = e .1; kind = inr (e .2) }
-
-  pub hop-cases : (a b : ℕ) → Hop g force p a b → LetterHop g p a b ⊎ ClaimHop g force p a b
-  hop-cases a b h = ⊎-elim (λ e. inl (h .start, h .end, e)) (λ e. inr (h .start, h .end, e)) (h .kind)
-
 -- ---- old claims and new ones
 
-passes-map : (here there : List ℕ) (x y : ℕ) → x ⊆ y → (a b : ℕ) → Passes here there x a b → Passes here there y a b
-passes-map here there x y f a b e = (e .0, f (e .0) (e .1), e .2, e .3)
+places-map : (here there : List ℕ) (x y : ℕ) → x ⊆ y → (a b : ℕ) → ByPlaces here there x a b → ByPlaces here there y a b
+places-map here there x y f a b e = (e .0, f (e .0) (e .1), e .2, e .3)
 
-passes-cases : (here there : List ℕ) (x y z : ℕ) → Unites x y z → (a b : ℕ) → Passes here there z a b → Passes here there x a b ⊎ Passes here there y a b
-passes-cases here there x y z is a b e = ⊎-elim (λ h. inl (e .0, h, e .2, e .3)) (λ h. inr (e .0, h, e .2, e .3)) (union-cases x y z is (e .0) (e .1))
+places-cases : (here there : List ℕ) (x y z : ℕ) → Unites x y z → (a b : ℕ) → ByPlaces here there z a b → ByPlaces here there x a b ⊎ ByPlaces here there y a b
+places-cases here there x y z is a b e = ⊎-elim (λ h. inl (e .0, h, e .2, e .3)) (λ h. inr (e .0, h, e .2, e .3)) (union-cases x y z is (e .0) (e .1))
 
 module _ (g : Graph) where
   -- other claims
   claimed-map : (x y : Claims) → x .loops ⊆ y .loops → x .mixes ⊆ y .mixes → (a b : ℕ) → Claimed g x a b → Claimed g y a b
   claimed-map x y f h a b = ⊎-elim
       (⊎-elim
-      (λ e. inl (inl (passes-map (g .sets) (g .lefts) (x .loops) (y .loops) f a b e)))
-      (λ e. inl (inr (passes-map (g .rights) (g .sets) (x .loops) (y .loops) f a b e))))
-      (λ e. inr (passes-map (g .rights) (g .lefts) (x .mixes) (y .mixes) h a b e))
+      (λ e. inl (inl (places-map (g .sets) (g .lefts) (x .loops) (y .loops) f a b e)))
+      (λ e. inl (inr (places-map (g .rights) (g .sets) (x .loops) (y .loops) f a b e))))
+      (λ e. inr (places-map (g .rights) (g .lefts) (x .mixes) (y .mixes) h a b e))
 
   module _ {old new force : Claims} (is : WithNew old new force) where
     claimed-cases : (a b : ℕ) → Claimed g force a b → Claimed g old a b ⊎ Claimed g new a b
     claimed-cases a b = ⊎-elim
         (⊎-elim
-        (λ e. ⊎-elim (λ k. inl (inl (inl k))) (λ k. inr (inl (inl k))) (passes-cases (g .sets) (g .lefts) (old .loops) (new .loops) (force .loops) (is .loops-are) a b e))
-        (λ e. ⊎-elim (λ k. inl (inl (inr k))) (λ k. inr (inl (inr k))) (passes-cases (g .rights) (g .sets) (old .loops) (new .loops) (force .loops) (is .loops-are) a b e)))
-        (λ e. ⊎-elim (λ k. inl (inr k)) (λ k. inr (inr k)) (passes-cases (g .rights) (g .lefts) (old .mixes) (new .mixes) (force .mixes) (is .mixes-are) a b e))
+        (λ e. ⊎-elim (λ k. inl (inl (inl k))) (λ k. inr (inl (inl k))) (places-cases (g .sets) (g .lefts) (old .loops) (new .loops) (force .loops) (is .loops-are) a b e))
+        (λ e. ⊎-elim (λ k. inl (inl (inr k))) (λ k. inr (inl (inr k))) (places-cases (g .rights) (g .sets) (old .loops) (new .loops) (force .loops) (is .loops-are) a b e)))
+        (λ e. ⊎-elim (λ k. inl (inr k)) (λ k. inr (inr k)) (places-cases (g .rights) (g .lefts) (old .mixes) (new .mixes) (force .mixes) (is .mixes-are) a b e))
 
     -- a step by a new claim is one by a claim in force
     pub claimed-new : (a b : ℕ) → Claimed g new a b → Claimed g force a b

@@ -6,6 +6,7 @@ pub mod Steps
 pub mod Joining
 pub mod Walks
 pub mod Saying
+pub mod Passing
 pub mod Accepting
 pub mod Reaching
 pub mod Filtering

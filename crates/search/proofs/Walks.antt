@@ -14,8 +14,8 @@ use Rattle.search.specs.Hops.{Chain, one, more, Between}
 use Rattle.search.proofs.Chains.{chain-append}
 
 module _ (rows : List Row) (In : Claim → Type 0) (P : ℕ) where
-  abbrev Pass : ℕ → ℕ → Type 0
-  Pass a b = StepInside rows In P a b
+  abbrev Link : ℕ → ℕ → Type 0
+  Link a b = StepInside rows In P a b
 
   -- the walk leads from a to b inside P, with the claims in force
   abbrev Runs : ℕ → Walk → ℕ → Type 0
@@ -30,10 +30,10 @@ module _ (rows : List Row) (In : Claim → Type 0) (P : ℕ) where
       let r = runs-append (t .to) v s w b (h .0 .1, h .1 .2, h .2 .1) k in
       ((h .0 .0, r .0), (h .1 .0, h .1 .1, r .1), (h .2 .0, r .2))
 
-  runs-step : (a b : ℕ) → Pass a b → (w : Walk) × Runs a w b × (w ≢ [])
+  runs-step : (a b : ℕ) → Link a b → (w : Walk) × Runs a w b × (w ≢ [])
   runs-step a b (l, can, force, within) = (record { from = a; label = l; to = b } ∷ [], ((refl, refl), (can, force, tt), (within, tt)), cons≢nil)
 
-  chain-runs : {a b : ℕ} → Chain Pass a b → (w : Walk) × Runs a w b × (w ≢ [])
+  chain-runs : {a b : ℕ} → Chain Link a b → (w : Walk) × Runs a w b × (w ≢ [])
   chain-runs {a} {b} (one e) = runs-step a b e
   chain-runs {a} {b} (more {b = k} c e) =
       let v = chain-runs c in
@@ -43,44 +43,44 @@ module _ (rows : List Row) (In : Claim → Type 0) (P : ℕ) where
   abbrev leg-of : (a b : ℕ) (w : Walk) → Runs a w b → w ≢ [] → Leg a b
   leg-of a b w r n = (w, ((a, b, r .0), r .1), r .0, r .2, n)
 
-  pub chain-leg : (a b : ℕ) → Chain Pass a b → Leg a b
+  pub chain-leg : (a b : ℕ) → Chain Link a b → Leg a b
   chain-leg a b c = let w = chain-runs c in leg-of a b (w .0) (w .1) (w .2)
 
-  first : (a : ℕ) (t : Step) (w : Walk) (b : ℕ) → Runs a (t ∷ w) b → Pass a (t .to)
-  first a t w b r = subst (λ (x : ℕ). Pass x (t .to)) (r .0 .0) (t .label, r .1 .0, r .1 .1, r .2 .0)
+  first : (a : ℕ) (t : Step) (w : Walk) (b : ℕ) → Runs a (t ∷ w) b → Link a (t .to)
+  first a t w b r = subst (λ (x : ℕ). Link x (t .to)) (r .0 .0) (t .label, r .1 .0, r .1 .1, r .2 .0)
 
-  then : (a k b : ℕ) → Pass a k → (k ≡ b) ⊎ Chain Pass k b → Chain Pass a b
-  then a k b e = ⊎-elim (λ q. subst (Chain Pass a) q (one e)) (chain-append (one e))
+  then : (a k b : ℕ) → Link a k → (k ≡ b) ⊎ Chain Link k b → Chain Link a b
+  then a k b e = ⊎-elim (λ q. subst (Chain Link a) q (one e)) (chain-append (one e))
 
-  pub rest-of : (a : ℕ) (w : Walk) (b : ℕ) → Runs a w b → (a ≡ b) ⊎ Chain Pass a b
+  pub rest-of : (a : ℕ) (w : Walk) (b : ℕ) → Runs a w b → (a ≡ b) ⊎ Chain Link a b
   rest-of a [] b r = inl (r .0)
   rest-of a (t ∷ w) b r = inr (then a (t .to) b (first a t w b r) (rest-of (t .to) w b (r .0 .1, r .1 .2, r .2 .1)))
 
-  runs-chain : (a : ℕ) (w : Walk) (b : ℕ) → Runs a w b → w ≢ [] → Chain Pass a b
+  runs-chain : (a : ℕ) (w : Walk) (b : ℕ) → Runs a w b → w ≢ [] → Chain Link a b
   runs-chain a [] b r n = absurd (n refl)
   runs-chain a (t ∷ w) b r n = then a (t .to) b (first a t w b r) (rest-of (t .to) w b (r .0 .1, r .1 .2, r .2 .1))
 
-  pub leg-chain : (a b : ℕ) → Leg a b → Chain Pass a b
+  pub leg-chain : (a b : ℕ) → Leg a b → Chain Link a b
   leg-chain a b t = runs-chain a (t .0) b (t .2, t .1 .1, t .3) (t .4)
 
   -- a walk cut at a state on it
-  cut : (s a : ℕ) (w : Walk) (b : ℕ) → Runs a w b → On s a w → (s ≡ a) ⊎ (Chain Pass a s × ((s ≡ b) ⊎ Chain Pass s b))
+  cut : (s a : ℕ) (w : Walk) (b : ℕ) → Runs a w b → On s a w → (s ≡ a) ⊎ (Chain Link a s × ((s ≡ b) ⊎ Chain Link s b))
   cut s a [] b r o = inl o
   cut s a (t ∷ w) b r (inl e) = inl e
   cut s a (t ∷ w) b r (inr o) =
       let e = first a t w b r in
       let r′ : Runs (t .to) w b = (r .0 .1, r .1 .2, r .2 .1) in
       inr (⊎-elim
-      (λ q. (then a (t .to) s e (inl (sym q)), subst (λ (x : ℕ). (x ≡ b) ⊎ Chain Pass x b) (sym q) (rest-of (t .to) w b r′)))
+      (λ q. (then a (t .to) s e (inl (sym q)), subst (λ (x : ℕ). (x ≡ b) ⊎ Chain Link x b) (sym q) (rest-of (t .to) w b r′)))
       (λ k. (then a (t .to) s e (inr (k .0)), k .1)) (cut s (t .to) w b r′ o))
 
-  pub leg-between : (a b s : ℕ) → (t : Leg a b) × On s a (t .0) → Between Pass a b s
-  leg-between a b s (t, o) = ⊎-elim (λ e. inl (e, subst (λ (x : ℕ). Chain Pass x b) (sym e) (leg-chain a b t))) inr
+  pub leg-between : (a b s : ℕ) → (t : Leg a b) × On s a (t .0) → Between Link a b s
+  leg-between a b s (t, o) = ⊎-elim (λ e. inl (e, subst (λ (x : ℕ). Chain Link x b) (sym e) (leg-chain a b t))) inr
       (cut s a (t .0) b (t .2, t .1 .1, t .3) o)
 
-  pub between-leg : (a b s : ℕ) → Between Pass a b s → (t : Leg a b) × On s a (t .0)
+  pub between-leg : (a b s : ℕ) → Between Link a b s → (t : Leg a b) × On s a (t .0)
   between-leg a b s (inl k) =
-      let w = chain-runs (subst (λ (x : ℕ). Chain Pass x b) (k .0) (k .1)) in
+      let w = chain-runs (subst (λ (x : ℕ). Chain Link x b) (k .0) (k .1)) in
       (leg-of a b (w .0) (w .1) (w .2), on-start s a (w .0) (k .0))
   between-leg a b s (inr (c, inl e)) =
       let w = chain-runs c in

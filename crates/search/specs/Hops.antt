@@ -10,8 +10,8 @@ use Rattle.search.specs.declared.Claims.{Claims}
 use Rattle.search.specs.Graph.{Graph}
 
 -- a and b lie in the sets that two lists of masks have at one of the places
-abbrev pub Passes : List ℕ → List ℕ → ℕ → ℕ → ℕ → Type 0
-Passes here there places a b = (i : ℕ) × (i ∈ places) × (a ∈ getD here i 0) × (b ∈ getD there i 0)
+abbrev pub ByPlaces : List ℕ → List ℕ → ℕ → ℕ → ℕ → Type 0
+ByPlaces here there places a b = (i : ℕ) × (i ∈ places) × (a ∈ getD here i 0) × (b ∈ getD there i 0)
 
 -- a letter step from a to b
 abbrev pub Lettered : Graph → ℕ → ℕ → Type 0
@@ -19,11 +19,11 @@ Lettered g a b = b ∈ getD (g .letters) a 0
 
 -- an omega or a back step from a to b by one of the places
 abbrev pub Looping : Graph → ℕ → ℕ → ℕ → Type 0
-Looping g places a b = Passes (g .sets) (g .lefts) places a b ⊎ Passes (g .rights) (g .sets) places a b
+Looping g places a b = ByPlaces (g .sets) (g .lefts) places a b ⊎ ByPlaces (g .rights) (g .sets) places a b
 
 -- a mix step
 abbrev pub Mixing : Graph → ℕ → ℕ → ℕ → Type 0
-Mixing g places a b = Passes (g .rights) (g .lefts) places a b
+Mixing g places a b = ByPlaces (g .rights) (g .lefts) places a b
 
 -- a step from a to b by a claim in force
 abbrev pub Claimed : Graph → Claims → ℕ → ℕ → Type 0
@@ -35,10 +35,6 @@ pub record Hop (g : Graph) (force : Claims) (p a b : ℕ) : Type 0 where
   pub end : b ∈ p
   pub kind : Lettered g a b ⊎ Claimed g force a b
 
--- a step from a to b by a letter, both in p
-abbrev pub LetterHop : Graph → ℕ → ℕ → ℕ → Type 0
-LetterHop g p a b = (a ∈ p) × (b ∈ p) × Lettered g a b
-
 -- one or more steps E, from a
 pub data Chain (E : ℕ → ℕ → Type 0) (a : ℕ) : ℕ → Type 0 where
   one : {b : ℕ} → E a b → Chain E a b
@@ -47,16 +43,6 @@ pub data Chain (E : ℕ → ℕ → Type 0) (a : ℕ) : ℕ → Type 0 where
 -- r is the set of the states to which a step leads from one of the states m
 abbrev pub Onward : (ℕ → ℕ → Type 0) → ℕ → ℕ → Type 0
 Onward E m r = (t : ℕ) → (t ∈ r) ↔ ((s : ℕ) × (s ∈ m) × E s t)
-
--- the steps from the states found are followed, but for those from the states last
-abbrev pub Followed : (ℕ → ℕ → Type 0) → ℕ → ℕ → Type 0
-Followed E found last = (a b : ℕ) → a ∈ found → E a b → (a ∈ last) ⊎ (b ∈ found)
-
--- r has the states found, and those to which chains lead from the states last, and no step leads out of it
-pub record Explored (E : ℕ → ℕ → Type 0) (found last r : ℕ) : Type 0 where
-  pub grows : found ⊆ r
-  pub sound : (t : ℕ) → t ∈ r → (t ∈ found) ⊎ ((s : ℕ) × (s ∈ last) × Chain E s t)
-  pub closed : (a b : ℕ) → (a ∈ last) ⊎ (a ∈ r) → E a b → b ∈ r
 
 -- the set of all states
 abbrev pub all-mask : ℕ

@@ -3,3 +3,4 @@ pub mod Graph
 pub mod Masked
 pub mod Hops
 pub mod Promises
+pub mod Passes

@@ -2,66 +2,67 @@
 use crate::Claims;
 use crate::graphs::Masks;
 use crate::moves::claimed;
-use crate::moves::lettered;
 use crate::moves::meets;
+use crate::moves::targets;
 use masks::Set;
 use masks::difference;
-use masks::intersection;
 use masks::union;
 ghost use mathlib.Core.Path.{_≡_};
 ghost use Rattle.search.specs.Graph.{graph-of};
-ghost use Rattle.search.specs.Hops.{Hop, LetterHop, Chain, Onward, Followed, Explored, all-mask, Reached};
+ghost use Rattle.search.specs.Hops.{Hop, Chain, Onward, all-mask, Reached};
+ghost use Rattle.search.specs.Passes.{NewTargets, Explores, FoundByPasses};
 ghost use Rattle.search.specs.Promises.{AcceptsRight, AcceptsSeen, SeenBefore};
 
-// The states `found`, and all to which letters inside `p` lead from the states `last`. Steps from the others are followed already.
-fn spread(graph: &Masks, p: Set, found: Set, last: Set) -> Set
-    requires { ⌜ Followed (LetterHop (graph-of (now graph)) p) found last ⌝ }
-    ensures { λ r. ⌜ Explored (LetterHop (graph-of (now (graph .entry))) p) found last r ⌝ }
+// What a search found, and the passes that it took, with the last one, which added nothing.
+pub struct Found {
+    pub states: Set,
+    pub count: u8,
+}
+
+// The states that a pass adds: the targets inside `p` of the states `last`, but for those found already.
+fn added(graph: &Masks, force: Claims, p: Set, found: Set, last: Set) -> Set
+    ensures { λ r. ⌜ NewTargets (Hop (graph-of (now (graph .entry))) force p) found last r ⌝ }
 {
-    let mut all = found;
+    // Every step inside `p` leads to a state of `p`: there is nothing to add, and nothing to look through.
+    if found == p {
+        return 0;
+    }
+    difference(targets(graph, force, p, last), found)
+}
+
+// Passes inside `p` from the states `found`, until one adds nothing. A pass follows the steps of the states that the last one added: the
+// targets of the others are in already.
+fn explore(graph: &Masks, force: Claims, p: Set, found: Set, last: Set) -> Found
+    ensures { λ r. ⌜ Explores (Hop (graph-of (now (graph .entry))) force p) found last (r .states) (r .count) ⌝ }
+{
+    let mut states = found;
     let mut front = last;
+    let mut count: u8 = 0;
     loop {
-        let from = intersection(front, p);
-        let near = intersection(lettered(graph, from), p);
-        let next = difference(near, all);
+        let next = added(graph, force, p, states, front);
+        count = count + 1;
         if next == 0 {
-            return all;
+            return Found { states, count };
         }
-        all = union(all, next);
+        states = union(states, next);
         front = next;
     }
 }
 
-// The states `found`, and all to which steps inside `p` lead from the states `last`. Letters first: claims are looked through once they
-// lead no further.
-fn explore(graph: &Masks, force: Claims, p: Set, found: Set, last: Set) -> Set
-    requires { ⌜ Followed (Hop (graph-of (now graph)) force p) found last ⌝ }
-    ensures { λ r. ⌜ Explored (Hop (graph-of (now (graph .entry))) force p) found last r ⌝ }
+// The states to which a walk of one or more steps inside `p` leads from the states `m`, by passes that each add all targets of the states `m`
+// and of those found so far.
+pub fn passes(graph: &Masks, force: Claims, p: Set, m: Set) -> Found
+    ensures { λ r. ⌜ FoundByPasses (graph-of (now (graph .entry))) force p m (r .states) (r .count) ⌝ }
 {
-    let mut known = found;
-    let mut front = last;
-    loop {
-        let all = spread(graph, p, known, front);
-        // Every step inside `p` leads to a state of `p`, so nothing more is to be found.
-        if all == p {
-            return all;
-        }
-        let from = intersection(union(front, difference(all, known)), p);
-        let near = intersection(claimed(graph, force, from), p);
-        let next = difference(near, all);
-        if next == 0 {
-            return all;
-        }
-        known = union(all, next);
-        front = next;
-    }
+    explore(graph, force, p, 0, m)
 }
 
 // The states to which a walk of one or more steps inside `p` leads from the states `m`.
 pub fn reach(graph: &Masks, force: Claims, p: Set, m: Set) -> Set
     ensures { λ r. ⌜ Onward (Chain (Hop (graph-of (now (graph .entry))) force p)) m r ⌝ }
 {
-    explore(graph, force, p, 0, m)
+    let found = passes(graph, force, p, m);
+    found.states
 }
 
 // The set of all states.
@@ -79,7 +80,8 @@ pub fn reached(graph: &Masks, force: Claims, initials: Set) -> Set
     reach(graph, force, p, initials)
 }
 
-// The same where `seen` was reached before the new claims came into force: the search goes on from there.
+// The same where `seen` was reached before the new claims came into force: the passes go on from there, and the first one follows the new
+// claims only.
 pub fn reached_more(graph: &Masks, force: Claims, new: Claims, initials: Set, seen: Set) -> Set
     requires { ⌜ SeenBefore (graph-of (now graph)) force new initials seen ⌝ }
     ensures { λ r. ⌜ Reached (graph-of (now (graph .entry))) force initials r ⌝ }
@@ -87,12 +89,12 @@ pub fn reached_more(graph: &Masks, force: Claims, new: Claims, initials: Set, se
     let from = union(initials, seen);
     let near = claimed(graph, new, from);
     let next = difference(near, seen);
-    let found = union(seen, next);
     if next == 0 {
-        return found;
+        return seen;
     }
     let p = all_states();
-    explore(graph, force, p, found, next)
+    let more = explore(graph, force, p, union(seen, next), next);
+    more.states
 }
 
 // Does a walk of zero or more steps lead from an initial to a final state? One or more lead to the states `seen`.
