@@ -31,8 +31,11 @@ module _ (succ : List ℕ) where
   abbrev pub Sources : List ℕ → ℕ → Type 0
   Sources back i = (j a : ℕ) → j < 64 → member a (getD back j 0) ≡ (ltb a i && member j (getD succ a 0))
 
+  pub sources-none : (back : List ℕ) → ((j : ℕ) → j < 64 → getD back j 0 ≡ 0) → Sources back 0
+  sources-none back none j a h = ap (member a) (none j h) ∙ member-none a ∙ sym (ap (λ (b : Bool). b && member j (getD succ a 0)) (le-ltb a 0 (omega arith)))
+
   pub sources-start : Sources (replicate 64 0) 0
-  sources-start j a h = ap (member a) (getD-replicate 64 j 0 0 h) ∙ member-none a ∙ sym (ap (λ (b : Bool). b && member j (getD succ a 0)) (le-ltb a 0 (omega arith)))
+  sources-start = sources-none (replicate 64 0) (λ j h. getD-replicate 64 j 0 0 h)
 
   pub sources-more : (back new : List ℕ) (i : ℕ) → Sources back i → ((j a : ℕ) → j < 64 → member a (getD new j 0) ≡ (member a (getD back j 0) || (member j (getD succ i 0) && eqb a i)))
       → Sources new (i + 1)
@@ -45,3 +48,11 @@ module _ (succ : List ℕ) where
 
   pub sources-end : (back : List ℕ) (i : ℕ) → Sources back i → 64 ≤ i → Turned succ back
   sources-end back i h g a j k l = h j a l ∙ ap (λ (b : Bool). b && member j (getD succ a 0)) (lt-ltb a i (omega arith))
+
+  -- the states from i on have no targets
+  pub sources-some : (back : List ℕ) (i : ℕ) → Sources back i → ((a : ℕ) → i ≤ a → a < 64 → getD succ a 0 ≡ 0) → Turned succ back
+  sources-some back i h none a j k l = h j a l ∙ by (decLt a i)
+    where
+      by : Dec (a < i) → (ltb a i && member j (getD succ a 0)) ≡ member j (getD succ a 0)
+      by (yes q) = ap (λ (b : Bool). b && member j (getD succ a 0)) (lt-ltb a i q)
+      by (no q) = ap (λ (b : Bool). b && member j (getD succ a 0)) (le-ltb a i (omega arith)) ∙ sym (ap (member j) (none a (omega arith) k) ∙ member-none j)
