@@ -1,5 +1,6 @@
 -- The laws that the proofs of `search` share.
 pub mod Parts
+pub mod Incidence
 pub mod Chains
 pub mod Hops
 pub mod Steps

@@ -1,17 +1,15 @@
--- The four parts of one array of masks (`letters-at`, `sets-at`, `lefts-at`, `rights-at`), and the parts of the graph turned round: main laws
--- `letters-lead`, `turning-more`, `turned-graph`.
-use Prim.Native.Nat.{ℕ, _+_, _≤_, _<_}
+-- The parts of one array of masks (`letters-at`, `sets-at`, `lefts-at`, `rights-at`, `letters-lead`), and what is written into one of them
+-- (`part-set`, `graph-stays`).
+use Prim.Native.Nat.{ℕ, _+_, _-_, _≤_, _<_, min}
 use mathlib.Core.Path.{_≡_, refl, ap, sym, subst, _∙_}
-use mathlib.Core.Logic.{_⊎_, inl, inr, ⊎-elim}
 use mathlib.Core.List.{List}
-use lib.ListN.{length, drop, getD, set, length-set}
-use lib.Seq.{getD-take, getD-set-same, getD-set-other}
-use borrow.Author.Count.{below-more}
+use lib.ListN.{length, take, drop, getD, set, length-take, length-drop}
+use lib.Seq.{getD-take, length-take-le, take-set-lt, drop-set-add, ext-getD}
 use native.Mathlib.Omega.{arith}
 use Rattle.lists.proofs.Places.{part-at, take-past}
-use Rattle.masks.specs.Graph.{Targets, Turned}
-use Rattle.masks.specs.Mask.{member, _∈_}
-use Rattle.masks.proofs.Member.{lt-or-le, member-lt}
+use Rattle.masks.specs.Graph.{Targets}
+use Rattle.masks.specs.Mask.{_∈_}
+use Rattle.masks.proofs.Member.{member-lt}
 use Rattle.masks.proofs.Turning.{turned-back}
 use Rattle.search.specs.Graph.{Graph, part, graph-of, TurnedGraph}
 use Rattle.search.specs.Hops.{Lettered, Onward}
@@ -52,6 +50,16 @@ letters-lead l m r is t = (
     here : (s : ℕ) → s ∈ m → getD (graph-of l .letters) s 0 ≡ getD l s 0
     here s h = letters-at l s (member-lt s m h)
 
+-- the targets in one part, as the masks from there on give them
+pub targets-part : (l : List ℕ) (base m r : ℕ) → base + 64 ≤ length l → Targets (take (length l - base) (drop base l)) m r → Targets (part l base) m r
+targets-part l base m r h is = record {
+  sound = λ t k. let x = is .sound t k in record { source = x .source; is = x .is; edge = subst (λ (n : ℕ). t ∈ n) (sym (here (x .source) (x .is))) (x .edge) };
+  complete = λ t x. is .complete t (record { source = x .source; is = x .is; edge = subst (λ (n : ℕ). t ∈ n) (here (x .source) (x .is)) (x .edge) });
+}
+  where
+    here : (s : ℕ) → s ∈ m → getD (part l base) s 0 ≡ getD (take (length l - base) (drop base l)) s 0
+    here s k = at-part l base s (member-lt s m k) ∙ sym (part-at (length l - base) base l s 0 (omega (arith, member-lt s m k)))
+
 -- a graph turned round twice
 pub turn-back : {g back : Graph} → TurnedGraph g back → TurnedGraph back g
 turn-back {g} {back} is = record {
@@ -61,95 +69,37 @@ turn-back {g} {back} is = record {
   rights-are = λ i. sym (is .lefts-are i);
 }
 
--- ---- the graph turned round, written place by place
+-- ---- what is written into one part
 
--- the array r has, at the places below i of each part, the masks of the graph turned round, whose letters are back
-pub record Turning (g back : List ℕ) (i : ℕ) (r : List ℕ) : Type 0 where
-  pub size : length r ≡ 256
-  pub letters : (j : ℕ) → j < i → getD r (0 + j) 0 ≡ getD back j 0
-  pub sets : (j : ℕ) → j < i → getD r (64 + j) 0 ≡ getD g (64 + j) 0
-  pub lefts : (j : ℕ) → j < i → getD r (128 + j) 0 ≡ getD g (192 + j) 0
-  pub rights : (j : ℕ) → j < i → getD r (192 + j) 0 ≡ getD g (128 + j) 0
+pub part-length : (l : List ℕ) (base : ℕ) → length l ≡ 448 → base ≤ 384 → length (part l base) ≡ 64
+unfolding part
+part-length l base e h = length-take-le 64 (drop base l) (omega (arith, length-drop base l))
 
-pub turning-none : (g back r : List ℕ) → length r ≡ 256 → Turning g back 0 r
-turning-none g back r e = record {
-  size = e;
-  letters = λ j h. absurd (omega arith);
-  sets = λ j h. absurd (omega arith);
-  lefts = λ j h. absurd (omega arith);
-  rights = λ j h. absurd (omega arith);
-}
+pub part-set : (l : List ℕ) (base k v : ℕ) → k < 64 → part (set l (base + k) v) base ≡ set (part l base) k v
+unfolding part
+part-set l base k v h = ap (take 64) (drop-set-add base l k v) ∙ take-set-lt 64 (drop base l) k v h
 
--- four masks are written, one in each part
-module _ (r : List ℕ) (size : length r ≡ 256) (i : ℕ) (h : i < 64) (x y z w : ℕ) where
-  abbrev written : List ℕ
-  written = set (set (set (set r i x) (64 + i) y) (128 + i) z) (192 + i) w
-
-  sized : length written ≡ 256
-  sized = simp length-set size
-
-  other : (base j : ℕ) → j < i → (base ≡ 0) ⊎ ((base ≡ 64) ⊎ ((base ≡ 128) ⊎ (base ≡ 192))) → getD written (base + j) 0 ≡ getD r (base + j) 0
-  other base j l k =
-      getD-set-other (set (set (set r i x) (64 + i) y) (128 + i) z) (192 + i) (base + j) w 0 (λ e. ⊎-elim (λ a. omega arith) (⊎-elim (λ a. omega arith) (⊎-elim (λ a. omega arith) (λ a. omega arith))) k)
-      ∙ getD-set-other (set (set r i x) (64 + i) y) (128 + i) (base + j) z 0 (λ e. ⊎-elim (λ a. omega arith) (⊎-elim (λ a. omega arith) (⊎-elim (λ a. omega arith) (λ a. omega arith))) k)
-      ∙ getD-set-other (set r i x) (64 + i) (base + j) y 0 (λ e. ⊎-elim (λ a. omega arith) (⊎-elim (λ a. omega arith) (⊎-elim (λ a. omega arith) (λ a. omega arith))) k)
-      ∙ getD-set-other r i (base + j) x 0 (λ e. ⊎-elim (λ a. omega arith) (⊎-elim (λ a. omega arith) (⊎-elim (λ a. omega arith) (λ a. omega arith))) k)
-
-  first : getD written i 0 ≡ x
-  first = getD-set-other (set (set (set r i x) (64 + i) y) (128 + i) z) (192 + i) i w 0 (λ e. omega arith)
-      ∙ getD-set-other (set (set r i x) (64 + i) y) (128 + i) i z 0 (λ e. omega arith)
-      ∙ getD-set-other (set r i x) (64 + i) i y 0 (λ e. omega arith) ∙ getD-set-same r i x 0 (omega arith)
-
-  second : getD written (64 + i) 0 ≡ y
-  second = getD-set-other (set (set (set r i x) (64 + i) y) (128 + i) z) (192 + i) (64 + i) w 0 (λ e. omega arith)
-      ∙ getD-set-other (set (set r i x) (64 + i) y) (128 + i) (64 + i) z 0 (λ e. omega arith)
-      ∙ getD-set-same (set r i x) (64 + i) y 0 (omega (arith, length-set r i x))
-
-  third : getD written (128 + i) 0 ≡ z
-  third = getD-set-other (set (set (set r i x) (64 + i) y) (128 + i) z) (192 + i) (128 + i) w 0 (λ e. omega arith)
-      ∙ getD-set-same (set (set r i x) (64 + i) y) (128 + i) z 0 (omega (arith, length-set (set r i x) (64 + i) y, length-set r i x))
-
-  fourth : getD written (192 + i) 0 ≡ w
-  fourth = getD-set-same (set (set (set r i x) (64 + i) y) (128 + i) z) (192 + i) w 0
-      (omega (arith, length-set (set (set r i x) (64 + i) y) (128 + i) z, length-set (set r i x) (64 + i) y, length-set r i x))
-
-pub turning-more : (g back r : List ℕ) (i : ℕ) → i < 64 → Turning g back i r
-    → Turning g back (i + 1) (set (set (set (set r i (getD back i 0)) (64 + i) (getD g (64 + i) 0)) (128 + i) (getD g (192 + i) 0)) (192 + i) (getD g (128 + i) 0))
-turning-more g back r i h now = record {
-  size = sized r (now .size) i h x y z w;
-  letters = below-more _ i (λ j l. other r (now .size) i h x y z w 0 j l (inl refl) ∙ now .letters j l) (rw none (first r (now .size) i h x y z w));
-  sets = below-more _ i (λ j l. other r (now .size) i h x y z w 64 j l (inr (inl refl)) ∙ now .sets j l) (second r (now .size) i h x y z w);
-  lefts = below-more _ i (λ j l. other r (now .size) i h x y z w 128 j l (inr (inr (inl refl))) ∙ now .lefts j l) (third r (now .size) i h x y z w);
-  rights = below-more _ i (λ j l. other r (now .size) i h x y z w 192 j l (inr (inr (inr refl))) ∙ now .rights j l) (fourth r (now .size) i h x y z w);
-}
+-- a part whose masks stay
+pub part-stays : (old new : List ℕ) (base : ℕ) → length new ≡ length old → ((j : ℕ) → j < 64 → getD new (base + j) 0 ≡ getD old (base + j) 0) → part new base ≡ part old base
+unfolding part
+part-stays old new base e f = ext-getD 0 (part new base) (part old base) sized (λ i h. here i (omega (arith, short)))
   where
-    x : ℕ
-    x = getD back i 0
+    sized : length (part new base) ≡ length (part old base)
+    sized = length-take 64 (drop base new) ∙ ap (min 64) (length-drop base new ∙ ap (λ (n : ℕ). n - base) e ∙ sym (length-drop base old)) ∙ sym (length-take 64 (drop base old))
 
-    y : ℕ
-    y = getD g (64 + i) 0
+    short : length (part new base) ≤ 64
+    short = omega (arith, length-take 64 (drop base new))
 
-    z : ℕ
-    z = getD g (192 + i) 0
+    here : (i : ℕ) → i < 64 → getD (part new base) i 0 ≡ getD (part old base) i 0
+    here i h = at-part new base i h ∙ f i h ∙ sym (at-part old base i h)
 
-    w : ℕ
-    w = getD g (128 + i) 0
-
-    none : 0 + i ≡ i
-    none = omega arith
-
--- with all 64 written it is the graph turned round
-module _ (g back r : List ℕ) (all : Turning g back 64 r) where
-  same-part : (k m : ℕ) → ((j : ℕ) → j < 64 → getD r (k + j) 0 ≡ getD g (m + j) 0) → (i : ℕ) → getD (part r k) i 0 ≡ getD (part g m) i 0
-  same-part k m f i = ⊎-elim
-      (λ h. at-part r k i h ∙ f i h ∙ sym (at-part g m i h))
-      (λ h. past-part r k i h ∙ sym (past-part g m i h)) (lt-or-le i 64)
-
-  pub turned-graph : Turned g back → TurnedGraph (graph-of g) (graph-of r)
-  unfolding graph-of
-  turned-graph is = record {
-    turned = λ i j hi hj. ap (member i) (at-part r 0 j hj ∙ all .letters j hj) ∙ is i j hi hj ∙ ap (member j) (sym (letters-at g i hi));
-    sets-are = same-part 64 64 (all .sets);
-    lefts-are = same-part 128 192 (all .lefts);
-    rights-are = same-part 192 128 (all .rights);
-  }
+-- the four parts stay where the masks below 256 do
+pub graph-stays : (old new : List ℕ) → length new ≡ length old → ((j : ℕ) → j < 256 → getD new j 0 ≡ getD old j 0) → graph-of new ≡ graph-of old
+unfolding graph-of
+graph-stays old new e f =
+    rw (
+      part-stays old new 0 e (λ j h. f (0 + j) (omega arith)),
+      part-stays old new 64 e (λ j h. f (64 + j) (omega arith)),
+      part-stays old new 128 e (λ j h. f (128 + j) (omega arith)),
+      part-stays old new 192 e (λ j h. f (192 + j) (omega arith)),
+    ) refl

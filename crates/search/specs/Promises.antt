@@ -13,7 +13,7 @@ use Rattle.orderings.specs.Steps.{Claim, loops, mixes, Walk}
 use Rattle.orderings.specs.Systems.{Allowed, Holds}
 use Rattle.orderings.specs.Timelines.{timelines, Accepting}
 use Rattle.search.specs.declared.Claims.{Claims}
-use Rattle.search.specs.Graph.{Graph, TurnedGraph}
+use Rattle.search.specs.Graph.{Graph, graph-of, BothWays}
 use Rattle.search.specs.Masked.{Masked, Initials, Finals, Forced}
 use Rattle.search.specs.Hops.{Reached, Ends, EndsBelow, WithNew}
 
@@ -49,18 +49,18 @@ pub record AddsEnds (g : Graph) (new : Claims) (n : ℕ) (before after : List �
       → MoreEnds g new (getD (g .sets) i 0) (getD before i 0) (getD after i 0)
 
 -- to has the ends of the steps inside the set at place i, and from those of the steps turned round
-pub record EndsAt (g back : Graph) (force : Claims) (i to from : ℕ) : Type 0 where
+pub record EndsAt (l back : List ℕ) (force : Claims) (i to from : ℕ) : Type 0 where
   pub low : i < 64
-  pub turned : TurnedGraph g back
-  pub forward : Ends g force (getD (g .sets) i 0) to
-  pub backward : Ends back force (getD (back .sets) i 0) from
+  pub ways : BothWays l back
+  pub forward : Ends (graph-of l) force (getD (graph-of l .sets) i 0) to
+  pub backward : Ends (graph-of back) force (getD (graph-of back .sets) i 0) from
 
 -- the same of each of the first n sets, and the masks at its place
-pub record EndsBoth (g back : Graph) (force : Claims) (n : ℕ) (to from : List ℕ) : Type 0 where
+pub record EndsBoth (l back : List ℕ) (force : Claims) (n : ℕ) (to from : List ℕ) : Type 0 where
   pub few : n ≤ 64
-  pub turned : TurnedGraph g back
-  pub forward : EndsBelow g force n to
-  pub backward : EndsBelow back force n from
+  pub ways : BothWays l back
+  pub forward : EndsBelow (graph-of l) force n to
+  pub backward : EndsBelow (graph-of back) force n from
 
 -- the claim holds with the claims in force, and is not in force yet
 abbrev pub NewlyHolds : List Row → List Claim → Claim → Type 0

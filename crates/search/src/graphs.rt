@@ -1,11 +1,14 @@
-// A graph is one array of masks: its four parts, and the graph turned round.
+// A graph is one array of masks: its four parts, what says which sets a state is in or has a limit of, and the graph turned round.
 use masks::PLACES;
 use masks::STATES;
 use masks::Set;
+use masks::take_lowest;
+use masks::with;
 ghost use mathlib.Core.Path.{_≡_};
-ghost use Prim.Native.Nat.{_≤_, _<_};
-ghost use lib.ListN.{getD};
-ghost use Rattle.search.specs.Graph.{part, graph-of, TurnsInto};
+ghost use Prim.Native.Nat.{_+_, _≤_, _<_};
+ghost use lib.ListN.{length, getD};
+ghost use Rattle.masks.specs.Graph.{Targets};
+ghost use Rattle.search.specs.Graph.{part, graph-of, Fills, PlaceAdded, PartIndexed, Indexes, TurnsInto};
 
 // Where the parts begin; the letters stand first, a mask for each state, and the others have one for each set.
 pub const SETS: usize = STATES;
@@ -14,7 +17,14 @@ pub const LEFTS: usize = SETS + PLACES;
 
 pub const RIGHTS: usize = LEFTS + PLACES;
 
-pub const MASKS: usize = RIGHTS + PLACES;
+// Behind them a mask for each state: the places of the sets that have it, and those of the sets with such a limit.
+pub const BY_SETS: usize = RIGHTS + PLACES;
+
+pub const BY_LEFTS: usize = BY_SETS + STATES;
+
+pub const BY_RIGHTS: usize = BY_LEFTS + STATES;
+
+pub const MASKS: usize = BY_RIGHTS + STATES;
 
 pub type Masks = [Set; MASKS];
 
@@ -50,17 +60,73 @@ pub fn rights_at(graph: &Masks, i: usize) -> Set
     mask_at(graph, RIGHTS, i)
 }
 
-// Writes the graph with every step turned round.
+// The targets of the states, or of the places, `m` in the part that begins at `base`.
+pub(crate) fn targets_in(graph: &[Set], base: usize, m: Set) -> Set
+    requires { ⌜ base + 64 ≤ length (now graph) ⌝ }
+    ensures { λ r. ⌜ Targets (part (now (graph .entry)) base) m r ⌝ }
+{
+    masks::targets(&graph[base..], m)
+}
+
+// Adds the place `i` to the masks of the states `m` in the part that begins at `base`.
+fn add_place(graph: &mut Masks, base: usize, m: Set, i: u8)
+    requires { ⌜ (base ≤ 384) × (i < 64) ⌝ }
+    ensures { λ _. ⌜ PlaceAdded (now (graph .entry)) base m i (now (graph .exit)) ⌝ }
+{
+    let mut rest = m;
+    while rest != 0 {
+        let next = take_lowest(rest);
+        let at = base + next.low as usize;
+        graph[at] = with(graph[at], i);
+        rest = next.rest;
+    }
+}
+
+// In the part `by`, which has nothing yet, for each state the places below `n` whose masks in the part `from` have it.
+fn index_part(graph: &mut Masks, from: usize, by: usize, n: usize)
+    requires { ⌜ (from + 64 ≤ by) × (by ≤ 384) × (n ≤ 64) ⌝ }
+    ensures { λ _. ⌜ PartIndexed (now (graph .entry)) from by n (now (graph .exit)) ⌝ }
+{
+    let mut i = 0;
+    while i < n {
+        let m = graph[from + i];
+        add_place(graph, by, m, i as u8);
+        i += 1;
+    }
+}
+
+// Writes what stands behind the four parts, where the sets from place `n` on have no limits.
+pub fn index(graph: &mut Masks, set_count: usize)
+    requires { ⌜ «set_count» ≤ 64 ⌝ }
+    ensures { λ _. ⌜ Indexes «set_count» (now (graph .entry)) (now (graph .exit)) ⌝ }
+{
+    index_part(graph, SETS, BY_SETS, PLACES);
+    index_part(graph, LEFTS, BY_LEFTS, set_count);
+    index_part(graph, RIGHTS, BY_RIGHTS, set_count);
+}
+
+// Writes the 64 masks from `from` on over the part that begins at `base`.
+fn copy(back: &mut Masks, base: usize, masks: &[Set], from: usize)
+    requires { ⌜ (base ≤ 384) × (from + 64 ≤ length (now masks)) ⌝ }
+    ensures { λ _. ⌜ Fills (now (back .entry)) base (part (now (masks .entry)) from) (now (back .exit)) ⌝ }
+{
+    let mut i = 0;
+    while i < STATES {
+        back[base + i] = masks[from + i];
+        i += 1;
+    }
+}
+
+// Writes the graph with every step turned round: lefts are rights, and so are the sets with such a limit.
 pub fn turn(graph: &Masks, back: &mut Masks)
     ensures { λ _. ⌜ TurnsInto (now (graph .entry)) (now (back .entry)) (now (back .exit)) ⌝ }
 {
     let letters = masks::transpose(graph);
-    let mut i = 0;
-    while i < STATES {
-        back[i] = letters[i];
-        back[SETS + i] = graph[SETS + i];
-        back[LEFTS + i] = graph[RIGHTS + i];
-        back[RIGHTS + i] = graph[LEFTS + i];
-        i += 1;
-    }
+    copy(back, 0, &letters, 0);
+    copy(back, SETS, graph, SETS);
+    copy(back, LEFTS, graph, RIGHTS);
+    copy(back, RIGHTS, graph, LEFTS);
+    copy(back, BY_SETS, graph, BY_SETS);
+    copy(back, BY_LEFTS, graph, BY_RIGHTS);
+    copy(back, BY_RIGHTS, graph, BY_LEFTS);
 }

@@ -1,9 +1,14 @@
 // One step: where the letters and the claims in force lead to from a set of states.
 use crate::Claims;
+use crate::graphs::BY_RIGHTS;
+use crate::graphs::BY_SETS;
+use crate::graphs::LEFTS;
 use crate::graphs::Masks;
+use crate::graphs::SETS;
 use crate::graphs::lefts_at;
 use crate::graphs::rights_at;
 use crate::graphs::set_at;
+use crate::graphs::targets_in;
 use masks::Places;
 use masks::Set;
 use masks::intersection;
@@ -17,7 +22,7 @@ ghost use mathlib.Core.Bool.{true};
 ghost use Prim.Native.Nat.{ℕ, _<_};
 ghost use Rattle.lists.specs.Tests.{Decides};
 ghost use Rattle.masks.specs.Mask.{_∈_};
-ghost use Rattle.search.specs.Graph.{graph-of};
+ghost use Rattle.search.specs.Graph.{graph-of, Indexed};
 ghost use Rattle.search.specs.Hops.{Lettered, Looping, Mixing, Claimed, Hop, Onward, Inner, InnerClaims};
 
 // Do `a` and `b` have a state in common?
@@ -106,12 +111,29 @@ fn mixing(graph: &Masks, places: Places, m: Set) -> Set
     r
 }
 
-// The states to which a step by a claim leads from the states `m`.
+// The states to which a step by a claim leads from the states `m`. Every claim is looked at.
 pub(crate) fn claimed(graph: &Masks, force: Claims, m: Set) -> Set
     ensures { λ r. ⌜ Onward (Claimed (graph-of (now (graph .entry))) force) m r ⌝ }
 {
     let omega_or_back = looping(graph, force.loops, m);
     union(omega_or_back, mixing(graph, force.mixes, m))
+}
+
+// The same where the states are few and the claims many: only the sets that the states touch are looked at.
+pub(crate) fn touched(graph: &Masks, force: Claims, m: Set) -> Set
+    requires { ⌜ Indexed (now graph) ⌝ }
+    ensures { λ r. ⌜ Onward (Claimed (graph-of (now (graph .entry))) force) m r ⌝ }
+{
+    let entered = targets_in(graph, BY_SETS, m);
+    let left = targets_in(graph, BY_RIGHTS, m);
+    let omega = intersection(entered, force.loops);
+    let mix = intersection(left, force.mixes);
+    let forth = union(omega, mix);
+    let back = intersection(left, force.loops);
+    union(
+        targets_in(graph, LEFTS, forth),
+        targets_in(graph, SETS, back),
+    )
 }
 
 // The states to which one step inside `p` leads from the states `m`.

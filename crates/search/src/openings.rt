@@ -24,13 +24,13 @@ ghost use Prim.Native.Nat.{_≤_};
 ghost use Rattle.lists.specs.Tests.{Decides};
 ghost use Rattle.masks.specs.Mask.{_⊆_};
 ghost use lib.ListN.{length};
-ghost use Rattle.search.specs.Graph.{graph-of, TurnedGraph};
+ghost use Rattle.search.specs.Graph.{graph-of, TurnedGraph, BothWays};
 ghost use Rattle.search.specs.Hops.{Hop, Ends, EndsBelow, Joined, Covered, Threaded};
 ghost use Rattle.search.specs.Promises.{AddsEnds, EndsAt, EndsBoth, OpensAt, OpensBelow};
 
 // Does a walk of one or more steps inside `p` lead from each state of `p` to each? `back` is the graph turned round.
 fn joined(graph: &Masks, back: &Masks, force: Claims, p: Set) -> bool
-    requires { ⌜ TurnedGraph (graph-of (now graph)) (graph-of (now back)) ⌝ }
+    requires { ⌜ BothWays (now graph) (now back) ⌝ }
     ensures { λ r. ⌜ Decides r (Joined (Hop (graph-of (now (graph .entry))) force p) p) ⌝ }
 {
     if p == 0 {
@@ -45,7 +45,7 @@ fn joined(graph: &Masks, back: &Masks, force: Claims, p: Set) -> bool
 
 // Does each state of `p` lie on a walk of one or more steps inside `p` from a state of `m` to one of `n`?
 fn covered(graph: &Masks, back: &Masks, force: Claims, p: Set, m: Set, n: Set) -> bool
-    requires { ⌜ TurnedGraph (graph-of (now graph)) (graph-of (now back)) ⌝ }
+    requires { ⌜ BothWays (now graph) (now back) ⌝ }
     ensures { λ r. ⌜ Decides r (Covered (Hop (graph-of (now (graph .entry))) force p) m n p) ⌝ }
 {
     let after = reach(graph, force, p, m);
@@ -144,7 +144,7 @@ fn neither(a: bool, b: bool) -> bool
 
 // Is the loop of `p` to be tried, and do walks inside `p` join its states?
 fn loop_opens(graph: &Masks, back: &Masks, force: Claims, p: Set, tried: bool) -> bool
-    requires { ⌜ TurnedGraph (graph-of (now graph)) (graph-of (now back)) ⌝ }
+    requires { ⌜ BothWays (now graph) (now back) ⌝ }
     ensures { λ r. ⌜ Decides r ((tried ≡ true) × Joined (Hop (graph-of (now (graph .entry))) force p) p) ⌝ }
 {
     if tried {
@@ -163,7 +163,7 @@ fn mix_opens(
     n: Set,
     tried: bool,
 ) -> bool
-    requires { ⌜ TurnedGraph (graph-of (now graph)) (graph-of (now back)) ⌝ }
+    requires { ⌜ BothWays (now graph) (now back) ⌝ }
     ensures { λ r. ⌜ Decides r ((tried ≡ true) × Covered (Hop (graph-of (now (graph .entry))) force p) m n p) ⌝ }
 {
     if tried {
@@ -175,7 +175,7 @@ fn mix_opens(
 // The claims of the set at place `i` that hold with the claims in force and are not in force yet. The steps inside the set lead from
 // states of `from` to states of `to`.
 fn opened_at(graph: &Masks, back: &Masks, force: Claims, to: Set, from: Set, i: u8) -> Claims
-    requires { ⌜ EndsAt (graph-of (now graph)) (graph-of (now back)) force i to from ⌝ }
+    requires { ⌜ EndsAt (now graph) (now back) force i to from ⌝ }
     ensures { λ r. ⌜ OpensAt (graph-of (now (graph .entry))) force i r ⌝ }
 {
     let at = i as usize;
@@ -206,7 +206,7 @@ pub fn open_next(
     from: &[Set; PLACES],
     set_count: usize,
 ) -> Claims
-    requires { ⌜ EndsBoth (graph-of (now graph)) (graph-of (now back)) force «set_count» (now to) (now from) ⌝ }
+    requires { ⌜ EndsBoth (now graph) (now back) force «set_count» (now to) (now from) ⌝ }
     ensures { λ r. ⌜ OpensBelow (graph-of (now (graph .entry))) force «set_count» «set_count» r ⌝ }
 {
     let mut loops: Places = 0;

@@ -1,64 +1,36 @@
--- `search::graphs::turn` meets its contract: below i each part has the masks of the graph turned round.
-use Prim.Native.Nat.{_-_, _≤_}
-use mathlib.Core.Path.{_≡_}
-use native.Mathlib.Omega.{arith}
-use lib.ListN.{length}
+-- `search::graphs::turn` meets its contract: one part after another.
 use borrow.Author.Needs.{needs}
-use Rattle.search.proofs.Parts.{Turning, turning-none, turning-more, turned-graph}
+use Rattle.search.proofs.Incidence.{turned-graph, turned-index}
 use Rattle.search.proofs.graphs.turn.Statement.{statement}
 use Rattle.search.proofs.graphs.turn.Tie as tie
 
-abbrev Inv-loop : tie.InvT-loop
-Inv-loop graph back₀ letters i₀ back i = (i ≤ 64) × (length back₀ ≡ 256 → Turning graph letters i back)
-
-abbrev μ-loop : tie.MeasureT-loop
-μ-loop graph back₀ letters i₀ back i = 64 - i
-
-loop-holds : tie.Need-loop-holds Inv-loop μ-loop
-loop-holds c = (omega arith, λ e. turning-none _ _ _ e)
-
-loop-again : tie.Need-loop-again Inv-loop μ-loop
-loop-again c =
-    let at = c .before .before .before .before in
-    (omega arith, λ e. turning-more (at .before .before .before .args .graph .now) (at .before .transpose .result) (at .loop .back) (at .loop .i) (c .before .before .before .loop-test .taken) (at .loop .inv .1 e))
-
-returns : tie.Need-returns Inv-loop μ-loop
-returns c e =
-    let at = c .before in
-    let f : at .loop .i ≡ 64 = omega arith in
-    turned-graph (at .before .before .before .args .graph .now) (at .before .transpose .result) (at .loop .back) (rw f at (at .loop .inv .1 e)) (at .before .transpose .ensures)
+returns : tie.Need-returns
+returns c =
+    let c₆ = c .before .before .before in
+    let c₅ = c₆ .before .before .before in
+    let c₄ = c₅ .before .before .before in
+    let c₃ = c₄ .before .before .before in
+    let c₂ = c₃ .before .before .before in
+    let c₁ = c₂ .before .before .before in
+    let t = c₁ .before .before .before in
+    let a = t .before .before .args in
+    let turned = turned-graph (a .graph .now) (a .back .now) (c₁ .copy .last .0) (c₂ .copy2 .last .0) (c₃ .copy3 .last .0) (c₄ .copy4 .last .0) (c₅ .copy5 .last .0) (c₆ .copy6 .last .0)
+    (c .copy7 .last .0) (t .transpose .result) (c₁ .copy .ensures) (c₂ .copy2 .ensures) (c₃ .copy3 .ensures) (c₄ .copy4 .ensures) (c₅ .copy5 .ensures) (c₆ .copy6 .ensures) (c .copy7 .ensures) in
+    let indexed = turned-index (a .graph .now) (a .back .now) (c₁ .copy .last .0) (c₂ .copy2 .last .0) (c₃ .copy3 .last .0) (c₄ .copy4 .last .0) (c₅ .copy5 .last .0) (c₆ .copy6 .last .0)
+    (c .copy7 .last .0) (t .transpose .result) (c₁ .copy .ensures) (c₂ .copy2 .ensures) (c₃ .copy3 .ensures) (c₄ .copy4 .ensures) (c₅ .copy5 .ensures) (c₆ .copy6 .ensures) (c .copy7 .ensures) in
+    record { turned = λ e. turned e (t .transpose .ensures); indexed = λ e is. indexed e is }
 
 pub turn-spec : {M : Type 1} → statement M
 turn-spec =
     tie.close
     (tie.spec
-    Inv-loop
-    μ-loop
     (λ c κs. search needs)
-    loop-holds
     (λ c. search needs)
-    (λ c. search needs)
-    (λ c. search needs)
-    (λ c. search needs)
-    (λ c. search needs)
-    (λ c. search needs)
-    (λ c. search needs)
-    (λ c. search needs)
-    (λ c. search needs)
-    (λ c. search needs)
-    (λ c. search needs)
-    (λ c. search needs)
-    (λ c. search needs)
-    (λ c. search needs)
-    (λ c. search needs)
-    (λ c. search needs)
-    (λ c. search needs)
-    (λ c. search needs)
-    (λ c. search needs)
-    (λ c. search needs)
-    (λ c. search needs)
-    (λ c. search needs)
-    (λ c. search needs)
-    (λ c. search needs)
-    loop-again
+    (λ c κs. search needs)
+    (λ c κs. search needs)
+    (λ c κs. search needs)
+    (λ c κs. search needs)
+    (λ c κs. search needs)
+    (λ c κs. search needs)
+    (λ c κs. search needs)
     returns)

@@ -16,7 +16,7 @@ returns c =
     let after = c .before .before .before .before .before .before .reach in
     let start = c .before .before .before .before .before .before .before in
     let args = start .args in
-    let all = covered-iff (hop-back (start .pre)) (hop-turn (start .pre)) (args .m) (args .n) (after .result) (before .result)
+    let all = covered-iff (hop-back (start .pre .turned)) (hop-turn (start .pre .turned)) (args .m) (args .n) (after .result) (before .result)
     (x .result) (y .result) (z .result) (u .result) (after .ensures) (before .ensures) (x .ensures) (y .ensures) (z .ensures) (u .ensures) in
     iff· (λ f s h. all s .0 (f s h)) (λ f s h. all s .1 (f s h)) (c .is-subset .ensures)
 

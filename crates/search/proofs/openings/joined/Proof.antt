@@ -38,10 +38,10 @@ returns-3 c =
     let p = start .args .p in
     let r = c .reach2 in
     record {
-      to = λ e. joined-by (hop-back (start .pre)) p s (from-one p s (w .result) p (w .ensures) (rw (c .before .if2 .left) at (forth .ensures)))
+      to = λ e. joined-by (hop-back (start .pre .turned)) p s (from-one p s (w .result) p (w .ensures) (rw (c .before .if2 .left) at (forth .ensures)))
           (from-one p s (w .result) p (w .ensures) (rw (eqb-true (r .result) p e) at (r .ensures)));
       of = λ h. eq-eqb (r .result) p (reaches-all p s (w .result) (r .result) (w .ensures) (r .ensures)
-          (λ a b e. e .end) (start .fits .p .fits) (r .ok) (λ t ht. chain-back (hop-turn (start .pre)) (h t s ht (low .ensures .0))));
+          (λ a b e. e .end) (start .fits .p .fits) (r .ok) (λ t ht. chain-back (hop-turn (start .pre .turned)) (h t s ht (low .ensures .0))));
     }
 
 pub joined-spec : {M : Type 1} → statement M

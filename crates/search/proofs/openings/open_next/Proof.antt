@@ -33,7 +33,7 @@ opened-at-requires c κs =
     let ends = at .before .pre in
     record {
       low = omega (arith, ends .few);
-      turned = ends .turned;
+      ways = ends .ways;
       forward = ends .forward (at .loop .i) (in-loop .loop-test .taken);
       backward = ends .backward (at .loop .i) (in-loop .loop-test .taken);
     }

@@ -41,9 +41,9 @@ returns c rows claims n is count l =
     let is-m = entrance-iff (is .masked) i m l (rw (here, entrances .before .lefts-at .ensures) at (entrances .intersection .ensures)) in
     let is-k = exit-iff (is .masked) i k l (rw (here, exits .before .rights-at .ensures) at (exits .intersection2 .ensures)) in
     let ends = start .pre in
-    let behind = rw (ends .turned .sets-are i) at (ends .backward) in
-    let loop-shows = looping-passes (is .masked) (ends .turned) (is .forced) (args .to) (args .from) P (ends .forward) behind in
-    let mix-shows = mixing-passes (is .masked) (ends .turned) (is .forced) (args .to) (args .from) P (ends .forward) behind m k is-m is-k in
+    let behind = rw (ends .ways .turned .sets-are i) at (ends .backward) in
+    let loop-shows = looping-passes (is .masked) (ends .ways .turned) (is .forced) (args .to) (args .from) P (ends .forward) behind in
+    let mix-shows = mixing-passes (is .masked) (ends .ways .turned) (is .forced) (args .to) (args .from) P (ends .forward) behind m k is-m is-k in
     let loop-tried = rw here at (loop-test .may-loop .ensures) in
     let mix-tried = rw here at (mix-test .may-mix .ensures) in
     let none = c .before .neither .ensures .to (c .if1 .taken) in (
@@ -54,10 +54,10 @@ returns c rows claims n is count l =
     )
 
 loop-opens-requires : tie.Need-loop-opens-requires
-loop-opens-requires c κs = c .before .before .before .before .before .before .before .before .before .before .before .before .pre .turned
+loop-opens-requires c κs = c .before .before .before .before .before .before .before .before .before .before .before .before .pre .ways
 
 mix-opens-requires : tie.Need-mix-opens-requires
-mix-opens-requires c κs = c .before .before .before .before .before .before .before .before .before .before .before .before .before .pre .turned
+mix-opens-requires c κs = c .before .before .before .before .before .before .before .before .before .before .before .before .before .pre .ways
 
 marked-requires : tie.Need-marked-requires
 marked-requires c κs = c .before .before .before .before .before .before .before .before .before .before .before .before .before .before .pre .low
@@ -84,9 +84,9 @@ returns-2 c rows claims n is count l =
     let is-m = entrance-iff (is .masked) i m l (rw (here, entrances .before .lefts-at .ensures) at (entrances .intersection .ensures)) in
     let is-k = exit-iff (is .masked) i k l (rw (here, exits .before .rights-at .ensures) at (exits .intersection2 .ensures)) in
     let ends = start .pre in
-    let behind = rw (ends .turned .sets-are i) at (ends .backward) in
-    let loop-shows = looping-passes (is .masked) (ends .turned) (is .forced) (args .to) (args .from) P (ends .forward) behind in
-    let mix-shows = mixing-passes (is .masked) (ends .turned) (is .forced) (args .to) (args .from) P (ends .forward) behind m k is-m is-k in
+    let behind = rw (ends .ways .turned .sets-are i) at (ends .backward) in
+    let loop-shows = looping-passes (is .masked) (ends .ways .turned) (is .forced) (args .to) (args .from) P (ends .forward) behind in
+    let mix-shows = mixing-passes (is .masked) (ends .ways .turned) (is .forced) (args .to) (args .from) P (ends .forward) behind m k is-m is-k in
     let loop-tried = rw here at (loop-test .may-loop .ensures) in
     let mix-tried = rw here at (mix-test .may-mix .ensures) in
     let set = set-here (is .masked) count i l in
