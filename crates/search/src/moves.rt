@@ -145,3 +145,14 @@ pub fn targets(graph: &Masks, force: Claims, p: Set, m: Set) -> Set
     let claim = claimed(graph, force, from);
     intersection(union(letter, claim), p)
 }
+
+// The same where the states are few and the claims many.
+pub(crate) fn near_targets(graph: &Masks, force: Claims, p: Set, m: Set) -> Set
+    requires { ⌜ Indexed (now graph) ⌝ }
+    ensures { λ r. ⌜ Onward (Hop (graph-of (now (graph .entry))) force p) m r ⌝ }
+{
+    let from = intersection(m, p);
+    let letter = lettered(graph, from);
+    let claim = touched(graph, force, from);
+    intersection(union(letter, claim), p)
+}

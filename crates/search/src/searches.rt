@@ -3,12 +3,12 @@ use crate::Claims;
 use crate::graphs::Masks;
 use crate::moves::claimed;
 use crate::moves::meets;
-use crate::moves::targets;
+use crate::moves::near_targets;
 use masks::Set;
 use masks::difference;
 use masks::union;
 ghost use mathlib.Core.Path.{_≡_};
-ghost use Rattle.search.specs.Graph.{graph-of};
+ghost use Rattle.search.specs.Graph.{graph-of, Indexed};
 ghost use Rattle.search.specs.Hops.{Hop, Chain, Onward, all-mask, Reached};
 ghost use Rattle.search.specs.Passes.{NewTargets, Explores, FoundByPasses};
 ghost use Rattle.search.specs.Promises.{AcceptsRight, AcceptsSeen, SeenBefore};
@@ -21,18 +21,20 @@ pub struct Found {
 
 // The states that a pass adds: the targets inside `p` of the states `last`, but for those found already.
 fn added(graph: &Masks, force: Claims, p: Set, found: Set, last: Set) -> Set
+    requires { ⌜ Indexed (now graph) ⌝ }
     ensures { λ r. ⌜ NewTargets (Hop (graph-of (now (graph .entry))) force p) found last r ⌝ }
 {
     // Every step inside `p` leads to a state of `p`: there is nothing to add, and nothing to look through.
     if found == p {
         return 0;
     }
-    difference(targets(graph, force, p, last), found)
+    difference(near_targets(graph, force, p, last), found)
 }
 
 // Passes inside `p` from the states `found`, until one adds nothing. A pass follows the steps of the states that the last one added: the
 // targets of the others are in already.
 fn explore(graph: &Masks, force: Claims, p: Set, found: Set, last: Set) -> Found
+    requires { ⌜ Indexed (now graph) ⌝ }
     ensures { λ r. ⌜ Explores (Hop (graph-of (now (graph .entry))) force p) found last (r .states) (r .count) ⌝ }
 {
     let mut states = found;
@@ -52,6 +54,7 @@ fn explore(graph: &Masks, force: Claims, p: Set, found: Set, last: Set) -> Found
 // The states to which a walk of one or more steps inside `p` leads from the states `m`, by passes that each add all targets of the states `m`
 // and of those found so far.
 pub fn passes(graph: &Masks, force: Claims, p: Set, m: Set) -> Found
+    requires { ⌜ Indexed (now graph) ⌝ }
     ensures { λ r. ⌜ FoundByPasses (graph-of (now (graph .entry))) force p m (r .states) (r .count) ⌝ }
 {
     explore(graph, force, p, 0, m)
@@ -59,6 +62,7 @@ pub fn passes(graph: &Masks, force: Claims, p: Set, m: Set) -> Found
 
 // The states to which a walk of one or more steps inside `p` leads from the states `m`.
 pub fn reach(graph: &Masks, force: Claims, p: Set, m: Set) -> Set
+    requires { ⌜ Indexed (now graph) ⌝ }
     ensures { λ r. ⌜ Onward (Chain (Hop (graph-of (now (graph .entry))) force p)) m r ⌝ }
 {
     let found = passes(graph, force, p, m);
@@ -74,6 +78,7 @@ fn all_states() -> Set
 
 // The states to which a walk of one or more steps with the claims in force leads from the initial states.
 pub fn reached(graph: &Masks, force: Claims, initials: Set) -> Set
+    requires { ⌜ Indexed (now graph) ⌝ }
     ensures { λ r. ⌜ Reached (graph-of (now (graph .entry))) force initials r ⌝ }
 {
     let p = all_states();
@@ -83,7 +88,7 @@ pub fn reached(graph: &Masks, force: Claims, initials: Set) -> Set
 // The same where `seen` was reached before the new claims came into force: the passes go on from there, and the first one follows the new
 // claims only.
 pub fn reached_more(graph: &Masks, force: Claims, new: Claims, initials: Set, seen: Set) -> Set
-    requires { ⌜ SeenBefore (graph-of (now graph)) force new initials seen ⌝ }
+    requires { ⌜ Indexed (now graph) × SeenBefore (graph-of (now graph)) force new initials seen ⌝ }
     ensures { λ r. ⌜ Reached (graph-of (now (graph .entry))) force initials r ⌝ }
 {
     let from = union(initials, seen);
@@ -106,6 +111,7 @@ pub fn accepted(initials: Set, seen: Set, finals: Set) -> bool
 
 // Does a walk of zero or more steps with the claims in force lead from an initial to a final state?
 pub fn accepts(graph: &Masks, force: Claims, initials: Set, finals: Set) -> bool
+    requires { ⌜ Indexed (now graph) ⌝ }
     ensures { λ r. ⌜ AcceptsRight (graph-of (now (graph .entry))) force initials finals r ⌝ }
 {
     let seen = reached(graph, force, initials);

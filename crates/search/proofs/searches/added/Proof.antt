@@ -12,7 +12,7 @@ returns c = let a = c .before .args in new-none (a .found) (a .last) (λ x y e. 
 
 returns-2 : tie.Need-returns-2
 returns-2 c = let a = c .before .before .before .args in
-    new-targets (a .found) (a .last) (c .before .targets .result) (c .difference .result) (c .before .targets .ensures) (c .difference .ensures)
+    new-targets (a .found) (a .last) (c .before .near-targets .result) (c .difference .result) (c .before .near-targets .ensures) (c .difference .ensures)
 
 pub added-spec : {M : Type 1} → statement M
 added-spec = tie.close (tie.spec returns (λ c κs. search needs) (λ c κs. search needs) returns-2)

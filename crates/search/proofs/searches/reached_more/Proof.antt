@@ -11,7 +11,7 @@ returns c =
     let cl = d .before in
     let u = cl .before in
     let a = u .before .args in
-    reached-same (graph-of (a .graph .now)) (a .force) (a .new) (a .initials) (a .seen) (u .before .pre) (u .union .result) (cl .claimed .result) (d .difference .result)
+    reached-same (graph-of (a .graph .now)) (a .force) (a .new) (a .initials) (a .seen) (u .before .pre .1) (u .union .result) (cl .claimed .result) (d .difference .result)
     (u .union .ensures) (cl .claimed .ensures) (d .difference .ensures) (c .if1 .taken)
 
 returns-2 : tie.Need-returns-2
@@ -21,7 +21,7 @@ returns-2 c =
     let cl = d .before in
     let u = cl .before in
     let a = u .before .args in
-    reached-now (graph-of (a .graph .now)) (a .force) (a .new) (a .initials) (a .seen) (u .before .pre) (u .union .result) (cl .claimed .result) (d .difference .result)
+    reached-now (graph-of (a .graph .now)) (a .force) (a .new) (a .initials) (a .seen) (u .before .pre .1) (u .union .result) (cl .claimed .result) (d .difference .result)
     (u .union .ensures) (cl .claimed .ensures) (d .difference .ensures) (f .union2 .result) (f .union2 .ensures)
     (rw (f .before .all-states .ensures) at (c .explore .ensures .made))
 
