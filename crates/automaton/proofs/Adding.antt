@@ -37,7 +37,7 @@ pub not-put : (old : List ℕ) (base at s : ℕ) → 64 ≤ at → AddsAt old ba
 not-put old base at s h = record { length-is = refl; here = λ len g. absurd (omega arith); others = λ j n. refl }
 
 -- what a part has where something was put into it
-pub put-iff : (old : List ℕ) (base at s : ℕ) (new : List ℕ) → length old ≡ 256 → AddsAt old base at s new
+pub put-iff : (old : List ℕ) (base at s : ℕ) (new : List ℕ) → length old ≡ 448 → AddsAt old base at s new
     → (i t : ℕ) → (t ∈ getD new (base + i) 0) ↔ ((t ∈ getD old (base + i) 0) ⊎ ((i ≡ at) × (at < 64) × (t ≡ s) × (s < 64)))
 put-iff old base at s new len put i t = go (dec· (eqb· i at)) (dec· (ltb· at 64))
   where
@@ -51,8 +51,8 @@ put-iff old base at s new len put i t = go (dec· (eqb· i at)) (dec· (ltb· at
 
 -- ---- the sets
 
-pub no-sets : (sets : List ℕ) → HasSets sets 0 (replicate 256 0)
-no-sets sets = record { length-is = refl; sets-are = λ j h. absurd (omega arith); others = λ j h. zeros 256 j }
+pub no-sets : (sets : List ℕ) → HasSets sets 0 (replicate 448 0)
+no-sets sets = record { length-is = refl; sets-are = λ j h. absurd (omega arith); others = λ j h. zeros 448 j }
   where
     zeros : (n i : ℕ) → _≡_ {A = ℕ} (getD (replicate n 0) i 0) 0
     zeros zero i = refl

@@ -1,5 +1,5 @@
--- The graph of the rows that were passed (`none-passed`, `pass-initial` to `pass-right`), and that with all rows passed it is the one that the
--- promise gives (`passed-all`).
+-- The graph of the rows that were passed (`none-passed`, `pass-initial` to `pass-right`), that with all rows passed it is the one that the
+-- promise gives (`passed-all`), and that nothing says yet which sets a state touches (`none-unindexed` to `limit-unindexed`).
 use Prim.Native.Nat.{ℕ, _+_, _<_, _≤_}
 use mathlib.Core.Path.{_≡_, refl, ap, ap₂, sym, _∙_, subst}
 use mathlib.Core.Logic.{_⊎_, inl, inr, ⊎-elim, _↔_, _≢_}
@@ -17,7 +17,8 @@ use Rattle.rows.specs.declared.Row.the-variants.{Initial, Final, Successor, Lef
 use Rattle.rows.specs.Rows as Rows
 use Rattle.rows.specs.Rows.{AllFit}
 use Rattle.rows.proofs.Sets.{sets-rise}
-use Rattle.search.specs.Graph.{part, graph-of}
+use Rattle.search.specs.Graph.{part, graph-of, Unindexed}
+use Rattle.search.specs.Masked.{Masked}
 use Rattle.search.proofs.Parts.{past-part, letters-at, sets-at, lefts-at, rights-at}
 use Rattle.row_table.specs.Arrays.{SetsIn}
 use Rattle.automaton.specs.declared.Automaton.{Automaton}
@@ -46,7 +47,7 @@ Leaves P t x = (x ≡ RightLimit t P) × (t < 64)
 
 -- the graph, as an array of masks, is that of the rows of a list, with these sets
 pub record Passed (sets : List ℕ) (n : ℕ) (l : List Row) (graph : List ℕ) (initials finals : ℕ) : Type 0 where
-  pub size : length graph ≡ 256
+  pub size : length graph ≡ 448
   pub kept : (i : ℕ) → i < 64 → getD graph (64 + i) 0 ≡ getD sets i 0
   pub starts : (t : ℕ) → (t ∈ initials) ↔ Some (Starts t) l
   pub ends : (t : ℕ) → (t ∈ finals) ↔ Some (Ends t) l
@@ -98,7 +99,7 @@ state-own f only m s r e is t = (
   λ i. is t .1 (⊎-elim inl (λ p. let g = only s t (sym e ∙ p .0) in inr (sym g, omega (arith, p .1, g))) i),
 )
 
-step-own : {x : Row} (graph new : List ℕ) {p a q : ℕ} → x ≡ Successor p a q → length graph ≡ 256 → AddsAt graph 0 p q new
+step-own : {x : Row} (graph new : List ℕ) {p a q : ℕ} → x ≡ Successor p a q → length graph ≡ 448 → AddsAt graph 0 p q new
     → (i t : ℕ) → (t ∈ getD new i 0) ↔ ((t ∈ getD graph i 0) ⊎ Leads i t x)
 step-own graph new {p} {a} {q} e size put i t = let z : 0 + i ≡ i = omega arith in let is = rw z at (put-iff graph 0 p q new size put i t) in (
   (λ k. ⊎-elim inl (λ w. let g : Successor p a q ≡ Successor i a t = ap₂ (λ y z. Successor y a z) (sym (w .0)) (sym (w .2)) in
@@ -109,7 +110,7 @@ step-own graph new {p} {a} {q} e size put i t = let z : 0 + i ≡ i = omega arit
 
 -- a limit row, in the mask at the place of its set, in the part of its kind
 limit-own : (f : ℕ → ℕ → Row) → ((P s Q t : ℕ) → f P s ≡ f Q t → (P ≡ Q) × (s ≡ t)) → (sets : List ℕ) (n base : ℕ) → n ≤ 64 → {x : Row} (graph new : List ℕ) (P q at : ℕ)
-    → x ≡ f P q → Places sets n P at → length graph ≡ 256 → AddsAt graph base at q new
+    → x ≡ f P q → Places sets n P at → length graph ≡ 448 → AddsAt graph base at q new
     → Rising sets n → (i t : ℕ) → i < n → (t ∈ getD new (base + i) 0) ↔ ((t ∈ getD graph (base + i) 0) ⊎ ((x ≡ f (getD sets i 0) t) × (t < 64)))
 limit-own f only sets n base few graph new P q at e there size put o i t l = let is = put-iff graph base at q new size put i t in (
   (λ k. ⊎-elim inl (λ w. inr (e ∙ ap₂ f (sym (there o i l .0 (w .0))) (sym (w .2)), omega (arith, w .2, w .3))) (is .0 k)),
@@ -177,6 +178,36 @@ module _ (sets : List ℕ) (n : ℕ) (few : n ≤ 64) {l : List Row} {graph : Li
     leaves = λ o i t k. own (Leaves (getD sets i 0) t) l x (limit-own (λ P q. RightLimit q P) (λ a b c d i. (cc, cc)) sets n 192 few graph new P q at e there (h .size) is o i t k) (h .leaves o i t k);
   }
 
+-- ---- nothing stands behind the four parts, and no set from place n on has a limit
+
+pub none-unindexed : (sets : List ℕ) (n : ℕ) (graph : List ℕ) → HasSets sets 64 graph → Unindexed graph n
+none-unindexed sets n graph has = record {
+  size = has .length-is;
+  no-lefts = λ i g h. has .others (128 + i) (inr (omega arith));
+  no-rights = λ i g h. has .others (192 + i) (inr (omega arith));
+  blank = λ j h. has .others j (inr (omega arith));
+}
+
+module _ {n : ℕ} {graph : List ℕ} (h : Unindexed graph n) where
+  -- a state is put into a mask of another place
+  put-before : {base at s : ℕ} {new : List ℕ} → AddsAt graph base at s new → base ≤ 192 → ((i : ℕ) → n ≤ i → i < 64 → at < 64 → 128 + i ≢ base + at)
+      → ((i : ℕ) → n ≤ i → i < 64 → at < 64 → 192 + i ≢ base + at) → Unindexed new n
+  put-before is low f g = record {
+    size = is .length-is ∙ h .size;
+    no-lefts = λ i a b. is .others (128 + i) (f i a b) ∙ h .no-lefts i a b;
+    no-rights = λ i a b. is .others (192 + i) (g i a b) ∙ h .no-rights i a b;
+    blank = λ j a. is .others j (λ b e. omega arith) ∙ h .blank j a;
+  }
+
+  pub letter-unindexed : {at s : ℕ} {new : List ℕ} → AddsAt graph 0 at s new → Unindexed new n
+  letter-unindexed is = put-before is (omega arith) (λ i a b c e. omega arith) (λ i a b c e. omega arith)
+
+  pub limit-unindexed : {base at s : ℕ} {new : List ℕ} → (base ≡ 128) ⊎ (base ≡ 192) → (at < n) ⊎ (64 ≤ at) → AddsAt graph base at s new → Unindexed new n
+  limit-unindexed {base} {at} w q is = put-before is (⊎-elim (λ u. omega arith) (λ u. omega arith) w) (apart 128 (inl refl)) (apart 192 (inr refl))
+    where
+      apart : (k : ℕ) → (k ≡ 128) ⊎ (k ≡ 192) → (i : ℕ) → n ≤ i → i < 64 → at < 64 → k + i ≢ base + at
+      apart k v i a b c e = ⊎-elim (λ u. ⊎-elim (λ x. ⊎-elim (λ y. omega arith) (λ y. omega arith) v) (λ x. ⊎-elim (λ y. omega arith) (λ y. omega arith) v) q) (λ u. ⊎-elim (λ x. ⊎-elim (λ y. omega arith) (λ y. omega arith) v) (λ x. ⊎-elim (λ y. omega arith) (λ y. omega arith) v) q) w
+
 -- ---- all rows
 
 module _ (rows : List Row) (fit : AllFit rows) (sets : List ℕ) (k : ℕ) (count : k ≡ length (Rows.standing-sets rows)) (are : take k sets ≡ Rows.standing-sets rows) (few : k ≤ 64) where
@@ -223,6 +254,16 @@ module _ (rows : List Row) (fit : AllFit rows) (sets : List ℕ) (k : ℕ) (coun
       initial-iff = λ t. one-row (Initial t) t (fit (Initial t)) (h .starts t);
       final-iff = λ t. one-row (Final t) t (fit (Final t)) (h .ends t);
     }
+
+-- the same of another array with the same graph
+pub gives-as : {rows : List Row} {sets : List ℕ} {k : ℕ} (graph new : List ℕ) (initials finals : ℕ) → graph-of new ≡ graph-of graph
+    → Gives rows sets k (record { graph = graph; initials = initials; finals = finals }) → Gives rows sets k (record { graph = new; initials = initials; finals = finals })
+gives-as {rows} {sets} {k} graph new initials finals e g = record {
+  masked = subst (λ x. Masked rows x k) (sym e) (g .masked);
+  sets-are = λ l. ap (λ x. x .sets) e ∙ g .sets-are l;
+  initial-iff = g .initial-iff;
+  final-iff = g .final-iff;
+}
 
 -- the graph holds the sets as the array did that they came from
 pub graph-sets-in : (rows : List Row) (sets : List ℕ) (k : ℕ) (a : Automaton) → Gives rows sets k a → SetsIn rows sets k → SetsIn rows (graph-of (a .graph) .sets) k

@@ -21,12 +21,12 @@ Adds m s r = (t : ℕ) → (t ∈ r) ↔ ((t ∈ m) ⊎ ((t ≡ s) × (s < 64)))
 -- the same of one of 64 masks, the one at a place of the part that begins at base, if that is below 64; the other masks stay
 pub record AddsAt (old : List ℕ) (base at s : ℕ) (new : List ℕ) : Type 0 where
   pub length-is : length new ≡ length old
-  pub here : length old ≡ 256 → at < 64 → Adds (getD old (base + at) 0) s (getD new (base + at) 0)
+  pub here : length old ≡ 448 → at < 64 → Adds (getD old (base + at) 0) s (getD new (base + at) 0)
   pub others : (j : ℕ) → (at < 64 → j ≢ base + at) → getD new j 0 ≡ getD old j 0
 
 -- the first i sets stand in their part, and the other masks are empty
 pub record HasSets (sets : List ℕ) (i : ℕ) (r : List ℕ) : Type 0 where
-  pub length-is : length r ≡ 256
+  pub length-is : length r ≡ 448
   pub sets-are : (j : ℕ) → j < i → getD r (64 + j) 0 ≡ getD sets j 0
   pub others : (j : ℕ) → (j < 64) ⊎ (64 + i ≤ j) → getD r j 0 ≡ 0
 

@@ -5,6 +5,7 @@ use masks::NO_STATE;
 use masks::PLACES;
 use masks::Set;
 use rows::Row;
+use search::graphs;
 use search::graphs::LEFTS;
 use search::graphs::MASKS;
 use search::graphs::Masks;
@@ -12,8 +13,10 @@ use search::graphs::RIGHTS;
 use search::graphs::SETS;
 use sorted_keys::Place;
 ghost use mathlib.Core.Path.{_≡_};
-ghost use Prim.Native.Nat.{_≤_};
+ghost use mathlib.Core.Logic.{_⊎_};
+ghost use Prim.Native.Nat.{_≤_, _<_};
 ghost use lib.ListN.{replicate};
+ghost use Rattle.search.specs.Graph.{Indexed};
 ghost use Rattle.automaton.specs.Promise.{Adds, AddsAt, HasSets, Places, GivesKeyed};
 
 // The graph of some rows as one array of masks; their initial and their final states.
@@ -47,7 +50,8 @@ fn put(graph: &mut Masks, base: usize, at: usize, s: u8)
 // The place of `x` among the first `n` sets, or 64, which is none.
 fn place(sets: &[Set; MOST_SETS], set_count: usize, x: Set) -> usize
     requires { ⌜ «set_count» ≤ 64 ⌝ }
-    ensures { λ r. ⌜ Places (now (sets .entry)) «set_count» x r ⌝ }
+    ensures is { λ r. ⌜ Places (now (sets .entry)) «set_count» x r ⌝ }
+    ensures within { λ r. ⌜ (r < «set_count») ⊎ (64 ≤ r) ⌝ }
 {
     match sorted_keys::find_word(sets, set_count, x) {
         Place::At(i) => i,
@@ -57,7 +61,7 @@ fn place(sets: &[Set; MOST_SETS], set_count: usize, x: Set) -> usize
 
 // Puts the sets into their part of a graph that has nothing yet.
 fn put_sets(graph: &mut Masks, sets: &[Set; MOST_SETS])
-    ensures { λ _. ⌜ (now (graph .entry) ≡ replicate 256 0 → HasSets (now (sets .entry)) 64 (now (graph .exit))) ⌝ }
+    ensures { λ _. ⌜ (now (graph .entry) ≡ replicate 448 0 → HasSets (now (sets .entry)) 64 (now (graph .exit))) ⌝ }
 {
     let mut i = 0;
     while i < MOST_SETS {
@@ -66,7 +70,8 @@ fn put_sets(graph: &mut Masks, sets: &[Set; MOST_SETS])
     }
 }
 
-// The automaton of the rows that have the first `n` keys, whose sets are the first `k`: each row adds one state to one mask.
+// The automaton of the rows that have the first `n` keys, whose sets are the first `k`: each row adds one state to one mask. What says which
+// sets a state touches is written once, at the end.
 pub fn of_keys(
     high: &[u64; MOST_ROWS],
     low: &[u64; MOST_ROWS],
@@ -75,7 +80,8 @@ pub fn of_keys(
     set_count: usize,
 ) -> Automaton
     requires { ⌜ («row_count» ≤ 256) × («set_count» ≤ 64) ⌝ }
-    ensures { λ r. ⌜ GivesKeyed (now (high .entry)) (now (low .entry)) «row_count» (now (sets .entry)) «set_count» r ⌝ }
+    ensures gives { λ r. ⌜ GivesKeyed (now (high .entry)) (now (low .entry)) «row_count» (now (sets .entry)) «set_count» r ⌝ }
+    ensures indexed { λ r. ⌜ Indexed (r .graph) ⌝ }
 {
     let mut graph = [0u64; MASKS];
     put_sets(&mut graph, sets);
@@ -93,6 +99,7 @@ pub fn of_keys(
         }
         i += 1;
     }
+    graphs::index(&mut graph, set_count);
     Automaton {
         graph,
         initials,

@@ -10,7 +10,7 @@ use Rattle.automaton.proofs.put_sets.Statement.{statement}
 use Rattle.automaton.proofs.put_sets.Tie as tie
 
 abbrev Inv-loop : tie.InvT-loop
-Inv-loop graph₀ sets i₀ graph i = (i ≤ 64) × (graph₀ ≡ replicate 256 0 → HasSets sets i graph)
+Inv-loop graph₀ sets i₀ graph i = (i ≤ 64) × (graph₀ ≡ replicate 448 0 → HasSets sets i graph)
 
 abbrev μ-loop : tie.MeasureT-loop
 μ-loop graph₀ sets i₀ graph i = 64 - i
