@@ -17,7 +17,7 @@ ghost use Rattle.lists.specs.Tests.{Decides};
 ghost use Rattle.masks.specs.Mask.{_∈_};
 ghost use Rattle.machine.specs.declared.Phase.the-variants.{Running};
 ghost use Rattle.machine.specs.Machine.{judged};
-ghost use Rattle.search.specs.Graph.{graph-of};
+ghost use Rattle.search.specs.Graph.{graph-of, Indexed};
 ghost use Rattle.search.specs.Hops.{WithNew};
 ghost use Rattle.search.specs.Promises.{OpensBelow};
 ghost use Rattle.rounds.specs.Arrays.{OpenPlaces, Marks};
@@ -102,6 +102,7 @@ fn mark(rounds: &mut [u8; MOST_SETS], opened: Places, round: u8)
 
 // Close: no claim is open.
 pub fn close(graph: &Masks, initials: Set, finals: Set) -> Progress
+    requires { ⌜ Indexed (now graph) ⌝ }
     ensures { λ r. ⌜ Closes (graph-of (now (graph .entry))) initials finals r ⌝ }
 {
     let force = Claims { loops: 0, mixes: 0 };
@@ -119,7 +120,7 @@ pub fn close(graph: &Masks, initials: Set, finals: Set) -> Progress
 
 // The claims that a round opens, with the claims in force before it.
 fn opened(graph: &Masks, force: Claims, set_count: usize) -> Claims
-    requires { ⌜ «set_count» ≤ 64 ⌝ }
+    requires { ⌜ («set_count» ≤ 64) × Indexed (now graph) ⌝ }
     ensures { λ r. ⌜ OpensBelow (graph-of (now (graph .entry))) force «set_count» «set_count» r ⌝ }
 {
     let mut back = [0u64; MASKS];
@@ -137,7 +138,7 @@ pub fn round(
     set_count: usize,
     before: Progress,
 ) -> Progress
-    requires { ⌜ («set_count» ≤ 64) × (before .rounds < 129) ⌝ }
+    requires { ⌜ («set_count» ≤ 64) × (before .rounds < 129) × Indexed (now graph) ⌝ }
     ensures { λ r. ⌜ DoesRound (graph-of (now (graph .entry))) initials finals «set_count» before r ⌝ }
 {
     let mut loop_rounds = before.loop_rounds;
@@ -162,7 +163,7 @@ pub fn round(
 
 // Close, and rounds until the automaton is settled: none needs more than 129.
 pub fn settle(graph: &Masks, initials: Set, finals: Set, set_count: usize) -> Progress
-    requires { ⌜ «set_count» ≤ 64 ⌝ }
+    requires { ⌜ («set_count» ≤ 64) × Indexed (now graph) ⌝ }
     ensures { λ r. ⌜ Settles (graph-of (now (graph .entry))) initials finals «set_count» r ⌝ }
 {
     let mut back = [0u64; MASKS];

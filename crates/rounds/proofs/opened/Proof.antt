@@ -9,7 +9,13 @@ open-next-requires c κs =
     let from = c .before .before .before in
     let to = from .before .before in
     let back = to .before in
-    record { few = back .before .before .pre; turned = back .turn .ensures refl; forward = to .all-ends .ensures .0; backward = from .all-ends2 .ensures .0 }
+    let pre = back .before .before .pre in
+    record {
+      few = pre .0;
+      ways = record { turned = back .turn .ensures .turned refl; indexed = pre .1; back-indexed = back .turn .ensures .indexed refl (pre .1) };
+      forward = to .all-ends .ensures .0;
+      backward = from .all-ends2 .ensures .0;
+    }
 
 returns : tie.Need-returns
 returns c = c .open-next .ensures

@@ -12,7 +12,7 @@ use borrow.Author.Tests.{not-true, not-false}
 use Rattle.masks.proofs.Member.{member-none}
 use Rattle.rows.specs.declared.Row.{Row}
 use Rattle.machine.specs.declared.Phase.{Phase}
-use Rattle.search.specs.Graph.{graph-of, TurnedGraph}
+use Rattle.search.specs.Graph.{graph-of, BothWays}
 use Rattle.search.specs.Hops.{EndsBelow, Reached}
 use Rattle.rounds.specs.Promises.{Given}
 use Rattle.rounds.proofs.Settled.{Stage, Tracked, stage-start, stage-more, kept-settled}
@@ -22,7 +22,7 @@ use Rattle.rounds.proofs.settle.Tie as tie
 
 abbrev Inv-loop : tie.InvT-loop
 Inv-loop graph initials finals set-count back force₀ new₀ to₀ from₀ seen₀ phase₀ loop-rounds₀ mix-rounds₀ count₀ force new to from seen phase loop-rounds mix-rounds count =
-    (count ≤ 129) × (length to ≡ 64) × (length from ≡ 64) × TurnedGraph (graph-of graph) (graph-of back) × Tracked (graph-of graph) (graph-of back) set-count force new to from
+    (count ≤ 129) × (length to ≡ 64) × (length from ≡ 64) × BothWays graph back × Tracked (graph-of graph) (graph-of back) set-count force new to from
     × Reached (graph-of graph) force initials seen
     × ((rows : List Row) → Given rows (graph-of graph) initials finals set-count → Stage rows (graph-of graph) set-count force loop-rounds mix-rounds phase count)
 
@@ -46,7 +46,7 @@ loop-holds c =
       omega arith,
       ends .all-ends .ensures .1,
       turned-ends .all-ends2 .ensures .1,
-      back .turn .ensures refl,
+      record { turned = back .turn .ensures .turned refl; indexed = back .before .before .pre .1; back-indexed = back .turn .ensures .indexed refl (back .before .before .pre .1) },
       record {
         old = none;
         with-new = record { loops-are = λ t. rw (member-none t) refl; mixes-are = λ t. rw (member-none t) refl };
@@ -59,7 +59,7 @@ loop-holds c =
     )
 
 add-ends-requires : tie.Need-add-ends-requires Inv-loop μ-loop
-add-ends-requires c κs = let at = c .before .before .before .before .before .before in (start at .pre, at .loop .inv .3)
+add-ends-requires c κs = let at = c .before .before .before .before .before .before in (start at .pre .0, at .loop .inv .3 .turned)
 
 -- the turn before it goes on
 abbrev at-turn : (c : tie.After-add-ends Inv-loop μ-loop) → tie.At-loop Inv-loop μ-loop
@@ -78,11 +78,11 @@ backward c i l = let at = at-turn c in let t = at .loop .inv .4 in
 
 open-next-requires : tie.Need-open-next-requires Inv-loop μ-loop
 open-next-requires c κs = let e = c .before .before .before in let at = at-turn e in
-    record { few = start at .pre; turned = at .loop .inv .3; forward = forward e; backward = backward e }
+    record { few = start at .pre .0; ways = at .loop .inv .3; forward = forward e; backward = backward e }
 
 reached-more-requires : tie.Need-reached-more-requires Inv-loop μ-loop
 reached-more-requires c κs = let at = at-turn (c .before .before .before .before .before) in
-    record { old = at .loop .force; with-new = c .with-new .ensures; reached = at .loop .inv .5 }
+    (start at .pre .1, record { old = at .loop .force; with-new = c .with-new .ensures; reached = at .loop .inv .5 })
 
 add-count : tie.Need-add-count Inv-loop μ-loop
 add-count c = omega (arith, c .before .before .before .before .before .before .before .before .before .before .before .before .before .before .before .loop-test .taken)
