@@ -9,6 +9,7 @@ use machine::Phase;
 use rows::Row;
 ghost use Prim.Native.Nat.{_≤_};
 ghost use Rattle.row_table.specs.Arrays.{Keyed};
+ghost use Rattle.search.specs.Graph.{Indexed};
 ghost use Rattle.session.specs.Promise.{Fresh, Ranged};
 ghost use Rattle.session.specs.Standing.{standing, Slotted, Reads};
 
@@ -76,7 +77,8 @@ impl Session {
     // The automaton of the standing rows.
     pub(crate) fn automaton(self) -> Automaton
         requires { ⌜ Ranged self ⌝ }
-        ensures { λ r. ⌜ Reads self r ⌝ }
+        ensures reads { λ r. ⌜ Reads self r ⌝ }
+        ensures indexed { λ r. ⌜ Indexed (r .graph) ⌝ }
     {
         let sets = self.sets;
         let n = self.row_count;

@@ -11,14 +11,14 @@ returns : tie.Need-returns
 returns c rows t f =
     let d = c .before .before in
     let a = d .before .before .before .before .before .args in
-    not-settled rows t (a .high .now) (a .low .now) (a .sets .now) (a .row-count) (a .set-count) f (d .before .before .before .of-keys .result) (d .before .before .before .of-keys .ensures) (d .settle .result) (d .settle .ensures)
+    not-settled rows t (a .high .now) (a .low .now) (a .sets .now) (a .row-count) (a .set-count) f (d .before .before .before .of-keys .result) (d .before .before .before .of-keys .ensures .0) (d .settle .result) (d .settle .ensures)
     Open 9 (a .sheet .now) (c .enum-told .given .1) (open-refuses (printing _))
 
 returns-2 : tie.Need-returns-2
 returns-2 c rows t f =
     let d = c .before .before in
     let a = d .before .before .before .before .before .args in
-    not-settled rows t (a .high .now) (a .low .now) (a .sets .now) (a .row-count) (a .set-count) f (d .before .before .before .of-keys .result) (d .before .before .before .of-keys .ensures) (d .settle .result) (d .settle .ensures)
+    not-settled rows t (a .high .now) (a .low .now) (a .sets .now) (a .row-count) (a .set-count) f (d .before .before .before .of-keys .result) (d .before .before .before .of-keys .ensures .0) (d .settle .result) (d .settle .ensures)
     Running 11 (a .sheet .now) (c .enum-told2 .given .1) (running-refuses _)
 
 returns-3 : tie.Need-returns-3
@@ -27,7 +27,7 @@ returns-3 c rows t f =
     let v = p .before .before .before .before in
     let d = v .before .before in
     let a = d .before .before .before .before .before .args in
-    is-settled rows t (a .high .now) (a .low .now) (a .sets .now) (a .row-count) (a .set-count) f (d .before .before .before .of-keys .result) (d .before .before .before .of-keys .ensures) (d .settle .result) (d .settle .ensures)
+    is-settled rows t (a .high .now) (a .low .now) (a .sets .now) (a .row-count) (a .set-count) f (d .before .before .before .of-keys .result) (d .before .before .before .of-keys .ensures .0) (d .settle .result) (d .settle .ensures)
     (v .phase .given .0 .0) (v .phase .given .1) (a .sheet .now) (p .print .last .0) (p .print .result) (p .print .ensures)
 
 pub finish-spec : {M : Type 1} → statement M

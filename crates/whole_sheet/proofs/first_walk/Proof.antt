@@ -15,7 +15,7 @@ returns c =
     let a = turned .before .before .before .before .args in (
       c .first-walk .ensures .0,
       finds (a .high .now) (a .low .now) (a .row-count) (a .set-count) (automaton-of (a .graph .now) (a .initials) (a .finals)) (a .rounds) (graph-of (turned .turn .last .1 .0)) (record { loops = loops .open-mask .result; mixes = mixes .open-mask2 .result }) (c .first-walk .result)
-          (turned .turn .ensures refl) (loops .open-mask .ensures) (mixes .open-mask2 .ensures) (c .first-walk .ensures .1),
+          (turned .turn .ensures .turned refl) (loops .open-mask .ensures) (mixes .open-mask2 .ensures) (c .first-walk .ensures .1),
     )
 
 pub first-walk-spec : {M : Type 1} → statement M
