@@ -1,12 +1,12 @@
 -- A state that is added to a mask, a mask of a part, the sets of a graph, the place of a set among sets in order.
-use Prim.Native.Nat.{ℕ, zero, suc, _+_, _<_, _≤_}
+use Prim.Native.Nat.{ℕ, zero, suc, _+_, _-_, _<_, _≤_}
 use mathlib.Core.Path.{_≡_, refl, ap, sym, _∙_, subst}
 use mathlib.Core.Bool.{Bool, _||_}
 use mathlib.Core.Logic.{_⊎_, inl, inr, ⊎-elim, _↔_, _≢_}
-use mathlib.Core.List.{List}
+use mathlib.Core.List.{List, _++_}
 use lib.Dec.{eqb}
 use lib.ListN.{length, getD, set, replicate, length-set}
-use lib.Seq.{getD-set-same, getD-set-other}
+use lib.Seq.{getD-append-add, getD-set-same, getD-set-other}
 use native.Mathlib.Omega.{arith}
 use Rattle.lists.proofs.Deciding.{eqb·, ltb·, dec·}
 use Rattle.masks.specs.Mask.{member, _∈_}
@@ -51,13 +51,18 @@ put-iff old base at s new len put i t = go (dec· (eqb· i at)) (dec· (ltb· at
 
 -- ---- the sets
 
+zeros : (n i : ℕ) → _≡_ {A = ℕ} (getD (replicate n 0) i 0) 0
+zeros zero i = refl
+zeros (suc n) zero = refl
+zeros (suc n) (suc i) = zeros n i
+
+-- behind the elements of a list that is filled up with nothing there is nothing
+pub past-padded : (n : ℕ) (l : List ℕ) (i : ℕ) → length l ≤ i → getD (l ++ replicate (n - length l) 0) i 0 ≡ 0
+past-padded n l i h = let e : length l + (i - length l) ≡ i = omega arith in
+    ap (λ (j : ℕ). getD (l ++ replicate (n - length l) 0) j 0) (sym e) ∙ getD-append-add l (replicate (n - length l) 0) (i - length l) 0 ∙ zeros (n - length l) (i - length l)
+
 pub no-sets : (sets : List ℕ) → HasSets sets 0 (replicate 448 0)
 no-sets sets = record { length-is = refl; sets-are = λ j h. absurd (omega arith); others = λ j h. zeros 448 j }
-  where
-    zeros : (n i : ℕ) → _≡_ {A = ℕ} (getD (replicate n 0) i 0) 0
-    zeros zero i = refl
-    zeros (suc n) zero = refl
-    zeros (suc n) (suc i) = zeros n i
 
 pub one-set-more : (sets r : List ℕ) (i : ℕ) → i < 64 → HasSets sets i r → HasSets sets (i + 1) (set r (64 + i) (getD sets i 0))
 one-set-more sets r i h now = record {

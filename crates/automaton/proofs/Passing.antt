@@ -10,7 +10,7 @@ use native.Mathlib.Omega.{arith}
 use Rattle.lists.specs.Tests.{_among_}
 use Rattle.lists.proofs.Deciding.{ltb·, dec·}
 use Rattle.masks.specs.Mask.{_∈_}
-use Rattle.masks.proofs.Member.{in-none}
+use Rattle.masks.proofs.Member.{in-none, lt-or-le}
 use Rattle.sorted_keys.specs.Keys.{Rising}
 use Rattle.rows.specs.declared.Row.{Row}
 use Rattle.rows.specs.declared.Row.the-variants.{Initial, Final, Successor, LeftLimit, RightLimit}
@@ -23,7 +23,7 @@ use Rattle.search.proofs.Parts.{past-part, letters-at, sets-at, lefts-at, right
 use Rattle.row_table.specs.Arrays.{SetsIn}
 use Rattle.automaton.specs.declared.Automaton.{Automaton}
 use Rattle.automaton.specs.Promise.{Adds, AddsAt, HasSets, Places, Gives}
-use Rattle.automaton.proofs.Adding.{put-iff}
+use Rattle.automaton.proofs.Adding.{past-padded, put-iff}
 
 -- some row of the list has P
 abbrev Some : (Row → Type 0) → List Row → Type 0
@@ -48,7 +48,7 @@ Leaves P t x = (x ≡ RightLimit t P) × (t < 64)
 -- the graph, as an array of masks, is that of the rows of a list, with these sets
 pub record Passed (sets : List ℕ) (n : ℕ) (l : List Row) (graph : List ℕ) (initials finals : ℕ) : Type 0 where
   pub size : length graph ≡ 448
-  pub kept : (i : ℕ) → i < 64 → getD graph (64 + i) 0 ≡ getD sets i 0
+  pub kept : (i : ℕ) → i < n → getD graph (64 + i) 0 ≡ getD sets i 0
   pub starts : (t : ℕ) → (t ∈ initials) ↔ Some (Starts t) l
   pub ends : (t : ℕ) → (t ∈ finals) ↔ Some (Ends t) l
   pub leads : (p q : ℕ) → p < 64 → (q ∈ getD graph p 0) ↔ Some (Leads p q) l
@@ -60,8 +60,8 @@ pub record Passed (sets : List ℕ) (n : ℕ) (l : List Row) (graph : List ℕ) 
 nobody : (P : Row → Type 0) (t : ℕ) {m : ℕ} → m ≡ 0 → (t ∈ m) ↔ Some P []
 nobody P t e = ((λ i. absurd (in-none t (subst (λ m. t ∈ m) e i))), λ p. absurd (List·Memᴰ·not-nil (p .1)))
 
-pub none-passed : (sets : List ℕ) (n : ℕ) (graph : List ℕ) → HasSets sets 64 graph → Passed sets n [] graph 0 0
-none-passed sets n graph has = record {
+pub none-passed : (sets : List ℕ) (n : ℕ) (graph : List ℕ) → n ≤ 64 → HasSets sets n graph → Passed sets n [] graph 0 0
+none-passed sets n graph few has = record {
   size = has .length-is;
   kept = has .sets-are;
   starts = λ t. nobody (Starts t) t refl;
@@ -148,7 +148,7 @@ module _ (sets : List ℕ) (n : ℕ) (few : n ≤ 64) {l : List Row} {graph : Li
   pub pass-step : {p a q : ℕ} {new : List ℕ} → x ≡ Successor p a q → AddsAt graph 0 p q new → Passed sets n (l ++ (x ∷ [])) new initials finals
   pass-step {new = new} e is = record {
     size = is .length-is ∙ h .size;
-    kept = λ i j. is .others (64 + i) (λ a b. omega arith) ∙ h .kept i j;
+    kept = λ i j. is .others (64 + i) (λ a b. omega (arith, few)) ∙ h .kept i j;
     starts = λ t. other (Starts t) l x (λ p. never (cc (p .0))) (h .starts t);
     ends = λ t. other (Ends t) l x (λ p. never (cc (p .0))) (h .ends t);
     leads = λ p q j. own (Leads p q) l x (step-own graph new e (h .size) is p q) (h .leads p q j);
@@ -159,7 +159,7 @@ module _ (sets : List ℕ) (n : ℕ) (few : n ≤ 64) {l : List Row} {graph : Li
   pub pass-left : {P q : ℕ} (at : ℕ) {new : List ℕ} → x ≡ LeftLimit P q → Places sets n P at → AddsAt graph 128 at q new → Passed sets n (l ++ (x ∷ [])) new initials finals
   pass-left {P} {q} at {new} e there is = record {
     size = is .length-is ∙ h .size;
-    kept = λ i j. is .others (64 + i) (λ a b. omega arith) ∙ h .kept i j;
+    kept = λ i j. is .others (64 + i) (λ a b. omega (arith, few)) ∙ h .kept i j;
     starts = λ t. other (Starts t) l x (λ p. never (cc (p .0))) (h .starts t);
     ends = λ t. other (Ends t) l x (λ p. never (cc (p .0))) (h .ends t);
     leads = λ p q j. stays is p (λ a b. omega arith) q (other (Leads p q) l x (λ w. never (cc (w .1))) (h .leads p q j));
@@ -170,7 +170,7 @@ module _ (sets : List ℕ) (n : ℕ) (few : n ≤ 64) {l : List Row} {graph : Li
   pub pass-right : {P q : ℕ} (at : ℕ) {new : List ℕ} → x ≡ RightLimit q P → Places sets n P at → AddsAt graph 192 at q new → Passed sets n (l ++ (x ∷ [])) new initials finals
   pass-right {P} {q} at {new} e there is = record {
     size = is .length-is ∙ h .size;
-    kept = λ i j. is .others (64 + i) (λ a b. omega arith) ∙ h .kept i j;
+    kept = λ i j. is .others (64 + i) (λ a b. omega (arith, few)) ∙ h .kept i j;
     starts = λ t. other (Starts t) l x (λ p. never (cc (p .0))) (h .starts t);
     ends = λ t. other (Ends t) l x (λ p. never (cc (p .0))) (h .ends t);
     leads = λ p q j. stays is p (λ a b. omega arith) q (other (Leads p q) l x (λ w. never (cc (w .1))) (h .leads p q j));
@@ -180,9 +180,10 @@ module _ (sets : List ℕ) (n : ℕ) (few : n ≤ 64) {l : List Row} {graph : Li
 
 -- ---- nothing stands behind the four parts, and no set from place n on has a limit
 
-pub none-unindexed : (sets : List ℕ) (n : ℕ) (graph : List ℕ) → HasSets sets 64 graph → Unindexed graph n
-none-unindexed sets n graph has = record {
+pub none-unindexed : (sets : List ℕ) (n : ℕ) (graph : List ℕ) → n ≤ 64 → HasSets sets n graph → Unindexed graph n
+none-unindexed sets n graph few has = record {
   size = has .length-is;
+  no-sets = λ i g h. has .others (64 + i) (inr (omega arith));
   no-lefts = λ i g h. has .others (128 + i) (inr (omega arith));
   no-rights = λ i g h. has .others (192 + i) (inr (omega arith));
   blank = λ j h. has .others j (inr (omega arith));
@@ -190,20 +191,21 @@ none-unindexed sets n graph has = record {
 
 module _ {n : ℕ} {graph : List ℕ} (h : Unindexed graph n) where
   -- a state is put into a mask of another place
-  put-before : {base at s : ℕ} {new : List ℕ} → AddsAt graph base at s new → base ≤ 192 → ((i : ℕ) → n ≤ i → i < 64 → at < 64 → 128 + i ≢ base + at)
-      → ((i : ℕ) → n ≤ i → i < 64 → at < 64 → 192 + i ≢ base + at) → Unindexed new n
-  put-before is low f g = record {
+  put-before : {base at s : ℕ} {new : List ℕ} → AddsAt graph base at s new → base ≤ 192 → ((i : ℕ) → i < 64 → at < 64 → 64 + i ≢ base + at)
+      → ((i : ℕ) → n ≤ i → i < 64 → at < 64 → 128 + i ≢ base + at) → ((i : ℕ) → n ≤ i → i < 64 → at < 64 → 192 + i ≢ base + at) → Unindexed new n
+  put-before is low k f g = record {
     size = is .length-is ∙ h .size;
+    no-sets = λ i a b. is .others (64 + i) (k i b) ∙ h .no-sets i a b;
     no-lefts = λ i a b. is .others (128 + i) (f i a b) ∙ h .no-lefts i a b;
     no-rights = λ i a b. is .others (192 + i) (g i a b) ∙ h .no-rights i a b;
     blank = λ j a. is .others j (λ b e. omega arith) ∙ h .blank j a;
   }
 
   pub letter-unindexed : {at s : ℕ} {new : List ℕ} → AddsAt graph 0 at s new → Unindexed new n
-  letter-unindexed is = put-before is (omega arith) (λ i a b c e. omega arith) (λ i a b c e. omega arith)
+  letter-unindexed is = put-before is (omega arith) (λ i b c e. omega arith) (λ i a b c e. omega arith) (λ i a b c e. omega arith)
 
   pub limit-unindexed : {base at s : ℕ} {new : List ℕ} → (base ≡ 128) ⊎ (base ≡ 192) → (at < n) ⊎ (64 ≤ at) → AddsAt graph base at s new → Unindexed new n
-  limit-unindexed {base} {at} w q is = put-before is (⊎-elim (λ u. omega arith) (λ u. omega arith) w) (apart 128 (inl refl)) (apart 192 (inr refl))
+  limit-unindexed {base} {at} w q is = put-before is (⊎-elim (λ u. omega arith) (λ u. omega arith) w) (λ i b c e. ⊎-elim (λ u. omega arith) (λ u. omega arith) w) (apart 128 (inl refl)) (apart 192 (inr refl))
     where
       apart : (k : ℕ) → (k ≡ 128) ⊎ (k ≡ 192) → (i : ℕ) → n ≤ i → i < 64 → at < 64 → k + i ≢ base + at
       apart k v i a b c e = ⊎-elim (λ u. ⊎-elim (λ x. ⊎-elim (λ y. omega arith) (λ y. omega arith) v) (λ x. ⊎-elim (λ y. omega arith) (λ y. omega arith) v) q) (λ u. ⊎-elim (λ x. ⊎-elim (λ y. omega arith) (λ y. omega arith) v) (λ x. ⊎-elim (λ y. omega arith) (λ y. omega arith) v) q) w
@@ -215,9 +217,9 @@ module _ (rows : List Row) (fit : AllFit rows) (sets : List ℕ) (k : ℕ) (coun
   one-row : (x : Row) (t : ℕ) → (x among rows → t < 64) → {X : Type 0} → X ↔ Some (λ y. (y ≡ x) × (t < 64)) rows → X ↔ x among rows
   one-row x t f h = ((λ i. let s = h .0 i in Memᴰ·cast (sym (s .2 .0)) (s .1)), λ m. h .1 (x, m, (refl, f m)))
 
-  module _ (a : Automaton) (h : Passed sets k rows (a .graph) (a .initials) (a .finals)) where
-    set-is : (i : ℕ) → i < 64 → getD (graph-of (a .graph) .sets) i 0 ≡ getD sets i 0
-    set-is i l = sets-at (a .graph) i l ∙ h .kept i l
+  module _ (a : Automaton) (bare : Unindexed (a .graph) k) (h : Passed sets k rows (a .graph) (a .initials) (a .finals)) where
+    set-is : (i : ℕ) → i < k → getD (graph-of (a .graph) .sets) i 0 ≡ getD sets i 0
+    set-is i l = sets-at (a .graph) i (omega arith) ∙ h .kept i l
 
     sets-length : length (graph-of (a .graph) .sets) ≡ 64
     unfolding graph-of part
@@ -235,6 +237,15 @@ module _ (rows : List Row) (fit : AllFit rows) (sets : List ℕ) (k : ℕ) (coun
     letter-iff p q (no n) =
         ((λ i. absurd (in-none q (subst (λ m. q ∈ m) (letters-past p (omega arith)) i))), λ i. absurd (n (fit (Successor p (i .0) q) (i .1) .0)))
 
+    sized : SetsIn rows sets k → length sets ≡ 64
+    sized w = ap length (w .sets-are) ∙ simp (length-append, length-replicate) (omega (arith, few, w .count))
+
+    -- no set stands behind the first k
+    alike : SetsIn rows sets k → (i : ℕ) → i < 64 → getD (graph-of (a .graph) .sets) i 0 ≡ getD sets i 0
+    alike w i l = ⊎-elim (set-is i)
+        (λ g. sets-at (a .graph) i l ∙ bare .no-sets i g l ∙ sym (ap (λ (s : List ℕ). getD s i 0) (w .sets-are) ∙ past-padded 64 (Rows.standing-sets rows) i (omega (arith, w .count))))
+        (lt-or-le i k)
+
     -- the graph of all the rows
     pub passed-all : Gives rows sets k a
     passed-all = record {
@@ -243,14 +254,17 @@ module _ (rows : List Row) (fit : AllFit rows) (sets : List ℕ) (k : ℕ) (coun
         sets-are = ext-getD 0 (take k (graph-of (a .graph) .sets)) (take k sets)
             (omega (arith, length-take k (graph-of (a .graph) .sets), sets-length, ap length are, count))
             (λ i l. let g : i < k = omega (arith, length-take k (graph-of (a .graph) .sets)) in
-            getD-take k (graph-of (a .graph) .sets) i 0 g ∙ set-is i (omega arith) ∙ sym (getD-take k sets i 0 g)) ∙ are;
+            getD-take k (graph-of (a .graph) .sets) i 0 g ∙ set-is i g ∙ sym (getD-take k sets i 0 g)) ∙ are;
         letter-iff = λ p q. letter-iff p q (dec· (ltb· p 64));
-        left-iff = λ i r l. rw (lefts-at (a .graph) i (omega arith), set-is i (omega arith))
+        left-iff = λ i r l. rw (lefts-at (a .graph) i (omega arith), set-is i l)
             (let x = LeftLimit (getD sets i 0) r in one-row x r (λ m. fit x m .2) (h .enters (sets-rise rows sets k are count) i r l));
-        right-iff = λ i r l. rw (rights-at (a .graph) i (omega arith), set-is i (omega arith))
+        right-iff = λ i r l. rw (rights-at (a .graph) i (omega arith), set-is i l)
             (let x = RightLimit r (getD sets i 0) in one-row x r (λ m. fit x m .2) (h .leaves (sets-rise rows sets k are count) i r l));
       };
-      sets-are = λ e. ext-getD 0 (graph-of (a .graph) .sets) sets (sets-length ∙ sym e) (λ i l. set-is i (omega (arith, sets-length)));
+      sets-in = λ w. record {
+        count = w .count;
+        sets-are = ext-getD 0 (graph-of (a .graph) .sets) sets (sets-length ∙ sym (sized w)) (λ i l. alike w i (omega (arith, sets-length))) ∙ w .sets-are;
+      };
       initial-iff = λ t. one-row (Initial t) t (fit (Initial t)) (h .starts t);
       final-iff = λ t. one-row (Final t) t (fit (Final t)) (h .ends t);
     }
@@ -260,14 +274,11 @@ pub gives-as : {rows : List Row} {sets : List ℕ} {k : ℕ} (graph new : List �
     → Gives rows sets k (record { graph = graph; initials = initials; finals = finals }) → Gives rows sets k (record { graph = new; initials = initials; finals = finals })
 gives-as {rows} {sets} {k} graph new initials finals e g = record {
   masked = subst (λ x. Masked rows x k) (sym e) (g .masked);
-  sets-are = λ l. ap (λ x. x .sets) e ∙ g .sets-are l;
+  sets-in = λ w. subst (λ x. SetsIn rows (x .sets) k) (sym e) (g .sets-in w);
   initial-iff = g .initial-iff;
   final-iff = g .final-iff;
 }
 
 -- the graph holds the sets as the array did that they came from
 pub graph-sets-in : (rows : List Row) (sets : List ℕ) (k : ℕ) (a : Automaton) → Gives rows sets k a → SetsIn rows sets k → SetsIn rows (graph-of (a .graph) .sets) k
-graph-sets-in rows sets k a gives w = record { count = w .count; sets-are = gives .sets-are sized ∙ w .sets-are }
-  where
-    sized : length sets ≡ 64
-    sized = ap length (w .sets-are) ∙ simp (length-append, length-replicate) (omega (arith, gives .masked .few, w .count))
+graph-sets-in rows sets k a gives w = gives .sets-in w

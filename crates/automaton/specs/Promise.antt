@@ -11,7 +11,7 @@ use Rattle.rows.specs.Rows.{AllFit}
 use Rattle.rows.specs.Rows as Rows
 use Rattle.search.specs.Graph.{graph-of}
 use Rattle.search.specs.Masked.{Masked, Initials, Finals}
-use Rattle.row_table.specs.Arrays.{Keyed}
+use Rattle.row_table.specs.Arrays.{SetsIn, Keyed}
 use Rattle.automaton.specs.declared.Automaton.{Automaton}
 
 -- the states of m, and s if that is below 64
@@ -34,10 +34,10 @@ pub record HasSets (sets : List ℕ) (i : ℕ) (r : List ℕ) : Type 0 where
 abbrev pub Places : List ℕ → ℕ → ℕ → ℕ → Type 0
 Places sets n x r = Rising sets n → (i : ℕ) → i < n → (i ≡ r) ↔ (getD sets i 0 ≡ x)
 
--- the graph of the rows, with these sets, of which the first k are the rows'; their initial and their final states
+-- the graph of the rows, with the first k of these sets, which are the rows'; their initial and their final states
 pub record Gives (rows : List Row) (sets : List ℕ) (k : ℕ) (r : Automaton) : Type 0 where
   pub masked : Masked rows (graph-of (r .graph)) k
-  pub sets-are : length sets ≡ 64 → graph-of (r .graph) .sets ≡ sets
+  pub sets-in : SetsIn rows sets k → SetsIn rows (graph-of (r .graph) .sets) k
   pub initial-iff : Initials rows (r .initials)
   pub final-iff : Finals rows (r .finals)
 

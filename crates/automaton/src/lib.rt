@@ -59,12 +59,14 @@ fn place(sets: &[Set; MOST_SETS], set_count: usize, x: Set) -> usize
     }
 }
 
-// Puts the sets into their part of a graph that has nothing yet.
-fn put_sets(graph: &mut Masks, sets: &[Set; MOST_SETS])
-    ensures { λ _. ⌜ (now (graph .entry) ≡ replicate 448 0 → HasSets (now (sets .entry)) 64 (now (graph .exit))) ⌝ }
+// Puts the first `n` sets into their part of a graph that has nothing yet.
+fn put_sets(graph: &mut Masks, sets: &[Set; MOST_SETS], set_count: usize)
+    requires { ⌜ «set_count» ≤ 64 ⌝ }
+    ensures { λ _. ⌜ (now (graph .entry) ≡ replicate 448 0 →
+        HasSets (now (sets .entry)) «set_count» (now (graph .exit))) ⌝ }
 {
     let mut i = 0;
-    while i < MOST_SETS {
+    while i < set_count {
         graph[SETS + i] = sets[i];
         i += 1;
     }
@@ -84,7 +86,7 @@ pub fn of_keys(
     ensures indexed { λ r. ⌜ Indexed (r .graph) ⌝ }
 {
     let mut graph = [0u64; MASKS];
-    put_sets(&mut graph, sets);
+    put_sets(&mut graph, sets, set_count);
     let mut initials: Set = 0;
     let mut finals: Set = 0;
     let mut i = 0;

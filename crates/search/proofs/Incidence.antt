@@ -159,7 +159,7 @@ module _ (old : List ℕ) (from by : ℕ) (apart : from + 64 ≤ by) where
   }
 
 -- the three parts, one after another
-module _ (n : ℕ) (l b₁ b₂ b₃ : List ℕ) (s : PartIndexed l 64 256 64 b₁) (r : PartIndexed b₁ 128 320 n b₂) (t : PartIndexed b₂ 192 384 n b₃) where
+module _ (n : ℕ) (l b₁ b₂ b₃ : List ℕ) (s : PartIndexed l 64 256 n b₁) (r : PartIndexed b₁ 128 320 n b₂) (t : PartIndexed b₂ 192 384 n b₃) where
   pub indexes : Indexes n l b₃
   unfolding graph-of
   indexes = record {
@@ -169,7 +169,7 @@ module _ (n : ℕ) (l b₁ b₂ b₃ : List ℕ) (s : PartIndexed l 64 256 64 b�
       by-sets = moved b₁ 64 256 (t .length-is ∙ r .length-is)
           (λ j h. t .others (64 + j) (inl (omega arith)) ∙ r .others (64 + j) (inl (omega arith)))
           (λ j h. t .others (256 + j) (inl (omega arith)) ∙ r .others (256 + j) (inl (omega arith)))
-          (s .turned (u .size) (λ j h. u .blank (256 + j) (omega arith)) (λ i g h. absurd (omega arith)));
+          (s .turned (u .size) (λ j h. u .blank (256 + j) (omega arith)) (u .no-sets));
       by-lefts = moved b₂ 128 320 (t .length-is) (λ j h. t .others (128 + j) (inl (omega arith))) (λ j h. t .others (320 + j) (inl (omega arith)))
           (r .turned (s .length-is ∙ u .size) (λ j h. s .others (320 + j) (inr (omega arith)) ∙ u .blank (320 + j) (omega arith))
           (λ i g h. s .others (128 + i) (inl (omega arith)) ∙ u .no-lefts i g h));

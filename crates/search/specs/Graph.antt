@@ -64,9 +64,10 @@ pub record PartIndexed (old : List ℕ) (from by n : ℕ) (new : List ℕ) : Typ
       → Turned (part new from) (part new by)
   pub others : (j : ℕ) → (j < by) ⊎ (by + 64 ≤ j) → getD new j 0 ≡ getD old j 0
 
--- the sets from place n on have no limits, and nothing stands behind the four parts
+-- no set stands from place n on, none there has limits, and nothing stands behind the four parts
 pub record Unindexed (l : List ℕ) (n : ℕ) : Type 0 where
   pub size : length l ≡ 448
+  pub no-sets : (i : ℕ) → n ≤ i → i < 64 → getD l (64 + i) 0 ≡ 0
   pub no-lefts : (i : ℕ) → n ≤ i → i < 64 → getD l (128 + i) 0 ≡ 0
   pub no-rights : (i : ℕ) → n ≤ i → i < 64 → getD l (192 + i) 0 ≡ 0
   pub blank : (j : ℕ) → 256 ≤ j → getD l j 0 ≡ 0

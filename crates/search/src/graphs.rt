@@ -95,12 +95,12 @@ fn index_part(graph: &mut Masks, from: usize, by: usize, n: usize)
     }
 }
 
-// Writes what stands behind the four parts, where the sets from place `n` on have no limits.
+// Writes what stands behind the four parts, where no set stands from place `n` on.
 pub fn index(graph: &mut Masks, set_count: usize)
     requires { ⌜ «set_count» ≤ 64 ⌝ }
     ensures { λ _. ⌜ Indexes «set_count» (now (graph .entry)) (now (graph .exit)) ⌝ }
 {
-    index_part(graph, SETS, BY_SETS, PLACES);
+    index_part(graph, SETS, BY_SETS, set_count);
     index_part(graph, LEFTS, BY_LEFTS, set_count);
     index_part(graph, RIGHTS, BY_RIGHTS, set_count);
 }

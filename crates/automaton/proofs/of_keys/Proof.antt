@@ -26,7 +26,7 @@ abbrev μ-loop : tie.MeasureT-loop
 μ-loop high low row-count sets set-count graph₀ initials₀ finals₀ i₀ graph initials finals i = row-count - i
 
 loop-holds : tie.Need-loop-holds Inv-loop μ-loop
-loop-holds c = (omega arith, none-unindexed _ _ _ (c .put-sets .ensures refl), λ rows f key. none-passed _ _ _ (c .put-sets .ensures refl))
+loop-holds c = (omega arith, none-unindexed _ _ _ (c .before .before .pre .1) (c .put-sets .ensures refl), λ rows f key. none-passed _ _ _ (c .before .before .pre .1) (c .put-sets .ensures refl))
 
 loop-again : tie.Need-loop-again Inv-loop μ-loop
 loop-again c =
@@ -66,7 +66,7 @@ returns c =
     let s = left .before .before .before .before in
     let is = c .index .ensures in (
       λ rows f key count are. gives-as (l .graph) (c .index .last .0) (l .initials) (l .finals) (is .graph-stays)
-          (passed-all rows f (s .args .sets .now) (s .args .set-count) count are (s .pre .1) _
+          (passed-all rows f (s .args .sets .now) (s .args .set-count) count are (s .pre .1) _ (l .inv .1)
           (rw (take-all (l .i) rows (omega (arith, key .count, left .loop-test .left))) at (l .inv .2 rows f key))),
       is .indexed (l .inv .1),
     )
