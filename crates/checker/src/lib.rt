@@ -30,8 +30,7 @@ fn finish(
         (now (sheet .entry)) (now (sheet .exit)) r ⌝ }
 {
     let a = automaton::of_keys(high, low, row_count, sets, set_count);
-    let graph = a.graph;
-    let done = rounds::settle(&graph, a.initials, a.finals, set_count);
+    let done = rounds::settle(&a.graph, a.initials, a.finals, set_count);
     let phase = done.phase;
     match phase {
         Phase::Open => Answer::Refused(9, 0),
@@ -44,7 +43,7 @@ fn finish(
             row_count,
             sets,
             set_count,
-            &graph,
+            &a.graph,
             a.initials,
             a.finals,
             done,

@@ -24,7 +24,7 @@ returns-2 c rows t f =
 returns-3 : tie.Need-returns-3
 returns-3 c rows t f =
     let p = c .before .before in
-    let v = p .before .before .before .before in
+    let v = p .before .before .before .before .before in
     let d = v .before .before in
     let a = d .before .before .before .before .before .args in
     is-settled rows t (a .high .now) (a .low .now) (a .sets .now) (a .row-count) (a .set-count) f (d .before .before .before .of-keys .result) (d .before .before .before .of-keys .ensures .0) (d .settle .result) (d .settle .ensures)
