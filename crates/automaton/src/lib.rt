@@ -82,7 +82,8 @@ pub fn of_keys(
     set_count: usize,
 ) -> Automaton
     requires { ⌜ («row_count» ≤ 256) × («set_count» ≤ 64) ⌝ }
-    ensures gives { λ r. ⌜ GivesKeyed (now (high .entry)) (now (low .entry)) «row_count» (now (sets .entry)) «set_count» r ⌝ }
+    ensures gives { λ r. ⌜ GivesKeyed (now (high .entry)) (now (low .entry)) «row_count»
+        (now (sets .entry)) «set_count» r ⌝ }
     ensures indexed { λ r. ⌜ Indexed (r .graph) ⌝ }
 {
     let mut graph = [0u64; MASKS];

@@ -28,7 +28,7 @@ pub record TurnedGraph (g back : Graph) : Type 0 where
   pub lefts-are : (i : ℕ) → getD (back .lefts) i 0 ≡ getD (g .rights) i 0
   pub rights-are : (i : ℕ) → getD (back .rights) i 0 ≡ getD (g .lefts) i 0
 
--- its other three parts: for each state the places of the sets that have it, of those with a row P → r to it, of those with a row r → P from it
+-- the other three parts of the array: for each state r the places of the sets that have it, of those with row P → r, of those with row r → P
 pub record Indexed (l : List ℕ) : Type 0 where
   pub by-sets : Turned (graph-of l .sets) (part l 256)
   pub by-lefts : Turned (graph-of l .lefts) (part l 320)
