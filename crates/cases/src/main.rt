@@ -1,5 +1,6 @@
 // Runs the checker and the function of the library on stored batches, and compares each sheet with the stored one, byte by byte.
 // Its arguments are pairs of file names: a batch, and the sheet that it must give.
+use machine::LONGEST_SHEET;
 use program_output::first;
 use program_output::same;
 use program_output::say;
@@ -42,7 +43,7 @@ fn say_same(is_same: bool) {
 
 // Says whether the function of the library writes the text for the batch, or what it refuses.
 fn say_library(batch: &[u8], text: &[u8]) {
-    let mut out = [0u8; 6400];
+    let mut out = [0u8; LONGEST_SHEET];
     let mut place = 0u64;
     let code = ffi::gozhmerik_sheet(batch, &mut out, &mut place);
     if code < 4294967296 {

@@ -1,4 +1,5 @@
 // A line of a session, parsed: which call it asks for, and with what; and bytes in hex, for the answers.
+use machine::LONGEST_SHEET;
 ghost use mathlib.Core.Path.{_≡_};
 ghost use mathlib.Core.Bool.{true};
 ghost use Prim.Native.Nat.{_+_, _/_, _%_, _<_, _≤_};
@@ -143,7 +144,7 @@ fn with_batch(call: Change, text: &[u8], batch: &mut [u8]) -> Command
 fn at_most(n: usize) -> usize
     ensures { λ r. ⌜ r ≡ at-most n ⌝ }
 {
-    if 6400 < n { 6400 } else { n }
+    if LONGEST_SHEET < n { LONGEST_SHEET } else { n }
 }
 
 // The number of decimal digits, at most 6,400.
@@ -245,8 +246,8 @@ fn alone(place: usize) -> Command
     match place {
         0 => Command::Changes(Change::Load, 0),
         1 => Command::Changes(Change::Withdraw, 0),
-        2 => Command::Reports(Report::Print, 6400),
-        3 => Command::Reports(Report::Save, 6400),
+        2 => Command::Reports(Report::Print, LONGEST_SHEET),
+        3 => Command::Reports(Report::Save, LONGEST_SHEET),
         4 => Command::Moves(Move::Close),
         5 => Command::Moves(Move::Round),
         6 => Command::Moves(Move::Reopen),

@@ -7,6 +7,7 @@ use commands::Command;
 use commands::Move;
 use commands::Report;
 use machine::Answer;
+use machine::LONGEST_SHEET;
 use program_output::first;
 use program_output::say;
 use program_output::say_number;
@@ -35,9 +36,13 @@ fn report(session: Session, call: Report, buffer: &mut [u8]) -> Reply {
     }
 }
 
-// No sheet and no save is longer than 6,400 bytes.
+// No sheet and no save is longer.
 fn at_most(n: usize) -> isize {
-    if n < 6400 { n as isize } else { 6400 }
+    if n < LONGEST_SHEET {
+        n as isize
+    } else {
+        LONGEST_SHEET as isize
+    }
 }
 
 // Lends the first `n` bytes of the buffer.
@@ -88,7 +93,7 @@ fn end(before: Session, reply: Reply, buffer: &[u8], checks: bool) {
 
 // Runs a call, and writes its answer.
 fn run_call(session: Session, command: Command, batch: &[u8], checks: bool) -> Session {
-    let mut buffer = [170u8; 6400];
+    let mut buffer = [170u8; LONGEST_SHEET];
     let reply = act(session, command, batch, &mut buffer);
     let after = reply.session;
     let phase = after.phase;

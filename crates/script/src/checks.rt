@@ -1,5 +1,6 @@
 // Is all as it was after a call? Of records a digest of all fields is compared, of buffers every byte.
 use machine::Answer;
+use machine::LONGEST_SHEET;
 use machine::MOST_ROWS;
 use machine::MOST_SETS;
 use machine::Phase;
@@ -66,7 +67,7 @@ fn phase_number(phase: Phase) -> u64 {
 
 // The digest of the rows: save shows every place, those too that are not used.
 fn rows_digest(session: Session) -> u64 {
-    let mut buffer = [0u8; 6400];
+    let mut buffer = [0u8; LONGEST_SHEET];
     let whole = Session {
         row_count: MOST_ROWS,
         set_count: 0,
@@ -97,7 +98,7 @@ fn digest(session: Session) -> u64 {
 
 // Are the bytes as they were lent?
 fn is_untouched(bytes: &[u8]) -> bool {
-    let lent = [170u8; 6400];
+    let lent = [170u8; LONGEST_SHEET];
     same(bytes, first(&lent, bytes.len()))
 }
 

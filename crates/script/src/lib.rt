@@ -4,12 +4,13 @@ mod calls;
 mod checks;
 mod input;
 
+use machine::LONGEST_BATCH;
 use session::Session;
 
 // Runs the lines of standard input on a fresh session. Where it checks, comments are written out, and the answer to a call says whether
 // the session and the buffer are as they were.
 pub fn run(checks: bool) {
-    let mut read = [0u8; 65536];
+    let mut read = [0u8; LONGEST_BATCH];
     // A batch of 65,536 bytes in hex and the word before it have 131,081 bytes at most.
     let mut line = [0u8; 140000];
     input::run(Session::fresh(), &mut read, &mut line, checks);
