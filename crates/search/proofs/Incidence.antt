@@ -10,13 +10,13 @@ use lib.ListN.{length, getD, set, length-set}
 use lib.Seq.{getD-set-same, getD-set-other}
 use borrow.Author.Count.{below-more}
 use native.Mathlib.Omega.{arith}
-use Rattle.masks.specs.Graph.{Targets, Turned}
+use Rattle.masks.specs.Graph.{Target, Targets, Turned}
 use Rattle.masks.specs.Mask.{member, _∈_}
 use Rattle.masks.proofs.Member.{in-none, lt-or-le, member-lt, union-left, union-right, union-cases, intersection-left, intersection-right, intersection-both}
 use Rattle.masks.proofs.Turning.{Sources, sources-none, sources-more, sources-some}
 use Rattle.search.specs.declared.Claims.{Claims}
 use Rattle.search.specs.Graph.{part, graph-of, TurnedGraph, Indexed, Fills, PlaceAdded, PartIndexed, Unindexed, Indexes}
-use Rattle.search.specs.Hops.{Claimed, Onward}
+use Rattle.search.specs.Hops.{BackOrMix, Touched}
 use Rattle.search.proofs.Parts.{at-part, past-part, letters-at, part-length, part-stays, graph-stays}
 
 -- ---- masks written over a part, one after another
@@ -196,47 +196,44 @@ module _ (l : List ℕ) (m : ℕ) where
       place : (k s : ℕ) → s ∈ getD (part l from) k 0 → k < 64
       place k s h = ⊎-elim (λ g. g) (λ g. absurd (in-none s (subst (λ (x : ℕ). s ∈ x) (past-part l from k g) h))) (lt-or-le k 64)
 
-  module _ (is : Indexed l) (force : Claims) (entered left : ℕ) (is-entered : Targets (part l 256) m entered) (is-left : Targets (part l 384) m left)
-      (ω mix back : ℕ) (is-ω : (t : ℕ) → member t ω ≡ (member t entered && member t (force .loops)))
-      (is-mix : (t : ℕ) → member t mix ≡ (member t left && member t (force .mixes)))
-      (is-back : (t : ℕ) → member t back ≡ (member t left && member t (force .loops)))
-      (both over under r : ℕ) (is-both : (t : ℕ) → member t both ≡ (member t ω || member t mix)) (is-over : Targets (part l 128) both over)
-      (is-under : Targets (part l 64) back under) (is-r : (t : ℕ) → member t r ≡ (member t over || member t under)) where
-    enters : (i : ℕ) → (i ∈ entered) ↔ ((s : ℕ) × (s ∈ m) × (s ∈ getD (part l 64) i 0))
+  module _ (is : Indexed l) where
+    pub enters : (entered : ℕ) → Targets (part l 256) m entered → (i : ℕ) → (i ∈ entered) ↔ ((s : ℕ) × (s ∈ m) × (s ∈ getD (graph-of l .sets) i 0))
     unfolding graph-of
-    enters = touched 64 256 entered (is .by-sets) is-entered
+    enters entered is-entered = touched 64 256 entered (is .by-sets) is-entered
 
-    leaves : (i : ℕ) → (i ∈ left) ↔ ((s : ℕ) × (s ∈ m) × (s ∈ getD (part l 192) i 0))
-    unfolding graph-of
-    leaves = touched 192 384 left (is .by-rights) is-left
+    module _ (force : Claims) (ω left : ℕ) (is-left : Targets (part l 384) m left)
+        (mix back : ℕ) (is-mix : (t : ℕ) → member t mix ≡ (member t left && member t (force .mixes)))
+        (is-back : (t : ℕ) → member t back ≡ (member t left && member t (force .loops)))
+        (both over under r : ℕ) (is-both : (t : ℕ) → member t both ≡ (member t ω || member t mix)) (is-over : Targets (part l 128) both over)
+        (is-under : Targets (part l 64) back under) (is-r : (t : ℕ) → member t r ≡ (member t over || member t under)) where
+      leaves : (i : ℕ) → (i ∈ left) ↔ ((s : ℕ) × (s ∈ m) × (s ∈ getD (part l 192) i 0))
+      unfolding graph-of
+      leaves = touched 192 384 left (is .by-rights) is-left
 
-    pub claims-lead : Onward (Claimed (graph-of l) force) m r
-    unfolding graph-of
-    claims-lead t = (λ h. ⊎-elim to-left to-set (union-cases over under r is-r t h), from)
-      where
-        to-left : t ∈ over → (s : ℕ) × (s ∈ m) × Claimed (graph-of l) force s t
-        to-left h = let x = is-over .sound t h in let i = x .source in ⊎-elim
-            (λ k. let y = enters i .0 (intersection-left entered (force .loops) ω is-ω i k) in
-            (y .0, y .1, inl (inl (i, intersection-right entered (force .loops) ω is-ω i k, y .2, x .edge))))
-            (λ k. let y = leaves i .0 (intersection-left left (force .mixes) mix is-mix i k) in
-            (y .0, y .1, inr (i, intersection-right left (force .mixes) mix is-mix i k, y .2, x .edge)))
-            (union-cases ω mix both is-both i (x .is))
+      pub claims-lead : Touched (graph-of l) force ω m r
+      unfolding graph-of
+      claims-lead t = ((λ h. ⊎-elim to-left to-set (union-cases over under r is-r t h)), ⊎-elim (λ x. by-left (x .source) (union-left ω mix both is-both (x .source) (x .is)) (x .edge)) from)
+        where
+          to-left : t ∈ over → Target (part l 128) ω t ⊎ ((s : ℕ) × (s ∈ m) × BackOrMix (graph-of l) force s t)
+          to-left h = let x = is-over .sound t h in let i = x .source in ⊎-elim
+              (λ k. inl (record { source = i; is = k; edge = x .edge }))
+              (λ k. let y = leaves i .0 (intersection-left left (force .mixes) mix is-mix i k) in
+              inr (y .0, y .1, inr (i, intersection-right left (force .mixes) mix is-mix i k, y .2, x .edge)))
+              (union-cases ω mix both is-both i (x .is))
 
-        to-set : t ∈ under → (s : ℕ) × (s ∈ m) × Claimed (graph-of l) force s t
-        to-set h = let x = is-under .sound t h in let i = x .source in
-            let y = leaves i .0 (intersection-left left (force .loops) back is-back i (x .is)) in
-            (y .0, y .1, inl (inr (i, intersection-right left (force .loops) back is-back i (x .is), y .2, x .edge)))
+          to-set : t ∈ under → Target (part l 128) ω t ⊎ ((s : ℕ) × (s ∈ m) × BackOrMix (graph-of l) force s t)
+          to-set h = let x = is-under .sound t h in let i = x .source in
+              let y = leaves i .0 (intersection-left left (force .loops) back is-back i (x .is)) in
+              inr (y .0, y .1, inl (i, intersection-right left (force .loops) back is-back i (x .is), y .2, x .edge))
 
-        by-left : (i : ℕ) → i ∈ both → t ∈ getD (part l 128) i 0 → t ∈ r
-        by-left i k e = union-left over under r is-r t (is-over .complete t (record { source = i; is = k; edge = e }))
+          by-left : (i : ℕ) → i ∈ both → t ∈ getD (part l 128) i 0 → t ∈ r
+          by-left i k e = union-left over under r is-r t (is-over .complete t (record { source = i; is = k; edge = e }))
 
-        from : (p : (s : ℕ) × (s ∈ m) × Claimed (graph-of l) force s t) → t ∈ r
-        from (s, h, e) = ⊎-elim
-            (⊎-elim
-            (λ p. by-left (p .0) (union-left ω mix both is-both (p .0) (intersection-both entered (force .loops) ω is-ω (p .0) (enters (p .0) .1 (s, h, p .2)) (p .1))) (p .3))
-            (λ p. union-right over under r is-r t (is-under .complete t (record {
-              source = p .0;
-              is = intersection-both left (force .loops) back is-back (p .0) (leaves (p .0) .1 (s, h, p .2)) (p .1);
-              edge = p .3;
-            }))))
-            (λ p. by-left (p .0) (union-right ω mix both is-both (p .0) (intersection-both left (force .mixes) mix is-mix (p .0) (leaves (p .0) .1 (s, h, p .2)) (p .1))) (p .3)) e
+          from : (p : (s : ℕ) × (s ∈ m) × BackOrMix (graph-of l) force s t) → t ∈ r
+          from (s, h, e) = ⊎-elim
+              (λ p. union-right over under r is-r t (is-under .complete t (record {
+                source = p .0;
+                is = intersection-both left (force .loops) back is-back (p .0) (leaves (p .0) .1 (s, h, p .2)) (p .1);
+                edge = p .3;
+              })))
+              (λ p. by-left (p .0) (union-right ω mix both is-both (p .0) (intersection-both left (force .mixes) mix is-mix (p .0) (leaves (p .0) .1 (s, h, p .2)) (p .1))) (p .3)) e

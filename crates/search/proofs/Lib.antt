@@ -8,6 +8,7 @@ pub mod Joining
 pub mod Walks
 pub mod Saying
 pub mod Passing
+pub mod Adding
 pub mod Accepting
 pub mod Reaching
 pub mod Filtering

@@ -2,14 +2,14 @@
 -- (`passes-onward`).
 use Prim.Native.Nat.{ℕ, zero, suc, _+_, _^_, _<_}
 use mathlib.Core.Path.{_≡_, refl, subst, sym}
-use mathlib.Core.Bool.{not, _&&_, _||_}
+use mathlib.Core.Bool.{_||_}
 use mathlib.Core.Logic.{_⊎_, inl, inr, ⊎-elim}
 use native.Mathlib.Nat.{zero-lt-suc}
 use native.Mathlib.Omega.{arith}
 use lib.Count.{ones, trailingZeros}
 use Rattle.masks.specs.Mask.{member, _∈_, _⊆_}
 use Rattle.masks.proofs.Count.{ones-subset, ones-grows, lowest-is}
-use Rattle.masks.proofs.Member.{true-or-false, not-both, in-none, union-left, union-right, union-cases, difference-left, difference-not, difference-cases}
+use Rattle.masks.proofs.Member.{true-or-false, not-both, in-none, union-left, union-right, union-cases}
 use Rattle.search.specs.declared.Claims.{Claims}
 use Rattle.search.specs.Graph.{Graph}
 use Rattle.search.specs.Hops.{Hop, Chain, one, more, Onward}
@@ -18,14 +18,6 @@ use Rattle.search.proofs.Chains.{chain-in, chain-end}
 use Rattle.search.proofs.Saying.{chain-iff}
 
 -- ---- one pass, by the states new in the last one
-
--- the targets but for the states found
-pub new-targets : {E : ℕ → ℕ → Type 0} (found last tg next : ℕ) → Onward E last tg → ((t : ℕ) → member t next ≡ (member t tg && not (member t found)))
-    → NewTargets E found last next
-new-targets found last tg next is-tg is t = (
-  (λ h. (is-tg t .0 (difference-left tg found next is t h), difference-not tg found next is t h)),
-  λ x. ⊎-elim (λ h. absurd (x .1 h)) (λ h. h) (difference-cases tg found next is t (is-tg t .1 (x .0))),
-)
 
 -- where every step leads to a state found
 pub new-none : {E : ℕ → ℕ → Type 0} (found last : ℕ) → ((a b : ℕ) → E a b → b ∈ found) → NewTargets E found last 0

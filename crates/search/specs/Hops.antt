@@ -5,6 +5,7 @@ use mathlib.Core.Bool.{_||_}
 use mathlib.Core.Logic.{_⊎_, _↔_, _≢_}
 use mathlib.Core.List.{List}
 use lib.ListN.{getD}
+use Rattle.masks.specs.Graph.{Target}
 use Rattle.masks.specs.Mask.{member, _∈_, _⊆_}
 use Rattle.search.specs.declared.Claims.{Claims}
 use Rattle.search.specs.Graph.{Graph}
@@ -28,6 +29,14 @@ Mixing g places a b = ByPlaces (g .rights) (g .lefts) places a b
 -- a step from a to b by a claim in force
 abbrev pub Claimed : Graph → Claims → ℕ → ℕ → Type 0
 Claimed g force a b = Looping g (force .loops) a b ⊎ Mixing g (force .mixes) a b
+
+-- a back or a mix step from a to b by a claim in force
+abbrev pub BackOrMix : Graph → Claims → ℕ → ℕ → Type 0
+BackOrMix g force a b = ByPlaces (g .rights) (g .sets) (force .loops) a b ⊎ Mixing g (force .mixes) a b
+
+-- r has the states that the left limits of the places omegas lead to, and those to which a back or a mix step leads from one of the states m
+abbrev pub Touched : Graph → Claims → ℕ → ℕ → ℕ → Type 0
+Touched g force omegas m r = (t : ℕ) → (t ∈ r) ↔ (Target (g .lefts) omegas t ⊎ ((s : ℕ) × (s ∈ m) × BackOrMix g force s t))
 
 -- a step from a to b, both in p: by a letter, or by a claim in force
 pub record Hop (g : Graph) (force : Claims) (p a b : ℕ) : Type 0 where

@@ -4,8 +4,9 @@ use mathlib.Core.Path.{_≡_}
 use mathlib.Core.Logic.{_⊎_, _↔_}
 use mathlib.Core.List.{List}
 use lib.Count.{ones}
+use lib.ListN.{getD}
 use Rattle.lists.specs.Tests.{_among_}
-use Rattle.masks.specs.Mask.{_∈_}
+use Rattle.masks.specs.Mask.{_∈_, _⊆_}
 use Rattle.rows.specs.declared.Row.{Row}
 use Rattle.orderings.specs.Steps.{Claim}
 use Rattle.orderings.specs.Claims.{Through}
@@ -59,6 +60,18 @@ pub record Followed (E : ℕ → ℕ → Type 0) (m found last : ℕ) : Type 0 w
 -- next are the targets of the states last that are not found yet
 abbrev pub NewTargets : (ℕ → ℕ → Type 0) → ℕ → ℕ → ℕ → Type 0
 NewTargets E found last next = (t : ℕ) → (t ∈ next) ↔ (((s : ℕ) × (s ∈ last) × E s t) × ¬ (t ∈ found))
+
+-- of the loops in force, the left limits of all but omegas lead, inside p, to states found
+pub record Unentered (g : Graph) (loops p omegas found : ℕ) : Type 0 where
+  pub in-force : omegas ⊆ loops
+  pub others : (i t : ℕ) → i ∈ loops → t ∈ getD (g .lefts) i 0 → t ∈ p → (i ∈ omegas) ⊎ (t ∈ found)
+
+-- a pass adds next, and of the loops omegas it leaves rest
+pub record Adding (g : Graph) (force : Claims) (p omegas found last next rest : ℕ) : Type 0 where
+  pub fits : next < 2 ^ 64
+  pub targets : NewTargets (Hop g force p) found last next
+  pub fewer : rest ⊆ omegas
+  pub entered : (i t : ℕ) → i ∈ omegas → t ∈ getD (g .lefts) i 0 → t ∈ p → (i ∈ rest) ⊎ ((t ∈ found) ⊎ (t ∈ next))
 
 -- the search that goes on where found is found: from whatever states m, if steps are followed but for those from the states last
 pub record Explores (E : ℕ → ℕ → Type 0) (found last states count : ℕ) : Type 0 where

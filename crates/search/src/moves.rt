@@ -1,7 +1,6 @@
 // One step: where the letters and the claims in force lead to from a set of states.
 use crate::Claims;
 use crate::graphs::BY_RIGHTS;
-use crate::graphs::BY_SETS;
 use crate::graphs::LEFTS;
 use crate::graphs::Masks;
 use crate::graphs::SETS;
@@ -23,7 +22,7 @@ ghost use Prim.Native.Nat.{ℕ, _<_};
 ghost use Rattle.lists.specs.Tests.{Decides};
 ghost use Rattle.masks.specs.Mask.{_∈_};
 ghost use Rattle.search.specs.Graph.{graph-of, Indexed};
-ghost use Rattle.search.specs.Hops.{Lettered, Looping, Mixing, Claimed, Hop, Onward, Inner, InnerClaims};
+ghost use Rattle.search.specs.Hops.{Lettered, Looping, Mixing, Claimed, Touched, Hop, Onward, Inner, InnerClaims};
 
 // Do `a` and `b` have a state in common?
 pub(crate) fn meets(a: Set, b: Set) -> bool
@@ -119,16 +118,15 @@ pub(crate) fn claimed(graph: &Masks, force: Claims, m: Set) -> Set
     union(omega_or_back, mixing(graph, force.mixes, m))
 }
 
-// The same where the states are few and the claims many: only the sets that the states touch are looked at.
-pub(crate) fn touched(graph: &Masks, force: Claims, m: Set) -> Set
+// The same where the states are few and the claims many: only the sets that the states touch are looked at. The omega steps are those by
+// the places `omegas`, which the caller knows the states to enter.
+pub(crate) fn touched(graph: &Masks, force: Claims, omegas: Places, m: Set) -> Set
     requires { ⌜ Indexed (now graph) ⌝ }
-    ensures { λ r. ⌜ Onward (Claimed (graph-of (now (graph .entry))) force) m r ⌝ }
+    ensures { λ r. ⌜ Touched (graph-of (now (graph .entry))) force omegas m r ⌝ }
 {
-    let entered = targets_in(graph, BY_SETS, m);
     let left = targets_in(graph, BY_RIGHTS, m);
-    let omega = intersection(entered, force.loops);
     let mix = intersection(left, force.mixes);
-    let forth = union(omega, mix);
+    let forth = union(omegas, mix);
     let back = intersection(left, force.loops);
     union(
         targets_in(graph, LEFTS, forth),
@@ -143,16 +141,5 @@ pub fn targets(graph: &Masks, force: Claims, p: Set, m: Set) -> Set
     let from = intersection(m, p);
     let letter = lettered(graph, from);
     let claim = claimed(graph, force, from);
-    intersection(union(letter, claim), p)
-}
-
-// The same where the states are few and the claims many.
-pub(crate) fn near_targets(graph: &Masks, force: Claims, p: Set, m: Set) -> Set
-    requires { ⌜ Indexed (now graph) ⌝ }
-    ensures { λ r. ⌜ Onward (Hop (graph-of (now (graph .entry))) force p) m r ⌝ }
-{
-    let from = intersection(m, p);
-    let letter = lettered(graph, from);
-    let claim = touched(graph, force, from);
     intersection(union(letter, claim), p)
 }

@@ -1,16 +1,21 @@
 // Walks: the states that they lead to, and whether one leads from an initial to a final state.
 use crate::Claims;
+use crate::graphs::BY_SETS;
 use crate::graphs::Masks;
+use crate::graphs::targets_in;
 use crate::moves::claimed;
+use crate::moves::lettered;
 use crate::moves::meets;
-use crate::moves::near_targets;
+use crate::moves::touched;
+use masks::Places;
 use masks::Set;
 use masks::difference;
+use masks::intersection;
 use masks::union;
 ghost use mathlib.Core.Path.{_≡_};
 ghost use Rattle.search.specs.Graph.{graph-of, Indexed};
 ghost use Rattle.search.specs.Hops.{Hop, Chain, Onward, all-mask, Reached};
-ghost use Rattle.search.specs.Passes.{NewTargets, Explores, FoundByPasses};
+ghost use Rattle.search.specs.Passes.{Unentered, Adding, Explores, FoundByPasses};
 ghost use Rattle.search.specs.Promises.{AcceptsRight, AcceptsSeen, SeenBefore};
 
 // What a search found, and the passes that it took, with the last one, which added nothing.
@@ -19,16 +24,31 @@ pub struct Found {
     pub count: u8,
 }
 
-// The states that a pass adds: the targets inside `p` of the states `last`, but for those found already.
-fn added(graph: &Masks, force: Claims, p: Set, found: Set, last: Set) -> Set
-    requires { ⌜ Indexed (now graph) ⌝ }
-    ensures { λ r. ⌜ NewTargets (Hop (graph-of (now (graph .entry))) force p) found last r ⌝ }
+// The states that a pass adds, and the loops in force that no pass has entered yet.
+pub struct Gained {
+    pub states: Set,
+    pub omegas: Places,
+}
+
+// What a pass adds: the targets inside `p` of the states `last`, but for those found already. The left limits of a loop lead on in the pass
+// that enters it first: to enter it again leads to states found.
+fn added(graph: &Masks, force: Claims, omegas: Places, p: Set, found: Set, last: Set) -> Gained
+    requires { ⌜ Indexed (now graph) × Unentered (graph-of (now graph)) (force .loops) p omegas found ⌝ }
+    ensures { λ r. ⌜ Adding (graph-of (now (graph .entry))) force p omegas found last (r .states) (r .omegas) ⌝ }
 {
     // Every step inside `p` leads to a state of `p`: there is nothing to add, and nothing to look through.
     if found == p {
-        return 0;
+        return Gained { states: 0, omegas };
     }
-    difference(near_targets(graph, force, p, last), found)
+    let from = intersection(last, p);
+    let entered = intersection(targets_in(graph, BY_SETS, from), omegas);
+    let claim = touched(graph, force, entered, from);
+    let near = union(lettered(graph, from), claim);
+    let next = intersection(near, p);
+    Gained {
+        states: difference(next, found),
+        omegas: difference(omegas, entered),
+    }
 }
 
 // Passes inside `p` from the states `found`, until one adds nothing. A pass follows the steps of the states that the last one added: the
@@ -39,13 +59,16 @@ fn explore(graph: &Masks, force: Claims, p: Set, found: Set, last: Set) -> Found
 {
     let mut states = found;
     let mut front = last;
+    let mut omegas = force.loops;
     let mut count: u8 = 0;
     loop {
-        let next = added(graph, force, p, states, front);
+        let more = added(graph, force, omegas, p, states, front);
+        let next = more.states;
         count = count + 1;
         if next == 0 {
             return Found { states, count };
         }
+        omegas = more.omegas;
         states = union(states, next);
         front = next;
     }

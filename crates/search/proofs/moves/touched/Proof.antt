@@ -11,22 +11,18 @@ returns c =
     let back = over .before .before in
     let both = back .before in
     let mix = both .before in
-    let omega = mix .before in
-    let left = omega .before in
-    let entered = left .before .before in
-    let s = entered .before .before in
+    let left = mix .before in
+    let s = left .before .before in
     let a = s .args in
-    claims-lead (a .graph .now) (a .m) (s .pre) (a .force) (entered .targets-in .result) (left .targets-in2 .result) (entered .targets-in .ensures) (left .targets-in2 .ensures)
-    (omega .intersection .result) (mix .intersection2 .result) (back .intersection3 .result) (omega .intersection .ensures) (mix .intersection2 .ensures) (back .intersection3 .ensures)
-    (both .union .result) (over .targets-in3 .result) (under .targets-in4 .result) (c .union2 .result) (both .union .ensures) (over .targets-in3 .ensures)
-    (under .targets-in4 .ensures) (c .union2 .ensures)
+    claims-lead (a .graph .now) (a .m) (s .pre) (a .force) (a .omegas) (left .targets-in .result) (left .targets-in .ensures)
+    (mix .intersection .result) (back .intersection2 .result) (mix .intersection .ensures) (back .intersection2 .ensures)
+    (both .union .result) (over .targets-in2 .result) (under .targets-in3 .result) (c .union2 .result) (both .union .ensures) (over .targets-in2 .ensures)
+    (under .targets-in3 .ensures) (c .union2 .ensures)
 
 pub touched-spec : {M : Type 1} → statement M
 touched-spec =
     tie.close
     (tie.spec
-    (λ c κs. search needs)
-    (λ c κs. search needs)
     (λ c κs. search needs)
     (λ c κs. search needs)
     (λ c κs. search needs)

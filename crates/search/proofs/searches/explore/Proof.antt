@@ -5,19 +5,25 @@ use lib.Count.{ones, ones-le}
 use borrow.Author.Needs.{needs}
 use Rattle.search.specs.Graph.{graph-of}
 use Rattle.search.specs.Hops.{Hop}
+use Rattle.search.specs.Passes.{Unentered}
+use Rattle.search.proofs.Adding.{unentered-start, unentered-more}
 use Rattle.search.proofs.Passing.{Going, going-start, going-more, going-end, pass-grows}
 use Rattle.search.proofs.searches.explore.Statement.{statement}
 use Rattle.search.proofs.searches.explore.Tie as tie
 
 abbrev Inv-loop : tie.InvT-loop
-Inv-loop graph force p found last states₀ front₀ count₀ states front count =
+Inv-loop graph force p found last states₀ front₀ omegas₀ count₀ states front omegas count =
     (states < 2 ^ 64) × (count ≤ ones states) × Going (Hop (graph-of graph) force p) found last states front count
+    × Unentered (graph-of graph) (force .loops) p omegas states
 
 abbrev μ-loop : tie.MeasureT-loop
-μ-loop graph force p found last states₀ front₀ count₀ states front count = 64 - ones states
+μ-loop graph force p found last states₀ front₀ omegas₀ count₀ states front omegas count = 64 - ones states
 
 loop-holds : tie.Need-loop-holds Inv-loop μ-loop
-loop-holds c = (c .fits .found .fits, zero-le, going-start _ (c .args .found) (c .args .last))
+loop-holds c = (c .fits .found .fits, zero-le, going-start _ (c .args .found) (c .args .last), unentered-start (graph-of (c .args .graph .now)) (c .args .force) (c .args .p) (c .args .found))
+
+added-requires : tie.Need-added-requires Inv-loop μ-loop
+added-requires c κs = (c .before .pre, c .loop .inv .3)
 
 add-count : tie.Need-add-count Inv-loop μ-loop
 add-count c = let l = c .before .loop in omega (arith, l .inv .1, ones-le 64 (l .states) (l .inv .0))
@@ -29,7 +35,7 @@ returns c =
     let a = n .before .before .args in record {
       fits = l .inv .0;
       few = omega (arith, l .inv .1);
-      made = going-end (a .found) (a .last) (l .states) (l .front) (n .added .result) (l .count) (n .added .ensures) (l .inv .2) (c .if1 .taken);
+      made = going-end (a .found) (a .last) (l .states) (l .front) (n .added .result .states) (l .count) (n .added .ensures .targets) (l .inv .2) (c .if1 .taken);
     }
 
 -- a pass that is not the last
@@ -37,7 +43,7 @@ grows : (c : tie.After-union Inv-loop μ-loop) → ones (c .before .before .befo
 grows c =
     let n = c .before .before in
     let l = n .before .loop in
-    pass-grows (l .states) (l .front) (n .added .result) (n .added .ensures) (c .union .result) (c .union .ensures) (n .added .ok) (c .before .if1 .left) (l .inv .0) (c .union .ok)
+    pass-grows (l .states) (l .front) (n .added .result .states) (n .added .ensures .targets) (c .union .result) (c .union .ensures) (n .added .ensures .fits) (c .before .if1 .left) (l .inv .0) (c .union .ok)
 
 loop-less : tie.Need-loop-less Inv-loop μ-loop
 loop-less c = omega (arith, ones-le 64 (c .union .result) (c .union .ok), grows c)
@@ -49,8 +55,10 @@ loop-again c =
     let a = n .before .before .args in (
       c .union .ok,
       omega (arith, l .inv .1, grows c),
-      going-more (a .found) (a .last) (l .states) (l .front) (n .added .result) (l .count) (n .added .ensures) (l .inv .2)
-          (c .union .result) (c .union .ensures) (n .added .ok) (c .before .if1 .left),
+      going-more (a .found) (a .last) (l .states) (l .front) (n .added .result .states) (l .count) (n .added .ensures .targets) (l .inv .2)
+          (c .union .result) (c .union .ensures) (n .added .ensures .fits) (c .before .if1 .left),
+      unentered-more (graph-of (a .graph .now)) (a .force) (a .p) (l .omegas) (l .states) (l .front) (n .added .result .states) (n .added .result .omegas) (c .union .result)
+          (l .inv .3) (n .added .ensures) (c .union .ensures),
     )
 
 pub explore-spec : {M : Type 1} → statement M
@@ -60,7 +68,7 @@ explore-spec =
     Inv-loop
     μ-loop
     loop-holds
-    (λ c κs. search needs)
+    added-requires
     add-count
     returns
     (λ c κs. search needs)
