@@ -124,7 +124,7 @@ fn opened(graph: &Masks, force: Claims, set_count: usize) -> Claims
     ensures { λ r. ⌜ OpensBelow (graph-of (now (graph .entry))) force «set_count» «set_count» r ⌝ }
 {
     let mut back = [0u64; MASKS];
-    graphs::turn(graph, &mut back);
+    graphs::turn_indexed(graph, &mut back);
     let to = openings::all_ends(graph, force, set_count);
     let from = openings::all_ends(&back, force, set_count);
     openings::open_next(graph, &back, force, &to, &from, set_count)
@@ -167,7 +167,7 @@ pub fn settle(graph: &Masks, initials: Set, finals: Set, set_count: usize) -> Pr
     ensures { λ r. ⌜ Settles (graph-of (now (graph .entry))) initials finals «set_count» r ⌝ }
 {
     let mut back = [0u64; MASKS];
-    graphs::turn(graph, &mut back);
+    graphs::turn_indexed(graph, &mut back);
     let none = Claims { loops: 0, mixes: 0 };
     let mut force = none;
     let mut new = none;

@@ -1,5 +1,5 @@
 -- Which sets a state is in, and which have a limit of it: written part by part (`filling-more`, `indexing-more`, `indexes`), in
--- the graph turned round too (`turned-graph`, `turned-index`), and the steps by claims that they give (`claims-lead`).
+-- the graph turned round too (`turns-into`, `turns-indexed`), and the steps by claims that they give (`claims-lead`).
 use Prim.Native.Nat.{ℕ, _+_, _≤_, _<_}
 use mathlib.Core.Path.{_≡_, refl, ap, sym, subst, _∙_}
 use mathlib.Core.Bool.{_&&_, _||_}
@@ -15,7 +15,7 @@ use Rattle.masks.specs.Mask.{member, _∈_}
 use Rattle.masks.proofs.Member.{in-none, lt-or-le, member-lt, union-left, union-right, union-cases, intersection-left, intersection-right, intersection-both}
 use Rattle.masks.proofs.Turning.{Sources, sources-none, sources-more, sources-some}
 use Rattle.search.specs.declared.Claims.{Claims}
-use Rattle.search.specs.Graph.{part, graph-of, TurnedGraph, Indexed, Fills, PlaceAdded, PartIndexed, Unindexed, Indexes}
+use Rattle.search.specs.Graph.{part, graph-of, TurnedGraph, Indexed, TurnsInto, TurnsIndexed, Fills, PlaceAdded, PartIndexed, Unindexed, Indexes}
 use Rattle.search.specs.Hops.{BackOrMix, Touched}
 use Rattle.search.proofs.Parts.{at-part, past-part, letters-at, part-length, part-stays, graph-stays}
 
@@ -47,82 +47,67 @@ filling-end old base masks new now = record { length-is = now .length-is; filled
 
 -- ---- the graph turned round, its parts written one after another
 
-module _ (l b₀ b₁ b₂ b₃ b₄ b₅ b₆ b₇ letters : List ℕ) (f₁ : Fills b₀ 0 (part letters 0) b₁) (f₂ : Fills b₁ 64 (part l 64) b₂) (f₃ : Fills b₂ 128 (part l 192) b₃)
-    (f₄ : Fills b₃ 192 (part l 128) b₄) (f₅ : Fills b₄ 256 (part l 256) b₅) (f₆ : Fills b₅ 320 (part l 384) b₆) (f₇ : Fills b₆ 384 (part l 320) b₇)
-    (size : length b₀ ≡ 448) where
+-- a part that reads below 64 as a part of another array does reads as it everywhere
+as-part : (l back : List ℕ) (base from : ℕ) → ((j : ℕ) → j < 64 → getD back (base + j) 0 ≡ getD (part l from) j 0) → (i : ℕ) → getD (part back base) i 0 ≡ getD (part l from) i 0
+as-part l back base from f i = ⊎-elim (λ h. at-part back base i h ∙ f i h) (λ h. past-part back base i h ∙ sym (past-part l from i h)) (lt-or-le i 64)
+
+-- the four parts
+module _ (l b₀ b₁ b₂ b₃ b₄ letters : List ℕ) (f₁ : Fills b₀ 0 (part letters 0) b₁) (f₂ : Fills b₁ 64 (part l 64) b₂) (f₃ : Fills b₂ 128 (part l 192) b₃)
+    (f₄ : Fills b₃ 192 (part l 128) b₄) where
   -- what stands below a part stays when it is written, and all that is written later
-  stays₆ : (j : ℕ) → j < 384 → getD b₇ j 0 ≡ getD b₆ j 0
-  stays₆ j h = f₇ .others j (inl h)
+  stays₃ : (j : ℕ) → j < 192 → getD b₄ j 0 ≡ getD b₃ j 0
+  stays₃ j h = f₄ .others j (inl h)
 
-  stays₅ : (j : ℕ) → j < 320 → getD b₇ j 0 ≡ getD b₅ j 0
-  stays₅ j h = stays₆ j (omega arith) ∙ f₆ .others j (inl h)
-
-  stays₄ : (j : ℕ) → j < 256 → getD b₇ j 0 ≡ getD b₄ j 0
-  stays₄ j h = stays₅ j (omega arith) ∙ f₅ .others j (inl h)
-
-  stays₃ : (j : ℕ) → j < 192 → getD b₇ j 0 ≡ getD b₃ j 0
-  stays₃ j h = stays₄ j (omega arith) ∙ f₄ .others j (inl h)
-
-  stays₂ : (j : ℕ) → j < 128 → getD b₇ j 0 ≡ getD b₂ j 0
+  stays₂ : (j : ℕ) → j < 128 → getD b₄ j 0 ≡ getD b₂ j 0
   stays₂ j h = stays₃ j (omega arith) ∙ f₃ .others j (inl h)
 
-  stays₁ : (j : ℕ) → j < 64 → getD b₇ j 0 ≡ getD b₁ j 0
+  stays₁ : (j : ℕ) → j < 64 → getD b₄ j 0 ≡ getD b₁ j 0
   stays₁ j h = stays₂ j (omega arith) ∙ f₂ .others j (inl h)
 
-  size₁ : length b₁ ≡ 448
-  size₁ = f₁ .length-is ∙ size
+  letter : (j : ℕ) → j < 64 → getD (part letters 0) j 0 ≡ getD letters j 0
+  letter j h = let z : 0 + j ≡ j = omega arith in rw z at (at-part letters 0 j h)
 
-  size₂ : length b₂ ≡ 448
-  size₂ = f₂ .length-is ∙ size₁
-
-  size₃ : length b₃ ≡ 448
-  size₃ = f₃ .length-is ∙ size₂
-
-  size₄ : length b₄ ≡ 448
-  size₄ = f₄ .length-is ∙ size₃
-
-  size₅ : length b₅ ≡ 448
-  size₅ = f₅ .length-is ∙ size₄
-
-  size₆ : length b₆ ≡ 448
-  size₆ = f₆ .length-is ∙ size₅
-
-  -- a part that reads as a part of the graph below 64 is that part
-  as-part : (base from : ℕ) → ((j : ℕ) → j < 64 → getD b₇ (base + j) 0 ≡ getD (part l from) j 0) → (i : ℕ) → getD (part b₇ base) i 0 ≡ getD (part l from) i 0
-  as-part base from f i = ⊎-elim (λ h. at-part b₇ base i h ∙ f i h) (λ h. past-part b₇ base i h ∙ sym (past-part l from i h)) (lt-or-le i 64)
-
-  sets-as : (i : ℕ) → getD (part b₇ 64) i 0 ≡ getD (part l 64) i 0
-  sets-as = as-part 64 64 (λ j h. stays₂ (64 + j) (omega arith) ∙ f₂ .filled size₁ j h)
-
-  lefts-as : (i : ℕ) → getD (part b₇ 128) i 0 ≡ getD (part l 192) i 0
-  lefts-as = as-part 128 192 (λ j h. stays₃ (128 + j) (omega arith) ∙ f₃ .filled size₂ j h)
-
-  rights-as : (i : ℕ) → getD (part b₇ 192) i 0 ≡ getD (part l 128) i 0
-  rights-as = as-part 192 128 (λ j h. stays₄ (192 + j) (omega arith) ∙ f₄ .filled size₃ j h)
-
-  pub turned-graph : Turned l letters → TurnedGraph (graph-of l) (graph-of b₇)
+  pub turns-into : Turned l letters → TurnsInto l b₀ b₄
   unfolding graph-of
-  turned-graph is = record {
-    turned = λ i j hi hj. ap (member i) (at-part b₇ 0 j hj ∙ stays₁ (0 + j) (omega arith) ∙ f₁ .filled size j hj ∙ letter j hj) ∙ is i j hi hj ∙ ap (member j) (sym (letters-at l i hi));
-    sets-are = sets-as;
-    lefts-are = lefts-as;
-    rights-are = rights-as;
+  turns-into is = record {
+    length-is = f₄ .length-is ∙ f₃ .length-is ∙ f₂ .length-is ∙ f₁ .length-is;
+    turned = λ size. record {
+      turned = λ i j hi hj. ap (member i) (at-part b₄ 0 j hj ∙ stays₁ (0 + j) (omega arith) ∙ f₁ .filled size j hj ∙ letter j hj) ∙ is i j hi hj ∙ ap (member j) (sym (letters-at l i hi));
+      sets-are = as-part l b₄ 64 64 (λ j h. stays₂ (64 + j) (omega arith) ∙ f₂ .filled (f₁ .length-is ∙ size) j h);
+      lefts-are = as-part l b₄ 128 192 (λ j h. stays₃ (128 + j) (omega arith) ∙ f₃ .filled (f₂ .length-is ∙ f₁ .length-is ∙ size) j h);
+      rights-are = as-part l b₄ 192 128 (f₄ .filled (f₃ .length-is ∙ f₂ .length-is ∙ f₁ .length-is ∙ size));
+    };
+  }
+
+-- lists that read alike are turned alike
+turned-as : (a b c d : List ℕ) → ((i : ℕ) → getD c i 0 ≡ getD a i 0) → ((i : ℕ) → getD d i 0 ≡ getD b i 0) → Turned a b → Turned c d
+turned-as a b c d f g is i j hi hj = ap (member i) (g j) ∙ is i j hi hj ∙ sym (ap (member j) (f i))
+
+-- the other three, after them
+module _ (l b₀ b₁ b₂ b₃ b₄ : List ℕ) (t : TurnsInto l b₀ b₁) (f₂ : Fills b₁ 256 (part l 256) b₂) (f₃ : Fills b₂ 320 (part l 384) b₃) (f₄ : Fills b₃ 384 (part l 320) b₄) where
+  same-graph : graph-of b₄ ≡ graph-of b₁
+  same-graph = graph-stays b₁ b₄ (f₄ .length-is ∙ f₃ .length-is ∙ f₂ .length-is)
+      (λ j h. f₄ .others j (inl (omega arith)) ∙ f₃ .others j (inl (omega arith)) ∙ f₂ .others j (inl h))
+
+  pub turns-indexed : TurnsIndexed l b₀ b₄
+  turns-indexed size is = record {
+    turned = g;
+    indexed = is;
+    back-indexed = record {
+      by-sets = turned-as (graph-of l .sets) (part l 256) (graph-of b₄ .sets) (part b₄ 256) (g .sets-are)
+          (as-part l b₄ 256 256 (λ j h. f₄ .others (256 + j) (inl (omega arith)) ∙ f₃ .others (256 + j) (inl (omega arith)) ∙ f₂ .filled size₁ j h)) (is .by-sets);
+      by-lefts = turned-as (graph-of l .rights) (part l 384) (graph-of b₄ .lefts) (part b₄ 320) (g .lefts-are)
+          (as-part l b₄ 320 384 (λ j h. f₄ .others (320 + j) (inl (omega arith)) ∙ f₃ .filled (f₂ .length-is ∙ size₁) j h)) (is .by-rights);
+      by-rights = turned-as (graph-of l .lefts) (part l 320) (graph-of b₄ .rights) (part b₄ 384) (g .rights-are)
+          (as-part l b₄ 384 320 (f₄ .filled (f₃ .length-is ∙ f₂ .length-is ∙ size₁))) (is .by-lefts);
+    };
   }
     where
-      letter : (j : ℕ) → j < 64 → getD (part letters 0) j 0 ≡ getD letters j 0
-      letter j h = let z : 0 + j ≡ j = omega arith in rw z at (at-part letters 0 j h)
+      g : TurnedGraph (graph-of l) (graph-of b₄)
+      g = subst (TurnedGraph (graph-of l)) (sym same-graph) (t .turned size)
 
-  -- lists that read alike are turned alike
-  turned-as : (a b c d : List ℕ) → ((i : ℕ) → getD c i 0 ≡ getD a i 0) → ((i : ℕ) → getD d i 0 ≡ getD b i 0) → Turned a b → Turned c d
-  turned-as a b c d f g is i j hi hj = ap (member i) (g j) ∙ is i j hi hj ∙ sym (ap (member j) (f i))
-
-  pub turned-index : Indexed l → Indexed b₇
-  unfolding graph-of
-  turned-index is = record {
-    by-sets = turned-as (part l 64) (part l 256) (part b₇ 64) (part b₇ 256) sets-as (as-part 256 256 (λ j h. stays₅ (256 + j) (omega arith) ∙ f₅ .filled size₄ j h)) (is .by-sets);
-    by-lefts = turned-as (part l 192) (part l 384) (part b₇ 128) (part b₇ 320) lefts-as (as-part 320 384 (λ j h. stays₆ (320 + j) (omega arith) ∙ f₆ .filled size₅ j h)) (is .by-rights);
-    by-rights = turned-as (part l 128) (part l 320) (part b₇ 192) (part b₇ 384) rights-as (as-part 384 320 (f₇ .filled size₆)) (is .by-lefts);
-  }
+      size₁ : length b₁ ≡ 448
+      size₁ = t .length-is ∙ size
 
 -- ---- a part turned round into another, place by place
 

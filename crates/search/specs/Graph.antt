@@ -40,10 +40,14 @@ pub record BothWays (l back : List ℕ) : Type 0 where
   pub indexed : Indexed l
   pub back-indexed : Indexed back
 
--- an array of 448 masks becomes the graph turned round
+-- the four parts of an array of 448 masks become the graph turned round
 pub record TurnsInto (l old new : List ℕ) : Type 0 where
+  pub length-is : length new ≡ length old
   pub turned : length old ≡ 448 → TurnedGraph (graph-of l) (graph-of new)
-  pub indexed : length old ≡ 448 → Indexed l → Indexed new
+
+-- the whole array does, where that of the graph has its other parts
+abbrev pub TurnsIndexed : List ℕ → List ℕ → List ℕ → Type 0
+TurnsIndexed l old new = length old ≡ 448 → Indexed l → BothWays l new
 
 -- the masks of one part of an array are those of a list; the other masks stay
 pub record Fills (old : List ℕ) (base : ℕ) (masks new : List ℕ) : Type 0 where

@@ -8,7 +8,7 @@ ghost use mathlib.Core.Path.{_≡_};
 ghost use Prim.Native.Nat.{_+_, _≤_, _<_};
 ghost use lib.ListN.{length, getD};
 ghost use Rattle.masks.specs.Graph.{Targets};
-ghost use Rattle.search.specs.Graph.{part, graph-of, Fills, PlaceAdded, PartIndexed, Indexes, TurnsInto};
+ghost use Rattle.search.specs.Graph.{part, graph-of, Fills, PlaceAdded, PartIndexed, Indexes, TurnsInto, TurnsIndexed};
 
 // Where the parts begin; the letters stand first, a mask for each state, and the others have one for each set.
 pub const SETS: usize = STATES;
@@ -117,7 +117,7 @@ fn copy(back: &mut Masks, base: usize, masks: &[Set], from: usize)
     }
 }
 
-// Writes the graph with every step turned round: lefts are rights, and so are the sets with such a limit.
+// Writes the four parts of the graph with every step turned round: lefts are rights.
 pub fn turn(graph: &Masks, back: &mut Masks)
     ensures { λ _. ⌜ TurnsInto (now (graph .entry)) (now (back .entry)) (now (back .exit)) ⌝ }
 {
@@ -126,6 +126,13 @@ pub fn turn(graph: &Masks, back: &mut Masks)
     copy(back, SETS, graph, SETS);
     copy(back, LEFTS, graph, RIGHTS);
     copy(back, RIGHTS, graph, LEFTS);
+}
+
+// Writes the whole array of the graph turned round. Which sets a state touches is only copied: there a left limit is a right one.
+pub fn turn_indexed(graph: &Masks, back: &mut Masks)
+    ensures { λ _. ⌜ TurnsIndexed (now (graph .entry)) (now (back .entry)) (now (back .exit)) ⌝ }
+{
+    turn(graph, back);
     copy(back, BY_SETS, graph, BY_SETS);
     copy(back, BY_LEFTS, graph, BY_RIGHTS);
     copy(back, BY_RIGHTS, graph, BY_LEFTS);

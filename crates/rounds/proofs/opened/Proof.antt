@@ -12,7 +12,7 @@ open-next-requires c κs =
     let pre = back .before .before .pre in
     record {
       few = pre .0;
-      ways = record { turned = back .turn .ensures .turned refl; indexed = pre .1; back-indexed = back .turn .ensures .indexed refl (pre .1) };
+      ways = back .turn-indexed .ensures refl (pre .1);
       forward = to .all-ends .ensures .0;
       backward = from .all-ends2 .ensures .0;
     }

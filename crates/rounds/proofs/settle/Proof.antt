@@ -33,7 +33,7 @@ abbrev start : (c : tie.At-loop Inv-loop μ-loop) → tie.Start Inv-loop μ-loop
 start c = c .before .before .before .before .before .before .before .before .before
 
 abbrev back : (c : tie.At-loop Inv-loop μ-loop) → List ℕ
-back c = c .before .before .before .before .before .before .before .turn .last .1 .0
+back c = c .before .before .before .before .before .before .before .turn-indexed .last .1 .0
 
 loop-holds : tie.Need-loop-holds Inv-loop μ-loop
 loop-holds c =
@@ -46,7 +46,7 @@ loop-holds c =
       omega arith,
       ends .all-ends .ensures .1,
       turned-ends .all-ends2 .ensures .1,
-      record { turned = back .turn .ensures .turned refl; indexed = back .before .before .pre .1; back-indexed = back .turn .ensures .indexed refl (back .before .before .pre .1) },
+      back .turn-indexed .ensures refl (back .before .before .pre .1),
       record {
         old = none;
         with-new = record { loops-are = λ t. rw (member-none t) refl; mixes-are = λ t. rw (member-none t) refl };
