@@ -34,6 +34,10 @@ pub record HasSets (sets : List ℕ) (i : ℕ) (r : List ℕ) : Type 0 where
 abbrev pub Places : List ℕ → ℕ → ℕ → ℕ → Type 0
 Places sets n x r = Rising sets n → (i : ℕ) → i < n → (i ≡ r) ↔ (getD sets i 0 ≡ x)
 
+-- an automaton by its parts
+abbrev pub automaton-of : List ℕ → ℕ → ℕ → Automaton
+automaton-of graph initials finals = record { graph = graph; initials = initials; finals = finals }
+
 -- the graph of the rows, with the first k of these sets, which are the rows'; their initial and their final states
 pub record Gives (rows : List Row) (sets : List ℕ) (k : ℕ) (r : Automaton) : Type 0 where
   pub masked : Masked rows (graph-of (r .graph)) k

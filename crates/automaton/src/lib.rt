@@ -17,11 +17,17 @@ ghost use mathlib.Core.Logic.{_⊎_};
 ghost use Prim.Native.Nat.{_≤_, _<_};
 ghost use lib.ListN.{replicate};
 ghost use Rattle.search.specs.Graph.{Indexed};
-ghost use Rattle.automaton.specs.Promise.{Adds, AddsAt, HasSets, Places, GivesKeyed};
+ghost use Rattle.automaton.specs.Promise.{Adds, AddsAt, HasSets, Places, GivesKeyed, automaton-of};
 
 // The graph of some rows as one array of masks; their initial and their final states.
 pub struct Automaton {
     pub graph: Masks,
+    pub initials: Set,
+    pub finals: Set,
+}
+
+// The states that walks start from, and those that they end at.
+pub struct Endpoints {
     pub initials: Set,
     pub finals: Set,
 }
@@ -72,8 +78,42 @@ fn put_sets(graph: &mut Masks, sets: &[Set; MOST_SETS], set_count: usize)
     }
 }
 
-// The automaton of the rows that have the first `n` keys, whose sets are the first `k`: each row adds one state to one mask. What says which
-// sets a state touches is written once, at the end.
+// Fills a graph that has nothing yet from the rows that have the first `n` keys, whose sets are the first `k`: each row adds one state to
+// one mask. What says which sets a state touches is written once, at the end.
+pub fn fill(
+    graph: &mut Masks,
+    high: &[u64; MOST_ROWS],
+    low: &[u64; MOST_ROWS],
+    row_count: usize,
+    sets: &[Set; MOST_SETS],
+    set_count: usize,
+) -> Endpoints
+    requires { ⌜ («row_count» ≤ 256) × («set_count» ≤ 64) ⌝ }
+    ensures gives { λ r. ⌜ (now (graph .entry) ≡ replicate 448 0 →
+        GivesKeyed (now (high .entry)) (now (low .entry)) «row_count» (now (sets .entry)) «set_count»
+        (automaton-of (now (graph .exit)) (r .initials) (r .finals))) ⌝ }
+    ensures indexed { λ _. ⌜ (now (graph .entry) ≡ replicate 448 0 → Indexed (now (graph .exit))) ⌝ }
+{
+    put_sets(graph, sets, set_count);
+    let mut initials: Set = 0;
+    let mut finals: Set = 0;
+    let mut i = 0;
+    while i < row_count {
+        let row = rows::row_of(high[i], low[i]);
+        match row {
+            Row::Initial(s) => initials = add(initials, s),
+            Row::Final(s) => finals = add(finals, s),
+            Row::Successor(p, _, q) => put(graph, 0, p as usize, q),
+            Row::LeftLimit(set, q) => put(graph, LEFTS, place(sets, set_count, set), q),
+            Row::RightLimit(q, set) => put(graph, RIGHTS, place(sets, set_count, set), q),
+        }
+        i += 1;
+    }
+    graphs::index(graph, set_count);
+    Endpoints { initials, finals }
+}
+
+// The same as one value, for those who hold no graph.
 pub fn of_keys(
     high: &[u64; MOST_ROWS],
     low: &[u64; MOST_ROWS],
@@ -87,25 +127,10 @@ pub fn of_keys(
     ensures indexed { λ r. ⌜ Indexed (r .graph) ⌝ }
 {
     let mut graph = [0u64; MASKS];
-    put_sets(&mut graph, sets, set_count);
-    let mut initials: Set = 0;
-    let mut finals: Set = 0;
-    let mut i = 0;
-    while i < row_count {
-        let row = rows::row_of(high[i], low[i]);
-        match row {
-            Row::Initial(s) => initials = add(initials, s),
-            Row::Final(s) => finals = add(finals, s),
-            Row::Successor(p, _, q) => put(&mut graph, 0, p as usize, q),
-            Row::LeftLimit(set, q) => put(&mut graph, LEFTS, place(sets, set_count, set), q),
-            Row::RightLimit(q, set) => put(&mut graph, RIGHTS, place(sets, set_count, set), q),
-        }
-        i += 1;
-    }
-    graphs::index(&mut graph, set_count);
+    let points = fill(&mut graph, high, low, row_count, sets, set_count);
     Automaton {
         graph,
-        initials,
-        finals,
+        initials: points.initials,
+        finals: points.finals,
     }
 }

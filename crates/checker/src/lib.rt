@@ -5,6 +5,7 @@ use machine::LONGEST_SHEET;
 use machine::MOST_ROWS;
 use machine::MOST_SETS;
 use machine::Phase;
+use search::graphs::MASKS;
 ghost use Prim.Native.Nat.{_≤_};
 ghost use Rattle.lists.specs.Writing.{Wrote};
 ghost use Rattle.machine.specs.Program.{program};
@@ -29,8 +30,9 @@ fn finish(
     ensures { λ r. ⌜ Finishes (now (high .entry)) (now (low .entry)) «row_count» (now (sets .entry)) «set_count»
         (now (sheet .entry)) (now (sheet .exit)) r ⌝ }
 {
-    let a = automaton::of_keys(high, low, row_count, sets, set_count);
-    let done = rounds::settle(&a.graph, a.initials, a.finals, set_count);
+    let mut graph = [0u64; MASKS];
+    let points = automaton::fill(&mut graph, high, low, row_count, sets, set_count);
+    let done = rounds::settle(&graph, points.initials, points.finals, set_count);
     let phase = done.phase;
     match phase {
         Phase::Open => Answer::Refused(9, 0),
@@ -43,9 +45,9 @@ fn finish(
             row_count,
             sets,
             set_count,
-            &a.graph,
-            a.initials,
-            a.finals,
+            &graph,
+            points.initials,
+            points.finals,
             done,
         ),
     }

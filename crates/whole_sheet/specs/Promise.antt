@@ -17,10 +17,6 @@ use Rattle.rounds.specs.Promises.{Mirrors}
 use Rattle.walks.specs.declared.FoundWalk.{FoundWalk}
 use Rattle.walks.specs.Walks.{Answers}
 
--- an automaton by its parts
-abbrev pub automaton-of : List ℕ → ℕ → ℕ → Automaton
-automaton-of graph initials finals = record { graph = graph; initials = initials; finals = finals }
-
 -- the walk is the one that the machine prints, or there is none
 abbrev pub FindsWalk : List ℕ → List ℕ → ℕ → ℕ → Automaton → Progress → FoundWalk → Type 0
 FindsWalk highs lows n k a rounds w = (m : Machine) (sets : List ℕ) → WellFormed m → Filed highs lows sets n k (m .rows) → Gives (m .rows) sets k a

@@ -21,10 +21,11 @@ ghost use Rattle.lists.specs.Writing.{Wrote, WroteAt};
 ghost use Rattle.machine.specs.declared.Verdict.the-variants.{Empty};
 ghost use Rattle.machine.specs.Sheet.{opening-line, walk-lines};
 ghost use Rattle.machine.specs.Calls.{TellsText};
+ghost use Rattle.automaton.specs.Promise.{automaton-of};
 ghost use Rattle.walks.specs.Walks.{as-found, Bounded};
 ghost use Rattle.sheet_parts.specs.Openings.{openings-in};
 ghost use Rattle.whole_sheet.specs.Text.{head-text, walked-text};
-ghost use Rattle.whole_sheet.specs.Promise.{automaton-of, FindsWalk, PrintsSheet};
+ghost use Rattle.whole_sheet.specs.Promise.{FindsWalk, PrintsSheet};
 
 // Writes the lines of the openings from `at` on, and returns the next place.
 fn openings_at(

@@ -1,5 +1,5 @@
 -- `first_walk` meets its contract: the arrays stand for the rows and the open claims of the machine.
-use Rattle.whole_sheet.specs.Promise.{automaton-of}
+use Rattle.automaton.specs.Promise.{automaton-of}
 use Rattle.whole_sheet.proofs.Printing.{finds}
 use mathlib.Core.Path.{refl}
 use borrow.Author.Needs.{needs}

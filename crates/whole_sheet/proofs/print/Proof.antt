@@ -1,7 +1,8 @@
 -- `print` meets its contract: by verdict.
 use mathlib.Core.Path.{sym, subst}
 use Rattle.machine.specs.declared.Verdict.{Verdict}
-use Rattle.whole_sheet.specs.Promise.{automaton-of, PrintsSheet}
+use Rattle.automaton.specs.Promise.{automaton-of}
+use Rattle.whole_sheet.specs.Promise.{PrintsSheet}
 use Rattle.whole_sheet.proofs.Printing.{prints-empty, prints-nonempty}
 use borrow.Author.Needs.{needs}
 use Rattle.whole_sheet.proofs.print.Statement.{statement}
