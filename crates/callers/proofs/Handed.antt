@@ -20,21 +20,23 @@ use Rattle.machine.specs.declared.Phase.the-variants.{Open}
 use Rattle.machine.specs.Machine.{Machine, fresh, load-row, judged, closed, opened-next, nothing?, next-round, open-claims}
 use Rattle.machine.specs.Calls.{Call, load, close, round, print, save, done, wrote, refused, returned, Next, with-rows, saved, call-in, call, run, Tells}
 use Rattle.machine.specs.Causes.{NotOpen, running, settled, NeedsClosed, rounding, printing, saves, still-open}
-use Rattle.machine.proofs.Answers.{done-by, answer-of, answer-due, answer-by, tells-as}
-use Rattle.machine.proofs.Phases.{open-closes, running-rounds, settled-refuses}
+use Rattle.machine.proofs.Answers.{done-by, answer-by, tells-as}
+use Rattle.machine.proofs.Phases.{open-closes, settled-refuses}
 use Rattle.machine.proofs.Outcomes.{Done as RoundDone, round-done, comes, writing}
-use Rattle.machine.proofs.Statements.{never-130th}
+use Rattle.machine.proofs.Ending.{rounds-done}
 use Rattle.session.specs.declared.Session.{Session}
 use Rattle.session.specs.declared.Reply.{Reply}
 use Rattle.session.specs.Record.{record-of, Represents}
 use Rattle.session.specs.Standing.{reply}
 use Rattle.demands.specs.Trace.{Exchange, Trace, given, Served, onward, plain-after, exchange}
 use Rattle.demands.specs.Demands.{EveryCall, Answered, PrintsTrue, SavesRows, ExactPrint}
+use Rattle.demands.specs.Requests.{OneRound}
 use Rattle.callers.specs.Handed.{HandedBack, FirstCall, RoundsAfter, worked, PrintedAfter, RefusedFirst, SavedAgain}
 use Rattle.demands.proofs.Reached.{Stands, told, step, fresh-is, reached}
 use Rattle.demands.proofs.Demand1.{demand-1}
 use Rattle.demands.proofs.Demand2.{demand-2}
 use Rattle.demands.proofs.Demand3.{demand-3}
+use Rattle.demands.proofs.Requests.{request-14}
 
 -- ---- one call more
 
@@ -94,6 +96,10 @@ pub record Rounding (cs : List Call) (k : ℕ) (s : Session) : Type 0 where
   pub not-open : NotOpen (run fresh (cs ++ replicate k round) .phase)
   pub done : k ≤ run fresh (cs ++ replicate k round) .rounds
 
+-- a round after any calls
+pub round-on : (cs : List Call) (s : Session) → HandedBack cs s → (r : Reply) → Served s (exchange round [] [] r) → OneRound (run fresh cs) s (exchange round [] [] r)
+round-on cs s h r k = at-call cs s h (exchange round [] [] r) k (λ m t e. e .asked ≡ round → OneRound m t e) (request-14 .rounds) refl
+
 pub rounding-start : (cs : List Call) (s : Session) → HandedBack cs s → NotOpen (run fresh cs .phase) → Rounding cs 0 s
 rounding-start cs s h n = let e : cs ++ [] ≡ cs = append-nil cs in record { handed = rw e h; not-open = rw e n; done = omega arith }
 
@@ -110,7 +116,7 @@ module _ (cs : List Call) (k : ℕ) (s : Session) (h : Rounding cs k s) where
   -- a machine that has done a round
   after-round : {m′ : Machine} → RoundDone m round m′ → NotOpen (m′ .phase) × (m′ .rounds ≡ suc (m .rounds))
   unfolding next-round
-  after-round (round-done e l) = (judged-not-open (accepts? (m .rows) (open-claims (next-round m))) (nothing? (opened-next m)), refl)
+  after-round (round-done e) = (judged-not-open (accepts? (m .rows) (open-claims (next-round m))) (nothing? (opened-next m)), refl)
 
   module _ (r : Reply) (served : Served s (exchange round [] [] r)) where
     abbrev e : Exchange Call Reply
@@ -134,8 +140,7 @@ module _ (cs : List Call) (k : ℕ) (s : Session) (h : Rounding cs k s) where
     rounding-stop l not-done = by (m .phase) (h .not-open) refl
       where
         by : (p : Phase) → NotOpen p → m .phase ≡ p → RoundsAfter cs (r .session)
-        by _ running f = absurd (not-done (answer-due (call m round .answer) (r .answer) (answered .result) ∙ ap (λ (x : Next). answer-of (x .answer))
-            (ap (λ (p : Phase). call-in p m round) f ∙ running-rounds m (never-130th m (handed-is so-far s (h .handed) .formed) f))))
+        by _ running f = absurd (not-done (round-on so-far s (h .handed) r served .accepted .1 f))
         by _ (settled v) f = record {
           count = k + 1;
           few = omega arith;
@@ -149,7 +154,7 @@ module _ (cs : List Call) (k : ℕ) (s : Session) (h : Rounding cs k s) where
   rounding-full few l = by (m .phase) (h .not-open) refl
     where
       by : (p : Phase) → NotOpen p → m .phase ≡ p → RoundsAfter cs s
-      by _ running f = absurd (omega (arith, h .done, never-130th m (handed-is so-far s (h .handed) .formed) f))
+      by _ running f = absurd (omega (arith, h .done, rw f at (rounds-done m (handed-is so-far s (h .handed) .formed))))
       by _ (settled v) f = record { count = k; few = few; handed = h .handed; verdict = v; settled = f }
 
 -- ---- load, close, rounds and print

@@ -16,6 +16,7 @@ use Rattle.session.specs.Standing.{reply}
 use Rattle.callers.specs.declared.Refusals.{Refusals}
 use Rattle.demands.specs.Trace.{Exchange, Trace, given, Served, onward, exchange}
 use Rattle.demands.specs.Demands.{Answered, PrintsTrue, ExactPrint}
+use Rattle.demands.specs.Requests.{OneRound}
 
 -- the session is what calls from a fresh one handed back
 pub record HandedBack (cs : List Call) (s : Session) : Type 0 where
@@ -27,6 +28,10 @@ pub record HandedBack (cs : List Call) (s : Session) : Type 0 where
 -- the first call, on a fresh session
 abbrev pub FirstCall : Call → List ℕ → List ℕ → Reply → Type 0
 FirstCall c old new r = Served (record-of fresh) (exchange c old new r)
+
+-- a round after any calls: request C-14 at it
+abbrev pub RoundsOn : Session → Reply → Type 0
+RoundsOn s r = (cs : List Call) → HandedBack cs s → OneRound (run fresh cs) s (exchange round [] [] r)
 
 -- rounds after calls, 129 at most, until the plain machine is settled
 pub record RoundsAfter (cs : List Call) (s : Session) : Type 0 where

@@ -12,7 +12,7 @@ use session::Reply;
 use session::Session;
 ghost use mathlib.Core.List.{[], _∷_};
 ghost use Rattle.machine.specs.Calls.{load, close};
-ghost use Rattle.callers.specs.Handed.{HandedBack, FirstCall, DoesRounds};
+ghost use Rattle.callers.specs.Handed.{HandedBack, FirstCall, RoundsOn, DoesRounds};
 ghost use Rattle.callers.specs.Handed.{PrintedAfter, RefusedFirst, SavedAgain};
 
 // Load into a fresh session.
@@ -29,6 +29,13 @@ fn closed(batch: &[u8]) -> Reply
 {
     let r = loaded(batch);
     call_close(r.session)
+}
+
+// One round more, after any calls: it is done while the machine runs, and is never the 130th.
+pub fn round_on(session: Session) -> Reply
+    ensures { λ r. ⌜ RoundsOn session r ⌝ }
+{
+    call_round(session)
 }
 
 // Rounds until one is refused, 129 at most.

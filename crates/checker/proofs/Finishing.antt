@@ -12,7 +12,7 @@ use Rattle.machine.specs.declared.Verdict.{Verdict}
 use Rattle.machine.specs.Machine.{Machine, open-with}
 use Rattle.machine.specs.Calls.{print, Next, refuse, call-in, call, run, settle, Tells}
 use Rattle.machine.specs.WellFormed.{Table}
-use Rattle.machine.proofs.Settling.{Settles, settles, after-after}
+use Rattle.machine.proofs.Settling.{settles, after-after}
 use Rattle.machine.proofs.Answers.{tells-as, tells-refused}
 use Rattle.machine.proofs.History.{settle-runs}
 use Rattle.machine.proofs.Program.{settled-formed}
@@ -31,7 +31,7 @@ module _ (rows : List Row) (t : Table rows) (highs lows sets : List ℕ) (n k : 
   m = run (open-with rows) settle
 
   same-rows : m .rows ≡ rows
-  same-rows = let x = settles rows (t .few-sets) in ap (λ (y : Machine). y .rows) (settle-runs rows x) ∙ after-after rows (x .rounds) .same-rows
+  same-rows = ap (λ (y : Machine). y .rows) (settle-runs rows t) ∙ after-after rows (settles rows .rounds) .same-rows
 
   gives : Gives rows sets k a
   gives = gives-filed t f g

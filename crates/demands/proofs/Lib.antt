@@ -1,6 +1,7 @@
--- The demands, proved.
+-- The demands and the requests, proved.
 pub mod Reached
 pub mod Results
 pub mod Demand1
 pub mod Demand2
 pub mod Demand3
+pub mod Requests

@@ -1,4 +1,4 @@
-// The session at its limits, in every refusal that calls can reach (number 13 is never reached), and on records that no calls make.
+// The session at its limits, in every refusal of the table, and on records that no calls make.
 mod records;
 
 fn main() {

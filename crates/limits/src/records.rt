@@ -1,5 +1,5 @@
-// Records that no calls make. Where a count is outside the arrays, every call is refused as 24, and all is as it was; on others the
-// answer is free, and what is run is that each call ends.
+// Records that no calls make. Where a count is outside the arrays, or more rounds are done than calls lead to, every call is refused as 24, and
+// all is as it was; on others the answer is free, and what is run is that each call ends.
 use machine::Phase;
 use machine::Verdict;
 use program_output::say;
@@ -65,6 +65,19 @@ fn far_outside() {
     );
 }
 
+// More rounds than calls lead to, in each phase.
+fn too_many_rounds() {
+    try_all(b"# open after 1 round\n", counted(3, 2, Phase::Open, 1));
+    try_all(
+        b"# running after 129 rounds\n",
+        counted(3, 2, Phase::Running, 129),
+    );
+    try_all(
+        b"# settled after 130 rounds\n",
+        counted(3, 2, Phase::Settled(Verdict::Empty), 130),
+    );
+}
+
 // Counts within the arrays: rows that stand twice and more, and sets of no row.
 fn within() {
     try_all(
@@ -72,8 +85,8 @@ fn within() {
         counted(256, 64, Phase::Open, 0),
     );
     try_all(
-        b"# running after 200 rounds\n",
-        counted(3, 2, Phase::Running, 200),
+        b"# running after 128 rounds\n",
+        counted(3, 2, Phase::Running, 128),
     );
 }
 
@@ -92,13 +105,14 @@ fn unsorted() {
 fn settled() {
     try_all(
         b"# settled as non-empty, without a walk\n",
-        counted(2, 1, Phase::Settled(Verdict::NonEmpty), 255),
+        counted(2, 1, Phase::Settled(Verdict::NonEmpty), 129),
     );
 }
 
 pub fn run() {
     outside();
     far_outside();
+    too_many_rounds();
     within();
     unsorted();
     settled();

@@ -22,6 +22,12 @@ once-length [] m o h = omega arith
 once-length (x ∷ l) m o h = let r = cut-out (h x (List·Memᴰ·head refl)) in
     omega (arith, r .1, once-length l (r .0) (o .1) (λ y i. ⊎-elim (λ e. absurd (o .0 (Memᴰ·cast (sym e) i))) (λ j. j) (r .2 y (h y (List·Memᴰ·tail i)))))
 
+-- a list that has each number from 1 to n is as long at least
+pub numbers-length : (n : ℕ) (l : List ℕ) → ((k : ℕ) → 1 ≤ k → k ≤ n → k among l) → n ≤ length l
+numbers-length zero l h = omega arith
+numbers-length (suc n) l h = let r = cut-out (h (suc n) (omega arith) (omega arith)) in
+    omega (arith, r .1, numbers-length n (r .0) (λ k a b. ⊎-elim (λ e. absurd (omega arith)) (λ j. j) (r .2 k (h k a (omega arith)))))
+
 pub keep-once : {A : Type 0} (f : A → Bool) (l : List A) → Once l → Once (keep f l)
 keep-once f [] s = tt
 keep-once {A} f (x ∷ l) s = go (f x) (keep-once f l (s .1))

@@ -1,12 +1,12 @@
 -- Document 01, "Causes and numbers": a call is refused with a number and at a place exactly where the table has a cause for it
--- (`refusals`).
-use Prim.Native.Nat.{ℕ, _≤_}
+-- (`refusals`); none has number 13 (`no-13`).
+use Prim.Native.Nat.{ℕ}
 use mathlib.Core.Path.{_≡_, refl, ap, _∙_, subst}
-use mathlib.Core.Logic.{_⊎_, inl, inr, _↔_}
+use mathlib.Core.Logic.{_⊎_, inl, inr, _↔_, _≢_}
 use mathlib.Core.List.{List, _++_}
 use lib.ListN.{length}
 use native.Mathlib.Omega.{arith}
-use Rattle.lists.proofs.Deciding.{so, not-so, ltb·}
+use Rattle.lists.proofs.Deciding.{so, ltb·}
 use Rattle.rows.specs.declared.Row.{Row}
 use Rattle.rows.specs.Rows.{row-bytes, Fits}
 use Rattle.rows.specs.Reading.{Malformed, unknown-kind, cut-short, high-state, zero-set}
@@ -15,7 +15,7 @@ use Rattle.machine.specs.declared.Phase.{Phase}
 use Rattle.machine.specs.declared.Phase.the-variants.{Open, Running, Settled}
 use Rattle.machine.specs.Machine.{Machine, load-row, withdraw-row}
 use Rattle.machine.specs.Calls.{Call, load, withdraw, round, print, Outcome, refused, Next, call-in, call, Brings}
-use Rattle.machine.specs.Causes.{NotOpen, running, settled, NeedsOpen, loading, withdrawing, closing, NeedsClosed, reopening, rounding, printing, Cause, not-open, load-fails, withdraw-fails, still-open, round-settled, print-running, short-buffer, last-round, LoadStops, WithdrawStops}
+use Rattle.machine.specs.Causes.{NotOpen, running, settled, NeedsOpen, loading, withdrawing, closing, NeedsClosed, reopening, rounding, printing, Cause, not-open, load-fails, withdraw-fails, still-open, round-settled, print-running, short-buffer, LoadStops, WithdrawStops}
 use Rattle.machine.specs.WellFormed.{Table}
 use Rattle.machine.proofs.Failing.{load-fails-iff, withdraw-fails-iff}
 use Rattle.machine.proofs.Outcomes.{comes, writing}
@@ -48,7 +48,6 @@ module _ (m : Machine) where
   refuses t b (round-settled v e) = in-phase (Settled v) round _ e refl
   refuses t b (print-running size e) = in-phase Running (print size) _ e refl
   refuses t b (short-buffer c l size w h) = ap (λ (x : Next). x .answer) (writing m w) ∙ rw (so (ltb· size (length l)) h)
-  refuses t b (last-round e h) = in-phase Running round _ e (rw (not-so (ltb· (m .rounds) 129) (λ k. omega arith)))
 
   pub refusals : (c : Call) (n place : ℕ) → Table (m .rows) → Brings c → (call m c .answer ≡ refused n place) ↔ Cause m c n place
   refusals c n place t b = ((λ e. comes m c (refused n place) e .1 t b), refuses t b)
@@ -61,13 +60,12 @@ not-a-row A f e (inl (high-state k i w m h)) = omega arith
 not-a-row A f e (inl (zero-set k j w g m h)) = omega arith
 not-a-row A f e (inr p) = f (p .0) (subst (A (p .0)) e (p .4))
 
--- a call is refused as 13 only where a machine that runs has done 129 rounds
-pub only-rounds : (m : Machine) (c : Call) (n place : ℕ) → n ≡ 13 → Cause m c n place → (m .phase ≡ Running) × (129 ≤ m .rounds)
-only-rounds m c n place e (not-open k w p) = absurd (omega arith)
-only-rounds m c n place e (load-fails l k at p f) = absurd (not-a-row (LoadStops (f .now)) (λ r. elim [ ]) e (f .cause))
-only-rounds m c n place e (withdraw-fails l k at p f) = absurd (not-a-row (WithdrawStops (f .now)) (λ r. elim [ ]) e (f .cause))
-only-rounds m c n place e (still-open k w p) = absurd (omega arith)
-only-rounds m c n place e (round-settled v p) = absurd (omega arith)
-only-rounds m c n place e (print-running size p) = absurd (omega arith)
-only-rounds m c n place e (short-buffer k l size w h) = absurd (omega arith)
-only-rounds m c n place e (last-round p h) = (p, h)
+-- the table has no number 13
+pub no-13 : (m : Machine) (c : Call) (n place : ℕ) → Cause m c n place → n ≢ 13
+no-13 m c n place (not-open k w p) e = omega arith
+no-13 m c n place (load-fails l k at p f) e = not-a-row (LoadStops (f .now)) (λ r. elim [ ]) e (f .cause)
+no-13 m c n place (withdraw-fails l k at p f) e = not-a-row (WithdrawStops (f .now)) (λ r. elim [ ]) e (f .cause)
+no-13 m c n place (still-open k w p) e = omega arith
+no-13 m c n place (round-settled v p) e = omega arith
+no-13 m c n place (print-running size p) e = omega arith
+no-13 m c n place (short-buffer k l size w h) e = omega arith

@@ -12,7 +12,6 @@ use Rattle.rows.specs.Reading.{set-at, row-at, row-cause, read-row}
 use Rattle.rows.specs.Batch.{on-turn, on-read, feed-from, feed}
 use Rattle.orderings.specs.Steps.{members}
 use Rattle.orderings.specs.Decide.{reach, holds?, accepts?}
-use Rattle.machine.specs.declared.Phase.the-variants.{Running}
 use Rattle.machine.specs.Machine.{fresh, load-row, withdraw-row, closed, opened-next, next-round}
 use Rattle.machine.specs.Search.{walk-of, least, shortest}
 use Rattle.machine.specs.Text.{text, hex, decimal}
@@ -181,8 +180,3 @@ pub phases : (answer-after [] (load []) ≡ done)
     × (answer-after (load (1 ∷ 3 ∷ []) ∷ close ∷ round ∷ []) (save 2) ≡ wrote (1 ∷ 3 ∷ []))
 unfolding ℕ-discrete member row-bytes standing-sets same-row set-at row-at row-cause read-row on-turn on-read feed-from feed members reach holds? accepts? load-row withdraw-row closed opened-next next-round walk-of least shortest hex decimal sheet call-in
 phases = (refl, refl, refl, refl, refl, refl, refl, refl, refl, refl, refl, refl, refl, refl, refl, refl, refl, refl, refl, refl, refl, refl)
-
--- a 130th round, of a machine that no calls make
-pub round-130 : (rows : List Row) → call (record { rows = rows; phase = Running; openings = []; rounds = 129 }) round .answer ≡ refused 13 0
-unfolding call-in
-round-130 rows = refl

@@ -2,24 +2,23 @@
 -- (`call-formed`, `fresh-formed`), and rounds until settled come to as many as the rows take (`settle-runs`, `as-many`).
 use Prim.Native.Nat.{ℕ, zero, suc, _≤_, _<_, _+_}
 use mathlib.Core.Path.{_≡_, refl, ap, sym, _∙_, subst}
-use mathlib.Core.Bool.{Bool, true, false, cond}
-use mathlib.Core.Logic.{_⊎_, ⊎-elim}
+use mathlib.Core.Bool.{Bool, true, false}
+use mathlib.Core.Logic.{⊎-elim}
 use mathlib.Core.List.{List, [], _∷_, List·Memᴰ·head, List·Memᴰ·tail}
 use lib.ListN.{replicate}
 use native.Mathlib.Omega.{arith}
 use native.Mathlib.Decide.{decLt}
 use native.Mathlib.Nat.{eq-or-lt-of-le}
 use Rattle.lists.specs.Tests.{_among_}
-use Rattle.lists.proofs.Deciding.{so, ltb·}
 use Rattle.rows.specs.declared.Row.{Row}
 use Rattle.orderings.specs.Decide.{accepts?}
 use Rattle.machine.specs.declared.Verdict.{Verdict}
 use Rattle.machine.specs.declared.Phase.{Phase}
 use Rattle.machine.specs.declared.Phase.the-variants.{Open, Running, Settled}
-use Rattle.machine.specs.Machine.{Machine, open-with, fresh, judged, closed, opened-next, nothing?, next-round, open-claims}
-use Rattle.machine.specs.Calls.{Call, round, Outcome, done, wrote, refused, Next, accept, refuse, call-in, call, run, Brings, settle}
+use Rattle.machine.specs.Machine.{most-rounds, Machine, open-with, fresh, judged, closed, opened-next, nothing?, next-round, open-claims}
+use Rattle.machine.specs.Calls.{Call, round, Outcome, done, wrote, refused, call-in, call, run, Brings, settle}
 use Rattle.machine.specs.WellFormed.{Table, after, Worked, Made, WellFormed}
-use Rattle.machine.proofs.Settling.{below-next, after-after, Settles}
+use Rattle.machine.proofs.Settling.{below-next, Settles, settles, few-rounds}
 use Rattle.machine.proofs.Tables.{no-rows, load-keeps, withdraw-keeps}
 use Rattle.machine.proofs.Outcomes.{Done, load-done, withdraw-done, close-done, round-done, reopen-done, Comes, comes}
 
@@ -64,7 +63,7 @@ call-formed m c b w = by (call m c .machine) (call m c .answer) (comes m c (call
     changed (load-done l rows e f) b = rows-formed m rows e w (load-keeps (m .rows) rows l b (w .table) f)
     changed (withdraw-done l rows e f) b = rows-formed m rows e w (withdraw-keeps (m .rows) rows l b (w .table) f)
     changed (close-done e) b = closed-formed m e w
-    changed (round-done e l) b = round-formed m e w
+    changed (round-done e) b = round-formed m e w
     changed (reopen-done n) b = opened-formed (m .rows) (w .table)
 
     by : (m′ : Machine) (a : Outcome) → Comes m c m′ a → WellFormed m′
@@ -90,9 +89,7 @@ module _ (rows : List Row) (s : Settles rows) where
 
   round-goes : (k : ℕ) → k < K → call (after rows k) round .machine ≡ after rows (suc k)
   unfolding call-in
-  round-goes k l = let m = after rows k in
-      ap (λ (p : Phase). call-in p m round .machine) (s .before k l)
-      ∙ ap (λ (b : Bool). cond {A = Next} b (accept (next-round m)) (refuse m 13) .machine) (so (ltb· (m .rounds) 129) (omega (arith, after-after rows k .count, s .most)))
+  round-goes k l = ap (λ (p : Phase). call-in p (after rows k) round .machine) (s .before k l)
 
   round-stays : call (after rows K) round .machine ≡ after rows K
   unfolding call-in
@@ -105,14 +102,14 @@ module _ (rows : List Row) (s : Settles rows) where
       (λ i. ap (λ m. run m (replicate n round)) (round-goes k i) ∙ run-rounds n (suc k) i (omega arith))
       (eq-or-lt-of-le l)
 
-  -- closed, and settled
-  pub settle-runs : run (open-with rows) settle ≡ after rows K
-  unfolding call-in
-  settle-runs = run-rounds 129 0 (omega arith) (omega (arith, s .most))
-
   -- a machine that was worked on has done no more rounds, and as many where it is settled
   pub no-more : (k : ℕ) → ((j : ℕ) → j < k → after rows j .phase ≡ Running) → k ≤ K
   no-more k f = elim (decLt K k) [ yes l ↦ not-both (f K l) (s .phase) | no n ↦ omega arith ]
 
   pub as-many : (k : ℕ) (v : Verdict) → after rows k .phase ≡ Settled v → k ≤ K → k ≡ K
   as-many k v e l = ⊎-elim (λ x. x) (λ i. not-both (s .before k i) e) (eq-or-lt-of-le l)
+
+-- closed, and rounds until settled: 129 are enough
+pub settle-runs : (rows : List Row) → Table rows → run (open-with rows) settle ≡ after rows (settles rows .rounds)
+unfolding call-in
+settle-runs rows t = run-rounds rows (settles rows) most-rounds 0 (omega arith) (omega (arith, few-rounds rows (t .few-sets)))

@@ -18,5 +18,6 @@ pub mod Loading
 pub mod Causes
 pub mod History
 pub mod Statements
+pub mod Ending
 pub mod Second
 pub mod Program

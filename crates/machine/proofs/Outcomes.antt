@@ -15,8 +15,8 @@ use Rattle.rows.proofs.Batch.{feed-fails}
 use Rattle.machine.specs.declared.Phase.{Phase}
 use Rattle.machine.specs.declared.Phase.the-variants.{Open, Running, Settled}
 use Rattle.machine.specs.Machine.{Machine, load-row, withdraw-row, closed, next-round, reopened}
-use Rattle.machine.specs.Calls.{Call, load, withdraw, close, round, reopen, print, save, Outcome, done, wrote, refused, Next, accept, refuse-at, with-rows, write, saved, call-in, call, Brings}
-use Rattle.machine.specs.Causes.{NotOpen, running, settled, loading, withdrawing, closing, reopening, rounding, printing, Writes, sheets, saves, Cause, not-open, load-fails, withdraw-fails, still-open, round-settled, print-running, short-buffer, last-round}
+use Rattle.machine.specs.Calls.{Call, load, withdraw, close, round, reopen, print, save, Outcome, done, wrote, refused, Next, with-rows, write, saved, call-in, call, Brings}
+use Rattle.machine.specs.Causes.{NotOpen, running, settled, loading, withdrawing, closing, reopening, rounding, printing, Writes, sheets, saves, Cause, not-open, load-fails, withdraw-fails, still-open, round-settled, print-running, short-buffer}
 use Rattle.machine.specs.Sheet.{sheet}
 use Rattle.machine.specs.WellFormed.{Table}
 use Rattle.machine.proofs.Failing.{load-fails-iff, withdraw-fails-iff}
@@ -30,7 +30,7 @@ pub data Done (m : Machine) : Call → Machine → Type 0 where
   load-done : (l : List ℕ) (rows : List Row) → m .phase ≡ Open → feed load-row (m .rows) l ≡ fed rows → Done m (load l) (rows-to m rows)
   withdraw-done : (l : List ℕ) (rows : List Row) → m .phase ≡ Open → feed withdraw-row (m .rows) l ≡ fed rows → Done m (withdraw l) (rows-to m rows)
   close-done : m .phase ≡ Open → Done m close (closed m)
-  round-done : m .phase ≡ Running → m .rounds < 129 → Done m round (next-round m)
+  round-done : m .phase ≡ Running → Done m round (next-round m)
   reopen-done : NotOpen (m .phase) → Done m reopen (reopened m)
 
 -- what a call comes to that leaves the machine m′ and gives an answer: done, text, or a refusal with its cause; only done changes the machine
@@ -55,13 +55,6 @@ module _ (m : Machine) where
       by true d = (refl, λ t b. short-buffer c l size w (yes· d))
       by false d = (refl, size, w, let n = no· d in omega arith)
 
-  round-comes : m .phase ≡ Running → To m round (cond (ltb (m .rounds) 129) (accept (next-round m)) (refuse-at m 13 0))
-  round-comes e = by (ltb (m .rounds) 129) (ltb· (m .rounds) 129)
-    where
-      by : (b : Bool) → Decides b (m .rounds < 129) → To m round (cond b (accept (next-round m)) (refuse-at m 13 0))
-      by true d = round-done e (yes· d)
-      by false d = (refl, λ t b. last-round e (let n = no· d in omega arith))
-
   comes-in : (p : Phase) (c : Call) → m .phase ≡ p → To m c (call-in p m c)
   unfolding call-in
   comes-in Open (load l) e = fed-comes (load l) (feed load-row (m .rows) l) (λ rows i. load-done l rows e i) (λ n place i t b. load-fails l n place e (load-fails-iff (m .rows) t l n place .0 (feed-fails load-row (m .rows) l n place b .0 i)))
@@ -74,7 +67,7 @@ module _ (m : Machine) where
   comes-in Running (load l) e = (refl, λ t b. not-open (load l) (loading l) (rw e running))
   comes-in Running (withdraw l) e = (refl, λ t b. not-open (withdraw l) (withdrawing l) (rw e running))
   comes-in Running close e = (refl, λ t b. not-open close closing (rw e running))
-  comes-in Running round e = round-comes e
+  comes-in Running round e = round-done e
   comes-in Running reopen e = reopen-done (rw e running)
   comes-in Running (print size) e = (refl, λ t b. print-running size e)
   comes-in Running (save size) e = write-comes (save size) (saved m) size (saves size)

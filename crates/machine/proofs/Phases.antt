@@ -1,16 +1,14 @@
 -- Each call in each phase, as equations.
-use Prim.Native.Nat.{ℕ, _<_}
-use mathlib.Core.Path.{_≡_, refl, ap}
-use mathlib.Core.Bool.{Bool, cond}
+use Prim.Native.Nat.{ℕ}
+use mathlib.Core.Path.{_≡_, refl}
 use mathlib.Core.List.{List}
-use Rattle.lists.proofs.Deciding.{so, ltb·}
 use Rattle.rows.specs.declared.Row.{Row}
 use Rattle.rows.specs.Batch.{Turn, feed}
 use Rattle.machine.specs.declared.Verdict.{Verdict}
 use Rattle.machine.specs.declared.Phase.{Phase}
 use Rattle.machine.specs.declared.Phase.the-variants.{Open, Running, Settled}
 use Rattle.machine.specs.Machine.{Machine, load-row, withdraw-row, closed, next-round, reopened}
-use Rattle.machine.specs.Calls.{Call, load, withdraw, close, round, reopen, print, Next, accept, refuse, with-rows, call-in}
+use Rattle.machine.specs.Calls.{Call, load, withdraw, close, round, reopen, print, accept, refuse, with-rows, call-in}
 use Rattle.machine.specs.Causes.{NotOpen, running, settled, NeedsOpen, loading, withdrawing, closing, NeedsClosed, reopening, rounding, printing}
 
 -- ---- refusals
@@ -60,9 +58,9 @@ pub open-closes : (m : Machine) → call-in Open m close ≡ accept (closed m)
 unfolding call-in
 open-closes m = refl
 
-pub running-rounds : (m : Machine) → m .rounds < 129 → call-in Running m round ≡ accept (next-round m)
+pub running-rounds : (m : Machine) → call-in Running m round ≡ accept (next-round m)
 unfolding call-in
-running-rounds m h = ap (λ (x : Bool). cond {A = Next} x (accept (next-round m)) (refuse m 13)) (so (ltb· (m .rounds) 129) h)
+running-rounds m = refl
 
 pub not-open-reopens : {p : Phase} → NotOpen p → (m : Machine) → call-in p m reopen ≡ accept (reopened m)
 unfolding call-in

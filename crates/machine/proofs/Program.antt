@@ -38,15 +38,15 @@ settled-formed rows t = run-formed (open-with rows) settle settle-brings (opened
 
 -- it has a sheet that fits
 module _ (rows : List Row) (t : Table rows) where
-  s : Settles rows
-  s = settles rows (t .few-sets)
+  abbrev s : Settles rows
+  s = settles rows
 
   m : Machine
   m = run (open-with rows) settle
 
   phase : m .phase ≡ Settled (s .verdict)
   unfolding m
-  phase = ap (λ (x : Machine). x .phase) (settle-runs rows s) ∙ s .phase
+  phase = ap (λ (x : Machine). x .phase) (settle-runs rows t) ∙ s .phase
 
   formed : WellFormed m
   unfolding m

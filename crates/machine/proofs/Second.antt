@@ -19,7 +19,7 @@ use Rattle.machine.specs.Calls.{run, settle, second}
 use Rattle.machine.specs.WellFormed.{Table, after}
 use Rattle.machine.specs.Statements.{loop-first, opening-key, Listed, Number, ByRounds, no-round, one-round, Works, SecondWorks}
 use Rattle.machine.proofs.Rounding.{close-closed, round-rounded}
-use Rattle.machine.proofs.Settling.{after-after, Settles, settles}
+use Rattle.machine.proofs.Settling.{after-after, Settles, settles, few-rounds}
 use Rattle.machine.proofs.Openings.{after-listed}
 use Rattle.machine.proofs.Loading.{loads-back}
 use Rattle.machine.proofs.History.{settle-runs}
@@ -74,8 +74,8 @@ module _ (rows : List Row) where
       same-machine m m′ e (w .settled ∙ (ap Settled (n .0) ∙ sym (u .settled))) (same-listed m m′ e (n .1) (w .listed) (u .listed)) (n .1)
 
   module _ (t : Table rows) where
-    s : Settles rows
-    s = settles rows (t .few-sets)
+    abbrev s : Settles rows
+    s = settles rows
 
     by-rounds : (n k : ℕ) → k + n ≡ s .rounds → ByRounds (after rows k) (after rows (s .rounds))
     by-rounds zero k e = let i : k ≡ s .rounds = omega arith in subst (λ j. ByRounds (after rows k) (after rows j)) i no-round
@@ -90,12 +90,12 @@ module _ (rows : List Row) where
       settled = s .phase;
       listed = after-listed rows (s .rounds);
       number = rw c (s .number);
-      most = rw c (s .most);
+      most = rw c (few-rounds rows (t .few-sets));
     }
 
     second-after : second rows ≡ after rows (s .rounds)
     unfolding second
-    second-after = ap (λ x. run x settle) (load-sorted rows t) ∙ settle-runs rows s
+    second-after = ap (λ x. run x settle) (load-sorted rows t) ∙ settle-runs rows t
 
     pub second-works : SecondWorks rows
     second-works = let w : Works rows (second rows) = rw second-after settled-works in

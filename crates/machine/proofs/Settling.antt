@@ -1,5 +1,6 @@
--- The machine's rounds are the rounds of the definitions (`after-after`), so its numbers are depths; it settles after at most 129 rounds, with
--- the verdict and the number that the demands name (`settles`).
+-- The machine's rounds are the rounds of the definitions (`after-after`), so its numbers are depths. Every round but the last opens something
+-- (`running-opened`), so it settles after at most one round more than there are claims, with the verdict and the number that the demands name
+-- (`settles`); with at most 64 sets these are 129 (`few-rounds`).
 use Prim.Native.Nat.{ℕ, zero, suc, _≤_, _<_, _+_}
 use mathlib.Core.Path.{_≡_, refl, ap, sym, _∙_, subst}
 use mathlib.Core.Logic.{_⊎_, inl, inr, ⊎-elim, _↔_}
@@ -27,7 +28,7 @@ use Rattle.machine.specs.declared.Verdict.{Verdict}
 use Rattle.machine.specs.declared.Verdict.the-variants.{NonEmpty, Empty}
 use Rattle.machine.specs.declared.Phase.{Phase}
 use Rattle.machine.specs.declared.Phase.the-variants.{Running, Settled}
-use Rattle.machine.specs.Machine.{Opening, Machine, open-with, open-claims, opened-next}
+use Rattle.machine.specs.Machine.{most-sets, most-rounds, Opening, Machine, open-with, open-claims, opened-next}
 use Rattle.machine.specs.WellFormed.{after}
 use Rattle.machine.specs.Statements.{SomeWalk, Closed, Rounded, Number}
 use Rattle.machine.proofs.Rounding.{close-closed, opened-next-iff, round-news, round-rounded}
@@ -167,66 +168,81 @@ module _ (rows : List Row) where
       go (Settled Empty) e (ends n g i v) = let z : _≡_ {A = ℕ} 0 1 = cc in absurd (omega arith)
       go Running e (goes-on n o) = let z : _≡_ {A = ℕ} 0 1 = cc in absurd (omega arith)
 
+  -- where it still runs, the last round opened something
+  pub running-opened : (k : ℕ) → after rows k .phase ≡ Running → Opened S k
+  running-opened k e = go (after rows k .phase) e (told k)
+    where
+      go : (p : Phase) → p ≡ Running → Told k p → Opened S k
+      go (Settled NonEmpty) e (walks r) = let z : _≡_ {A = ℕ} 0 1 = cc in absurd (omega arith)
+      go (Settled Empty) e (ends n g i v) = let z : _≡_ {A = ℕ} 0 1 = cc in absurd (omega arith)
+      go Running e (goes-on n o) = o
+
   -- settled after K rounds, running before, and K is the number that the verdict asks for
   pub record Settles : Type 0 where
     pub rounds : ℕ
     pub verdict : Verdict
-    pub most : rounds ≤ 129
+    pub most : rounds ≤ suc (length (claims rows))
     pub phase : after rows rounds .phase ≡ Settled verdict
     pub before : (j : ℕ) → j < rounds → after rows j .phase ≡ Running
     pub number : Number rows verdict rounds
 
-  module _ (few : length (standing-sets rows) ≤ 64) where
-    -- at most 128 rounds open something
-    opened-few : (k : ℕ) → Opened S k → k ≤ 128
-    unfolding OpenBy
-    opened-few k (inl e) = omega arith
-    opened-few zero (inr p) = omega arith
-    opened-few (suc k) (inr p) = elim (decLt k 128) [
-      | yes l ↦ l
-      | no n ↦ absurd (p .1 .1 (open-le S (lawful rows) 128 k (p .0) (omega arith) (at-most rows 128 (suc k) (p .0) (omega (arith, claims-length rows)) (inr (p .1 .0)))))
-    ]
+  abbrev n-claims : ℕ
+  n-claims = length (claims rows)
 
-    -- running before round k, with no walk, and each of these rounds but the first opened something
-    record Running-to (k : ℕ) : Type 0 where
-      most : k ≤ 129
-      before : (j : ℕ) → j < k → after rows j .phase ≡ Running
-      unreached : (j : ℕ) → j < k → ¬ Reached S j
-      prior : (g : ℕ) → k ≡ suc g → Opened S g
+  -- at most as many rounds open something as there are claims
+  opened-few : (k : ℕ) → Opened S k → k ≤ n-claims
+  unfolding OpenBy
+  opened-few k (inl e) = omega arith
+  opened-few zero (inr p) = omega arith
+  opened-few (suc k) (inr p) = elim (decLt k n-claims) [
+    | yes l ↦ l
+    | no n ↦ absurd (p .1 .1 (open-le S (lawful rows) n-claims k (p .0) (omega arith) (at-most rows n-claims (suc k) (p .0) (omega arith) (inr (p .1 .0)))))
+  ]
 
-    one-more : (k : ℕ) → Running-to k → Settles ⊎ Running-to (suc k)
-    one-more k t = go (after rows k .phase) refl (told k)
-      where
-        go : (p : Phase) → after rows k .phase ≡ p → Told k p → Settles ⊎ Running-to (suc k)
-        go (Settled NonEmpty) f (walks r) = inl (record {
-          rounds = k;
-          verdict = NonEmpty;
-          most = t .most;
-          phase = f;
-          before = t .before;
-          number = (nonempty-iff S (lawful rows) .1 (k, r), least-accepted S (lawful rows) k r (t .unreached));
-        })
-        go (Settled Empty) f (ends m g i v) = inl (record {
-          rounds = k;
-          verdict = Empty;
-          most = t .most;
-          phase = f;
-          before = t .before;
-          number = (
-            (λ x. let r = nonempty-iff S (lawful rows) .0 x in m (reached-later S (lawful rows) g k (omega arith) (reached-stop S (lawful rows) g v (r .0) (r .1)))),
-            (g, i, greatest-least-depth S (lawful rows) g v (t .prior g i)),
-          );
-        })
-        go Running f (goes-on m o) = inr (record {
-          most = omega (arith, opened-few k o);
-          before = below-next k (t .before) f;
-          unreached = below-next k (t .unreached) m;
-          prior = λ g i. let j : k ≡ g = omega arith in subst (Opened S) j o;
-        })
+  -- running before round k, with no walk, and each of these rounds but the first opened something
+  record Running-to (k : ℕ) : Type 0 where
+    most : k ≤ suc n-claims
+    before : (j : ℕ) → j < k → after rows j .phase ≡ Running
+    unreached : (j : ℕ) → j < k → ¬ Reached S j
+    prior : (g : ℕ) → k ≡ suc g → Opened S g
 
-    within : (n k : ℕ) → k + n ≡ 130 → Running-to k → Settles
-    within zero k e t = absurd (omega (arith, t .most))
-    within (suc n) k e t = ⊎-elim (λ s. s) (within n (suc k) (omega arith)) (one-more k t)
+  one-more : (k : ℕ) → Running-to k → Settles ⊎ Running-to (suc k)
+  one-more k t = go (after rows k .phase) refl (told k)
+    where
+      go : (p : Phase) → after rows k .phase ≡ p → Told k p → Settles ⊎ Running-to (suc k)
+      go (Settled NonEmpty) f (walks r) = inl (record {
+        rounds = k;
+        verdict = NonEmpty;
+        most = t .most;
+        phase = f;
+        before = t .before;
+        number = (nonempty-iff S (lawful rows) .1 (k, r), least-accepted S (lawful rows) k r (t .unreached));
+      })
+      go (Settled Empty) f (ends m g i v) = inl (record {
+        rounds = k;
+        verdict = Empty;
+        most = t .most;
+        phase = f;
+        before = t .before;
+        number = (
+          (λ x. let r = nonempty-iff S (lawful rows) .0 x in m (reached-later S (lawful rows) g k (omega arith) (reached-stop S (lawful rows) g v (r .0) (r .1)))),
+          (g, i, greatest-least-depth S (lawful rows) g v (t .prior g i)),
+        );
+      })
+      go Running f (goes-on m o) = inr (record {
+        most = omega (arith, opened-few k o);
+        before = below-next k (t .before) f;
+        unreached = below-next k (t .unreached) m;
+        prior = λ g i. let j : k ≡ g = omega arith in subst (Opened S) j o;
+      })
 
-    pub settles : Settles
-    settles = within 130 0 refl (record { most = omega arith; before = λ j l. absurd (omega arith); unreached = λ j l. absurd (omega arith); prior = λ g i. absurd (omega arith) })
+  within : (n k : ℕ) → k + n ≡ suc (suc n-claims) → Running-to k → Settles
+  within zero k e t = absurd (omega (arith, t .most))
+  within (suc n) k e t = ⊎-elim (λ s. s) (within n (suc k) (omega arith)) (one-more k t)
+
+  pub settles : Settles
+  settles = within (suc (suc n-claims)) 0 (omega arith) (record { most = omega arith; before = λ j l. absurd (omega arith); unreached = λ j l. absurd (omega arith); prior = λ g i. absurd (omega arith) })
+
+  -- with at most 64 sets, two claims each, at most 129
+  pub few-rounds : length (standing-sets rows) ≤ most-sets → settles .rounds ≤ most-rounds
+  few-rounds few = omega (arith, settles .most, claims-length rows)

@@ -1,14 +1,12 @@
--- What holds of every machine that calls make from a fresh one: main laws `settled-number`, `second-is`, `no-13`, `prints`, `sheet-fits`,
+-- What holds of every machine that calls make from a fresh one: main laws `settled-number`, `second-is`, `prints`, `sheet-fits`,
 -- `every-print`.
-use Prim.Native.Nat.{ℕ, suc, _≤_, _<_}
+use Prim.Native.Nat.{ℕ, _≤_}
 use mathlib.Core.Path.{_≡_, refl, ap, sym, _∙_, subst}
 use mathlib.Core.Bool.{Bool, cond}
-use mathlib.Core.Logic.{⊎-elim}
 use mathlib.Core.Option.{some}
 use mathlib.Core.List.{List}
 use lib.ListN.{length}
 use native.Mathlib.Omega.{arith}
-use native.Mathlib.Nat.{eq-or-lt-of-le}
 use Rattle.lists.specs.Order.{sort-by}
 use Rattle.lists.proofs.Deciding.{not-so, ltb·}
 use Rattle.rows.specs.declared.Row.{Row}
@@ -16,24 +14,23 @@ use Rattle.rows.specs.Rows.{row-bytes, batch-of}
 use Rattle.machine.specs.declared.Verdict.{Verdict}
 use Rattle.machine.specs.declared.Verdict.the-variants.{NonEmpty}
 use Rattle.machine.specs.declared.Phase.{Phase}
-use Rattle.machine.specs.declared.Phase.the-variants.{Running, Settled}
-use Rattle.machine.specs.Machine.{Machine, open-with, fresh, open-claims}
+use Rattle.machine.specs.declared.Phase.the-variants.{Settled}
+use Rattle.machine.specs.Machine.{most-rounds, Machine, open-with, fresh, open-claims}
 use Rattle.machine.specs.Order.{Found, Best}
 use Rattle.machine.specs.Search.{shortest}
 use Rattle.machine.specs.Sheet.{sheet}
-use Rattle.machine.specs.Calls.{Call, load, print, Outcome, wrote, refused, Next, call-in, call, run, settle, second, Brings}
+use Rattle.machine.specs.Calls.{load, print, Outcome, wrote, refused, Next, call-in, call, run, settle, second}
 use Rattle.machine.specs.Causes.{Writes, sheets}
 use Rattle.machine.specs.WellFormed.{Table, after, Worked, Made, WellFormed}
 use Rattle.machine.specs.Statements.{SomeWalk, Number, Listed, Prints, EveryPrint}
-use Rattle.machine.proofs.Settling.{after-after, settled-walk, Settles, settles}
+use Rattle.machine.proofs.Settling.{after-after, settled-walk, Settles, settles, few-rounds}
 use Rattle.machine.proofs.Openings.{after-listed, openings-few}
 use Rattle.machine.proofs.Search.{shortest-best}
 use Rattle.machine.proofs.Walks.{best-short}
 use Rattle.machine.proofs.Sheet.{sheet-short}
 use Rattle.machine.proofs.Loading.{loads-back}
-use Rattle.machine.proofs.Causes.{refusals, only-rounds}
 use Rattle.machine.proofs.Outcomes.{comes}
-use Rattle.machine.proofs.History.{fresh-formed, settle-runs, no-more, as-many, not-both}
+use Rattle.machine.proofs.History.{fresh-formed, settle-runs, no-more, as-many}
 
 -- a table of rows, loaded in one batch, sorted
 pub load-sorted : (rows : List Row) → Table rows → call fresh (load (batch-of (sort-by row-bytes rows))) .machine ≡ open-with rows
@@ -44,8 +41,8 @@ print-writes : (m : Machine) {size k : ℕ} {l : List ℕ} → Writes m (print s
 print-writes m (sheets v size e) = (v, e, refl, refl)
 
 module _ (m : Machine) (w : WellFormed m) where
-  s : Settles (m .rows)
-  s = settles (m .rows) (w .table .few-sets)
+  abbrev s : Settles (m .rows)
+  s = settles (m .rows)
 
   -- settled, it has done as many rounds as its rows take
   settled-is : (v : Verdict) → m .phase ≡ Settled v → m ≡ after (m .rows) (s .rounds)
@@ -59,24 +56,13 @@ module _ (m : Machine) (w : WellFormed m) where
   rounds-is v e = ap (λ (x : Machine). x .rounds) (settled-is v e) ∙ after-after (m .rows) (s .rounds) .count
 
   -- the round number is the depth that demand 3 names, at most 129
-  pub settled-number : (v : Verdict) → m .phase ≡ Settled v → Number (m .rows) v (m .rounds) × (m .rounds ≤ 129)
-  settled-number v e = (rw (rounds-is v e, ← verdict-is v e) (s .number), rw (rounds-is v e) (s .most))
+  pub settled-number : (v : Verdict) → m .phase ≡ Settled v → Number (m .rows) v (m .rounds) × (m .rounds ≤ most-rounds)
+  settled-number v e = (rw (rounds-is v e, ← verdict-is v e) (s .number), rw (rounds-is v e) (few-rounds (m .rows) (w .table .few-sets)))
 
   -- the second machine is the first
   pub second-is : (v : Verdict) → m .phase ≡ Settled v → second (m .rows) ≡ m
   unfolding second
-  second-is v e = ap (λ x. run x settle) (load-sorted (m .rows) (w .table)) ∙ settle-runs (m .rows) s ∙ sym (settled-is v e)
-
-  -- a 130th round is never done
-  pub never-130th : m .phase ≡ Running → m .rounds < 129
-  never-130th e = let k : Worked m = subst (Made m) e (w .made) in
-      let f = sym (ap (λ (x : Machine). x .phase) (k .1)) ∙ e in
-      let c = ap (λ (x : Machine). x .rounds) (k .1) ∙ after-after (m .rows) (k .0) .count in
-      ⊎-elim (λ i. not-both f (subst (λ j. after (m .rows) j .phase ≡ Settled (s .verdict)) (sym i) (s .phase))) (λ l. omega (arith, s .most))
-      (eq-or-lt-of-le (no-more (m .rows) s (k .0) (k .2)))
-
-  pub no-13 : (c : Call) (place : ℕ) → Brings c → ¬ (call m c .answer ≡ refused 13 place)
-  no-13 c place b e = let h = only-rounds m c 13 place refl (refusals m c 13 place (w .table) b .0 e) in omega (arith, never-130th (h .0), h .1)
+  second-is v e = ap (λ x. run x settle) (load-sorted (m .rows) (w .table)) ∙ settle-runs (m .rows) (w .table) ∙ sym (settled-is v e)
 
   pub worked-listed : Worked m → Listed m
   worked-listed k = subst Listed (sym (k .1)) (after-listed (m .rows) (k .0))

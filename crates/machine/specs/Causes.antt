@@ -11,7 +11,7 @@ use Rattle.rows.specs.Reading.{Malformed}
 use Rattle.machine.specs.declared.Verdict.{Verdict}
 use Rattle.machine.specs.declared.Phase.{Phase}
 use Rattle.machine.specs.declared.Phase.the-variants.{Open, Running, Settled}
-use Rattle.machine.specs.Machine.{most-rows, most-sets, most-rounds, Machine}
+use Rattle.machine.specs.Machine.{most-rows, most-sets, Machine}
 use Rattle.machine.specs.Sheet.{sheet}
 use Rattle.machine.specs.Calls.{Call, load, withdraw, close, round, reopen, print, save, saved}
 
@@ -87,8 +87,6 @@ pub data Cause (m : Machine) : Call → ℕ → ℕ → Type 0 where
   print-running : (size : ℕ) → m .phase ≡ Running → Cause m (print size) 11 0
   -- print or save: buffer too short
   short-buffer : (c : Call) (l : List ℕ) (size : ℕ) → Writes m c l size → size < length l → Cause m c 12 0
-  -- a 130th round
-  last-round : m .phase ≡ Running → most-rounds ≤ m .rounds → Cause m round 13 0
 
 -- beside the table: the number with which a call refuses a session record that is foreign to it, since no calls make it; the place is 0
 abbrev pub foreign-record : ℕ

@@ -1,6 +1,6 @@
--- What is shown of the plain machine, as statements: `Closed`, `Rounded`, `Listed`, `Works`, `SecondWorks`, `Prints`, `Saves`. Nothing here is
+-- What is shown of the plain machine, as statements: `Closed`, `Rounded`, `Listed`, `Works`, `SecondWorks`, `RoundsEnd`, `Prints`, `Saves`. Nothing here is
 -- computed by the machine's own search.
-use Prim.Native.Nat.{ℕ, suc, _≤_}
+use Prim.Native.Nat.{ℕ, suc, _≤_, _<_, _*_}
 use mathlib.Core.Path.{_≡_}
 use mathlib.Core.Logic.{_⊎_, _↔_, _≢_}
 use mathlib.Core.List.{List, [], _∷_}
@@ -8,16 +8,16 @@ use lib.ListN.{length}
 use Rattle.lists.specs.Tests.{_among_, Once}
 use Rattle.lists.specs.Order.{Sorted, sort-by}
 use Rattle.rows.specs.declared.Row.{Row}
-use Rattle.rows.specs.Rows.{row-bytes, batch-of, AllFit, Bytes}
+use Rattle.rows.specs.Rows.{row-bytes, batch-of, AllFit, Bytes, standing-sets}
 use Rattle.orderings.specs.Steps.{Claim, loops, mixes, set-of, Walk}
 use Rattle.orderings.specs.Systems.{Allowed, Holds, LeastDepth, GreatestLeast, Accepts, LeastAccepted}
 use Rattle.orderings.specs.Timelines.{Accepting, timelines}
 use Rattle.machine.specs.declared.Verdict.{Verdict}
 use Rattle.machine.specs.declared.Verdict.the-variants.{NonEmpty, Empty}
 use Rattle.machine.specs.declared.Phase.the-variants.{Open, Running, Settled}
-use Rattle.machine.specs.Machine.{most-rounds, Opening, Machine, open-with, fresh, open-claims}
+use Rattle.machine.specs.Machine.{most-sets, most-rounds, Opening, Machine, open-with, fresh, open-claims}
 use Rattle.machine.specs.Sheet.{sheet}
-use Rattle.machine.specs.Calls.{Call, load, print, done, wrote, accept, call, run, second, Brings}
+use Rattle.machine.specs.Calls.{Call, load, round, print, done, wrote, accept, call, run, second, Brings}
 
 -- a walk of zero or more steps, with letter steps and steps of the claims l, leads from an initial to a final state
 abbrev pub SomeWalk : List Row → List Claim → Type 0
@@ -105,6 +105,23 @@ Loaded m l m′ = (batch : List Row) × AllFit batch × (l ≡ batch-of batch) �
 
 abbrev pub Withdrawn : Machine → List ℕ → Machine → Type 0
 Withdrawn m l m′ = (batch : List Row) × AllFit batch × (l ≡ batch-of batch) × ((r : Row) → r among m′ .rows ↔ (r among m .rows × ¬ (r among batch)))
+
+-- request C-14, of a machine that calls make: rounds end, since every round but the last opens something
+pub record RoundsEnd (m : Machine) : Type 0 where
+  pub opened : (k : ℕ) → 1 ≤ k → k < m .rounds → (o : Opening) × (o .round ≡ k) × o among m .openings
+  -- so at most one more is done than claims are open
+  pub counted : m .rounds ≤ suc (length (m .openings))
+  -- of which each set has two, and at most 64 sets stand
+  pub two-each : length (m .openings) ≤ 2 * length (standing-sets (m .rows))
+  pub few-sets : length (standing-sets (m .rows)) ≤ most-sets
+  -- that makes 129
+  pub so-far : m .rounds ≤ most-rounds
+  -- and a round that is done next is none beyond
+  pub next : call m round .answer ≡ done → suc (m .rounds) ≤ most-rounds
+
+-- from any list of calls a round is never the 130th
+abbrev pub NeverThe130th : Type 0
+NeverThe130th = (cs : List Call) → ((c : Call) → c among cs → Brings c) → RoundsEnd (run fresh cs)
 
 -- demand 3 at one print: the machine m was fed the calls before it, and the buffer has some size
 pub record Prints (m : Machine) (size : ℕ) : Type 0 where

@@ -9,7 +9,7 @@ use Rattle.rows.specs.declared.Row.{Row}
 use Rattle.rows.specs.Rows.{row-bytes, AllFit, standing-sets}
 use Rattle.machine.specs.declared.Phase.{Phase}
 use Rattle.machine.specs.declared.Phase.the-variants.{Open, Running, Settled}
-use Rattle.machine.specs.Machine.{most-rows, most-sets, Machine, open-with, closed, next-round}
+use Rattle.machine.specs.Machine.{most-rows, most-sets, most-rounds, Machine, open-with, closed, next-round}
 
 -- at most 256 rows stand, and at most 64 different sets; as a list they are sorted, none twice
 pub record Table (rows : List Row) : Type 0 where
@@ -33,6 +33,12 @@ abbrev pub Made : Machine → Phase → Type 0
 Made m Open = m ≡ open-with (m .rows)
 Made m Running = Worked m
 Made m (Settled v) = Worked m
+
+-- the most rounds that calls lead to, by the phase: the 129th settles
+abbrev pub most-done : Phase → ℕ
+most-done Open = 0
+most-done Running = 128
+most-done (Settled v) = most-rounds
 
 pub record WellFormed (m : Machine) : Type 0 where
   pub table : Table (m .rows)

@@ -17,7 +17,7 @@ use Rattle.machine.specs.declared.Phase.the-variants.{Running}
 use Rattle.machine.specs.Machine.{Machine, open-with, judged, closed, open-claims, next-round}
 use Rattle.machine.specs.Calls.{run, settle}
 use Rattle.machine.specs.WellFormed.{Table, after, WellFormed}
-use Rattle.machine.proofs.Settling.{below-next, Settles, settles, after-after}
+use Rattle.machine.proofs.Settling.{below-next, settles, few-rounds, after-after}
 use Rattle.machine.proofs.History.{settle-runs, no-more}
 use Rattle.search.specs.declared.Claims.{Claims}
 use Rattle.search.specs.Graph.{Graph}
@@ -142,11 +142,8 @@ pub kept-settled : (rows : List Row) → Table rows → (k : ℕ) (loop-rounds m
     → ((j : ℕ) → j < k → after rows j .phase ≡ Running) → (129 ≤ k) ⊎ (¬ (phase ≡ Running))
     → Mirrors (after rows k) loop-rounds mix-rounds phase count → Mirrors (run (open-with rows) settle) loop-rounds mix-rounds phase count
 kept-settled rows t k loop-rounds mix-rounds phase count before ended kept =
-    subst (λ (m : Machine). Mirrors m loop-rounds mix-rounds phase count) (ap (after rows) all-done ∙ sym (settle-runs rows s)) kept
+    subst (λ (m : Machine). Mirrors m loop-rounds mix-rounds phase count) (ap (after rows) all-done ∙ sym (settle-runs rows t)) kept
   where
-    s : Settles rows
-    s = settles rows (t .few-sets)
-
-    all-done : k ≡ s .rounds
-    all-done = let l = no-more rows s k before in
-        ⊎-elim (λ h. omega (arith, l, s .most)) (λ h. ⊎-elim (λ e. e) (λ i. absurd (h (kept .phase-is ∙ s .before k i))) (eq-or-lt-of-le l)) ended
+    all-done : k ≡ settles rows .rounds
+    all-done = let s = settles rows in let l = no-more rows s k before in
+        ⊎-elim (λ h. omega (arith, l, few-rounds rows (t .few-sets))) (λ h. ⊎-elim (λ e. e) (λ i. absurd (h (kept .phase-is ∙ s .before k i))) (eq-or-lt-of-le l)) ended

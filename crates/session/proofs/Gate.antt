@@ -1,5 +1,5 @@
 -- The gate at the head of the calls: what a call does by the state of its session, and what it does where it is done or refused.
-use Prim.Native.Nat.{ℕ, _<_}
+use Prim.Native.Nat.{ℕ}
 use mathlib.Core.Path.{_≡_, refl, ap, sym, _∙_, subst}
 use mathlib.Core.Logic.{⊎-elim}
 use mathlib.Core.List.{List, [], _∷_}
@@ -15,6 +15,7 @@ use Rattle.machine.specs.Machine.{Machine}
 use Rattle.machine.specs.Calls.{Call, Next, accept, refuse, refuse-at, call-in, call, Tells}
 use Rattle.machine.specs.Causes.{foreign-record, NotOpen, running, settled}
 use Rattle.machine.proofs.Answers.{tells-as, tells-refused}
+use Rattle.machine.proofs.Ending.{rounds-done}
 use Rattle.session.specs.declared.Session.{Session}
 use Rattle.session.specs.declared.Reply.{Reply}
 use Rattle.session.specs.declared.State.{State}
@@ -23,7 +24,7 @@ use Rattle.session.specs.declared.State.the-variants.{Foreign, Open as I
 use Rattle.session.specs.Record.{record-of, Represents}
 use Rattle.session.specs.Promise.{Does, Keeps, Ranged, IsForeign, Promised, HasState}
 use Rattle.session.specs.Standing.{reply}
-use Rattle.session.proofs.Whole.{count-of, set-count-of, phase-of}
+use Rattle.session.proofs.Whole.{count-of, set-count-of, phase-of, rounds-count}
 
 -- ---- what is done for one machine
 
@@ -44,9 +45,13 @@ module _ (m : Machine) (c : Call) (old : List ℕ) {r : Reply} where
 
 -- ---- what a record is
 
--- the counts of a machine's record are within the arrays
+-- the counts of a machine's record are within the arrays, and it has done no more rounds than calls lead to
 pub ranged : (m : Machine) (s : Session) → Represents m s → Ranged s
-ranged m s p = record { few = omega (arith, count-of m s p, p .formed .table .few); few-sets = omega (arith, set-count-of m s p, p .formed .table .few-sets) }
+ranged m s p = record {
+  few = omega (arith, count-of m s p, p .formed .table .few);
+  few-sets = omega (arith, set-count-of m s p, p .formed .table .few-sets);
+  few-rounds = rw (rounds-count m s p, phase-of m s p) (rounds-done m (p .formed));
+}
 
 -- a foreign record is that of no machine
 pub foreign-none : (m : Machine) (s : Session) → Represents m s → ¬ IsForeign s

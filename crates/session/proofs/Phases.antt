@@ -1,5 +1,5 @@
 -- Close, round and reopen: what the machine does, and what the session does.
-use Prim.Native.Nat.{_<_, _≤_}
+use Prim.Native.Nat.{_<_}
 use mathlib.Core.Path.{_≡_, refl}
 use mathlib.Core.List.{[]}
 use lib.ListN.{replicate}
@@ -10,7 +10,6 @@ use Rattle.machine.specs.Machine.{closed, next-round, reopened}
 use Rattle.machine.specs.Calls.{close, round, reopen}
 use Rattle.machine.specs.Causes.{NotOpen}
 use Rattle.machine.proofs.Phases.{open-closes, running-rounds, not-open-reopens}
-use Rattle.machine.proofs.Statements.{never-130th}
 use Rattle.automaton.specs.declared.Automaton.{Automaton}
 use Rattle.search.specs.Graph.{graph-of}
 use Rattle.rounds.specs.declared.Progress.{Progress}
@@ -20,13 +19,8 @@ use Rattle.session.specs.declared.Reply.{Reply}
 use Rattle.session.specs.declared.State.the-variants.{Open as IsOpen, Running as IsRunning}
 use Rattle.session.specs.Promise.{Ranged, Promised, HasState}
 use Rattle.session.specs.Standing.{reply, rounds-in, with-rounds, Reads}
-use Rattle.session.proofs.Whole.{rounds-count}
-use Rattle.session.proofs.Gate.{in-phase, promised, done-in}
+use Rattle.session.proofs.Gate.{done-in}
 use Rattle.session.proofs.Rounded.{closed-record, reopened-record, round-record}
-
--- a machine that runs has done fewer than 129 rounds: on a record past that the answer is free
-pub never-past : (s : Session) → HasState s IsRunning → 129 ≤ s .rounds → {r : Reply} → Promised s round [] [] r
-never-past s state h = promised (state .0) refl (λ m p. absurd (omega (arith, rounds-count m s p, never-130th m (p .formed) (in-phase m s p (state .1)))))
 
 module _ (s : Session) (a : Automaton) (reads : Reads s a) (now : Progress) {r : Reply} (made : r ≡ reply (with-rounds s now) Done) where
   pub close-done : HasState s IsOpen → Closes (graph-of (a .graph)) (a .initials) (a .finals) now → Promised s close [] [] r
@@ -35,11 +29,11 @@ module _ (s : Session) (a : Automaton) (reads : Reads s a) (now : Progress) {r :
   pub round-done : HasState s IsRunning → (before : Progress) → before ≡ rounds-in s
       → DoesRound (graph-of (a .graph)) (a .initials) (a .finals) (s .«set_count») before now → Promised s round [] [] r
   round-done state before k d =
-      done-in s next-round state (λ m p e. running-rounds m (never-130th m (p .formed) e)) (λ m p. round-record m s p a now reads (rw k at d)) made
+      done-in s next-round state (λ m p e. running-rounds m) (λ m p. round-record m s p a now reads (rw k at d)) made
 
--- the count of rounds is the record's
-pub rounds-few : (s : Session) (before : Progress) → before ≡ rounds-in s → s .rounds < 129 → before .rounds < 129
-rounds-few s before k h = rw k h
+-- a running session has room for a round
+pub rounds-few : (s : Session) (before : Progress) → before ≡ rounds-in s → HasState s IsRunning → before .rounds < 129
+rounds-few s before k h = rw k (omega (arith, rw (h .1) at (h .0 .few-rounds)))
 
 pub reopen-done : (s : Session) {r : Reply} → Ranged s → NotOpen (s .phase)
     → r ≡ reply (with-rounds s (record { «loop_rounds» = replicate 64 0; «mix_rounds» = replicate 64 0; phase = Open; rounds = 0 })) Done

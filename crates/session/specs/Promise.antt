@@ -7,6 +7,7 @@ use Rattle.machine.specs.declared.Phase.the-variants.{Open, Running, Settled}
 use Rattle.machine.specs.Machine.{Machine, fresh}
 use Rattle.machine.specs.Calls.{Call, refused, call, Tells}
 use Rattle.machine.specs.Causes.{foreign-record}
+use Rattle.machine.specs.WellFormed.{most-done}
 use Rattle.session.specs.declared.Session.{Session}
 use Rattle.session.specs.declared.Reply.{Reply}
 use Rattle.session.specs.declared.State.{State}
@@ -27,10 +28,11 @@ pub record Does (m : Machine) (c : Call) (old new : List ℕ) (r : Reply) : Type
 abbrev pub Keeps : Session → Call → List ℕ → List ℕ → Reply → Type 0
 Keeps s c old new r = (m : Machine) → Represents m s → Does m c old new r
 
--- the counts are within the arrays
+-- the counts are within the arrays, and the count of rounds within what calls lead to in its phase
 pub record Ranged (s : Session) : Type 0 where
   pub few : s .«row_count» ≤ 256
   pub few-sets : s .«set_count» ≤ 64
+  pub few-rounds : s .rounds ≤ most-done (s .phase)
 
 -- a record that every call knows for one that no calls make
 abbrev pub IsForeign : Session → Type 0

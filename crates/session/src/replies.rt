@@ -3,13 +3,26 @@ use crate::Reply;
 use crate::Session;
 use crate::State;
 use machine::Answer;
+use machine::MOST_ROUNDS;
 use machine::MOST_ROWS;
 use machine::MOST_SETS;
 use machine::Phase;
 ghost use mathlib.Core.Path.{_≡_};
 ghost use Rattle.machine.specs.declared.Answer.the-variants.{Refused};
+ghost use Rattle.machine.specs.WellFormed.{most-done};
 ghost use Rattle.session.specs.Promise.{HasState};
 ghost use Rattle.session.specs.Standing.{reply};
+
+// The most rounds that calls lead to, by the phase: the last of them settles.
+fn most_done(phase: Phase) -> u8
+    ensures { λ r. ⌜ r ≡ most-done phase ⌝ }
+{
+    match phase {
+        Phase::Open => 0,
+        Phase::Running => MOST_ROUNDS - 1,
+        Phase::Settled(_) => MOST_ROUNDS,
+    }
+}
 
 impl Session {
     // What the record is to a call.
@@ -25,6 +38,10 @@ impl Session {
             return State::Foreign;
         }
         let phase = self.phase;
+        let rounds = self.rounds;
+        if rounds > most_done(phase) {
+            return State::Foreign;
+        }
         match phase {
             Phase::Open => State::Open,
             Phase::Running => State::Running,

@@ -4,13 +4,11 @@ use crate::Session;
 use crate::State;
 use machine::Answer;
 use machine::FOREIGN_RECORD;
-use machine::MOST_ROUNDS;
 use machine::MOST_SETS;
 use machine::Phase;
 use rounds::Progress;
 ghost use mathlib.Core.Path.{_≡_};
 ghost use mathlib.Core.List.{[]};
-ghost use Prim.Native.Nat.{_<_};
 ghost use Rattle.machine.specs.declared.Answer.the-variants.{Done};
 ghost use Rattle.machine.specs.Calls.{close, round, reopen};
 ghost use Rattle.machine.specs.Causes.{NotOpen};
@@ -65,7 +63,7 @@ impl Session {
 
     // A round of a running session: what it opens depends on the claims that were open before it, and on no other.
     fn round_running(self) -> Reply
-        requires { ⌜ HasState self State.Running × (self .rounds < 129) ⌝ }
+        requires { ⌜ HasState self State.Running ⌝ }
         ensures { λ r. ⌜ Promised self round [] [] r ⌝ }
     {
         let n = self.set_count;
@@ -105,21 +103,14 @@ impl Session {
         }
     }
 
-    // Round: every claim that holds with the claims open before, and is not open yet, opens. No calls lead to a 130th.
+    // Round: every claim that holds with the claims open before, and is not open yet, opens.
     pub fn round(self) -> Reply
         ensures { λ r. ⌜ Promised self round [] [] r ⌝ }
     {
-        let rounds = self.rounds;
         match self.state() {
             State::Foreign => self.refuse(FOREIGN_RECORD),
             State::Open => self.refuse(9),
-            State::Running => {
-                if rounds < MOST_ROUNDS {
-                    self.round_running()
-                } else {
-                    self.refuse(13)
-                }
-            }
+            State::Running => self.round_running(),
             State::Settled(_) => self.refuse(10),
         }
     }

@@ -2,7 +2,6 @@
 use Rattle.machine.specs.Causes.{rounding}
 use Rattle.machine.proofs.Phases.{open-refuses, settled-refuses}
 use Rattle.session.proofs.Gate.{gate}
-use Rattle.session.proofs.Phases.{never-past}
 use borrow.Author.Needs.{needs}
 use Rattle.session.proofs.Session.round.Statement.{statement}
 use Rattle.session.proofs.Session.round.Tie as tie
@@ -17,12 +16,10 @@ round-spec =
     (λ c. search needs)
     (λ c κs. search needs)
     (λ c. search needs)
-    (λ c κs. search (gate, needs))
-    (λ c κs. search needs)
+    (λ c κs. search gate)
     (λ c. search needs)
     (λ c κs. search needs)
     (λ c. search gate)
     (λ c. search (gate, open-refuses, rounding))
     (λ c. search needs)
-    (λ c. search (gate, never-past))
     (λ c. search (gate, settled-refuses)))

@@ -10,12 +10,18 @@ returns c g = omega (arith, g .few)
 returns-2 : tie.Need-returns-2
 returns-2 c g = omega (arith, g .few-sets)
 
+-- no machine has done as many rounds
+returns-3 : tie.Need-returns-3
+returns-3 c g = omega (arith, g .few-rounds)
+
 pub state-spec : {M : Type 1} → statement M
 state-spec =
     tie.close
     (tie.spec
     returns
     returns-2
+    (λ c κs. search needs)
+    returns-3
     (λ c. search needs)
     (λ c. search needs)
     (λ c. search needs)
