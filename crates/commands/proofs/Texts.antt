@@ -1,5 +1,5 @@
 -- Lines and texts: lines passed over (`passed-empty`, `passed-first`), and what a text after a word means (`batch-bytes`, `lent-number`).
-use Prim.Native.Nat.{ℕ, zero, suc, _+_, _/_, _%_, _-_, _<_, _≤_}
+use Prim.Native.Nat.{ℕ, _+_, _/_, _%_, _-_, _<_, _≤_}
 use mathlib.Core.Path.{_≡_, refl, sym}
 use mathlib.Core.Bool.{true, false}
 use mathlib.Core.List.{List, [], _∷_}

@@ -1,7 +1,7 @@
 -- The openings of a machine: in the sheet's order, none twice, with their least depths (`after-listed`); at most two to a set (`openings-few`).
 use Prim.Native.Nat.{ℕ, zero, suc, _≤_, _<_, _+_}
 use mathlib.Core.Path.{_≡_, refl, ap, subst}
-use mathlib.Core.Logic.{_⊎_, inl, ⊎-elim, _↔_}
+use mathlib.Core.Logic.{inl, ⊎-elim, _↔_}
 use mathlib.Core.List.{List, [], _∷_, _++_, map, List·Memᴰ·cases-cons}
 use lib.ListN.{length, length-map}
 use native.Mathlib.Omega.{arith}

@@ -1,6 +1,6 @@
 -- A round of the machine does what document 01's paragraph on rounds says (`round-rounded`), and fresh, close and reopen what their lines say
 -- (`fresh-fresh`, `close-closed`, `reopen-reopened`).
-use Prim.Native.Nat.{ℕ, zero, suc, _+_}
+use Prim.Native.Nat.{ℕ, suc}
 use mathlib.Core.Path.{_≡_, refl, ap, subst}
 use mathlib.Core.Bool.{Bool, true, false}
 use mathlib.Core.Logic.{_⊎_, inl, inr, ⊎-elim, _↔_, _≢_, Iff·trans, Iff·and}

@@ -1,6 +1,6 @@
 -- The tests of specs/Decide say what the definitions say: `steps-allowed` (the steps), `holds·` (a claim), `accepts·` (a walk from an
 -- initial to a final state).
-use Prim.Native.Nat.{ℕ, zero, suc, _+_}
+use Prim.Native.Nat.{ℕ}
 use mathlib.Core.Path.{_≡_, refl, ap, sym, _∙_, subst}
 use mathlib.Core.Bool.{Bool, true, false, _||_}
 use mathlib.Core.Option.{Option, none, some}

@@ -1,5 +1,5 @@
 -- Walks of any system: the claims that they need (`allowed-use`, `allowed-more`), and how deep these are (`greatest-least`, `greatest-most`).
-use Prim.Native.Nat.{ℕ, suc, _≤_}
+use Prim.Native.Nat.{ℕ, _≤_}
 use mathlib.Core.Path.{refl, sym, subst}
 use mathlib.Core.Logic.{⊎-elim}
 use mathlib.Core.Option.{Option, none, some}

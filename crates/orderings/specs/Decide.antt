@@ -1,6 +1,6 @@
 -- Whether a claim holds (`holds?`), and whether a walk leads from an initial to a final state (`accepts?`), computed from the steps that
 -- rows and claims allow (`steps`) and the states that these reach (`reach`). Nothing here has to be believed: proofs/Deciding.
-use Prim.Native.Nat.{ℕ, suc}
+use Prim.Native.Nat.{ℕ}
 use mathlib.Core.Bool.{Bool, true, false, _&&_, _||_}
 use mathlib.Core.Option.{Option, none, some}
 use mathlib.Core.List.{List, [], _∷_, _++_, map}

@@ -15,7 +15,7 @@ use Rattle.masks.specs.Mask.{member, _∈_}
 use Rattle.masks.proofs.Member.{in-none, lt-or-le, member-lt, union-left, union-right, union-cases, intersection-left, intersection-right, intersection-both}
 use Rattle.masks.proofs.Turning.{Sources, sources-none, sources-more, sources-some}
 use Rattle.search.specs.declared.Claims.{Claims}
-use Rattle.search.specs.Graph.{part, graph-of, TurnedGraph, Indexed, TurnsInto, TurnsIndexed, Fills, PlaceAdded, PartIndexed, Unindexed, Indexes}
+use Rattle.search.specs.Graph.{part, graph-of, TurnedGraph, Indexed, TurnsInto, TurnsIndexed, Fills, PlaceAdded, PartIndexed, Indexes}
 use Rattle.search.specs.Hops.{BackOrMix, Touched}
 use Rattle.search.proofs.Parts.{at-part, past-part, letters-at, part-length, part-stays, graph-stays}
 

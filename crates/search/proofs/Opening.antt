@@ -1,12 +1,12 @@
 -- Claims that hold with the claims in force and are not in force yet, place by place.
-use Prim.Native.Nat.{ℕ, zero, suc, _+_, _<_}
+use Prim.Native.Nat.{ℕ, _+_, _<_}
 use mathlib.Core.Path.{_≡_, sym, subst, _∙_}
 use mathlib.Core.Bool.{Bool, true, false, _||_}
 use mathlib.Core.Logic.{⊎-elim, _↔_}
 use mathlib.Core.List.{List}
 use native.Mathlib.Omega.{arith}
 use lib.ListN.{length, getD}
-use Rattle.lists.specs.Tests.{Decides, _among_}
+use Rattle.lists.specs.Tests.{Decides}
 use Rattle.lists.proofs.Places.{getD-among, held-at}
 use Rattle.masks.specs.Mask.{member, _∈_}
 use Rattle.masks.proofs.Member.{in-none, lt-or-le, true-or-false, not-both, union-left, union-right, union-cases}

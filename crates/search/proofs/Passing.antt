@@ -13,7 +13,7 @@ use Rattle.masks.proofs.Member.{true-or-false, not-both, in-none, union-left, u
 use Rattle.search.specs.declared.Claims.{Claims}
 use Rattle.search.specs.Graph.{Graph}
 use Rattle.search.specs.Hops.{Hop, Chain, one, more, Onward}
-use Rattle.search.specs.Passes.{Pass, Adds, Passes, no-pass, one-more, PassesToEnd, WalkedTo, FoundByPasses, Followed, NewTargets, Explores}
+use Rattle.search.specs.Passes.{Pass, FindsMore, Passes, no-pass, one-more, PassesToEnd, WalkedTo, FoundByPasses, Followed, NewTargets, Explores}
 use Rattle.search.proofs.Chains.{chain-in, chain-end}
 use Rattle.search.proofs.Saying.{chain-iff}
 
@@ -26,10 +26,10 @@ new-none found last f t = ((λ h. absurd (in-none t h)), λ x. absurd (x .1 (f (
 module _ {E : ℕ → ℕ → Type 0} (found last next : ℕ) (is-next : NewTargets E found last next) where
   -- where next has a state, so has the sum one that was not found
   module _ (sum : ℕ) (is-sum : (t : ℕ) → member t sum ≡ (member t found || member t next)) (fits : next < 2 ^ 64) (some : next ≡ 0 → ⊥) where
-    pub pass-adds : Adds found sum
+    pub pass-adds : FindsMore found sum
     pass-adds = by next refl fits
       where
-        by : (n : ℕ) → next ≡ n → n < 2 ^ 64 → Adds found sum
+        by : (n : ℕ) → next ≡ n → n < 2 ^ 64 → FindsMore found sum
         by zero e l = absurd (some e)
         by (suc n) e l =
             let t = trailingZeros 64 (suc n) in

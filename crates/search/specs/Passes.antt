@@ -22,13 +22,13 @@ abbrev pub Pass : (ℕ → ℕ → Type 0) → ℕ → ℕ → ℕ → Type 0
 Pass E m found r = (t : ℕ) → (t ∈ r) ↔ ((t ∈ found) ⊎ ((s : ℕ) × ((s ∈ m) ⊎ (s ∈ found)) × E s t))
 
 -- r has a state that found has not
-abbrev pub Adds : ℕ → ℕ → Type 0
-Adds found r = (t : ℕ) × (t ∈ r) × ¬ (t ∈ found)
+abbrev pub FindsMore : ℕ → ℕ → Type 0
+FindsMore found r = (t : ℕ) × (t ∈ r) × ¬ (t ∈ found)
 
 -- k passes, each of which adds a state, lead from the states found at first to r
 pub data Passes (E : ℕ → ℕ → Type 0) (m first : ℕ) : ℕ → ℕ → Type 0 where
   no-pass : Passes E m first 0 first
-  one-more : {k found r : ℕ} → Passes E m first k found → Pass E m found r → Adds found r → Passes E m first (k + 1) r
+  one-more : {k found r : ℕ} → Passes E m first k found → Pass E m found r → FindsMore found r → Passes E m first (k + 1) r
 
 -- count passes, of which the last, and only the last, adds nothing
 pub record PassesToEnd (E : ℕ → ℕ → Type 0) (m first count r : ℕ) : Type 0 where

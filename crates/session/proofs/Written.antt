@@ -8,7 +8,6 @@ use Rattle.lists.specs.Order.{sort-by}
 use Rattle.rows.specs.Rows.{row-bytes, batch-of}
 use Rattle.machine.specs.declared.Answer.{Answer}
 use Rattle.machine.specs.declared.Verdict.{Verdict}
-use Rattle.machine.specs.Machine.{Machine}
 use Rattle.machine.specs.Calls.{print, save, Next, write, saved, TellsText}
 use Rattle.machine.specs.Causes.{sheets, saves}
 use Rattle.machine.proofs.Tables.{sort-table}

@@ -9,7 +9,7 @@ use Rattle.machine.specs.declared.Answer.{Answer}
 use Rattle.machine.specs.declared.Answer.the-variants.{Done, Wrote, Refused}
 use Rattle.machine.specs.Machine.{Machine}
 use Rattle.machine.specs.WellFormed.{Table}
-use Rattle.row_table.specs.Arrays.{padded, Keyed, Filed}
+use Rattle.row_table.specs.Arrays.{padded, Keyed}
 use Rattle.automaton.specs.declared.Automaton.{Automaton}
 use Rattle.automaton.specs.Promise.{Gives}
 use Rattle.rounds.specs.declared.Progress.{Progress}

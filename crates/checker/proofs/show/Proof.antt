@@ -1,5 +1,5 @@
 -- `show` meets its contract: by the length of the input, and by the answer of the check.
-use Prim.Native.Nat.{_<_, _≤_}
+use Prim.Native.Nat.{_≤_}
 use native.Mathlib.Omega.{arith}
 use mathlib.Core.Path.{_≡_, ap, subst}
 use lib.ListN.{length}

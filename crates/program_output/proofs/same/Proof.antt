@@ -2,7 +2,6 @@
 use Prim.Native.Nat.{suc, _+_, _≤_, _-_}
 use mathlib.Core.Path.{_≡_, refl, subst}
 use lib.ListN.{length, getD, take}
-use borrow.Author.Needs.{needs}
 use native.Mathlib.Omega.{arith}
 use Rattle.program_output.proofs.Comparing.{differ, same-more, same-all}
 use Rattle.program_output.proofs.same.Statement.{statement}
