@@ -1,6 +1,7 @@
 -- The laws of the plain machine, and document 01's examples, computed.
 pub mod Cases
 pub mod Further
+pub mod Pins
 pub mod Rounding
 pub mod Settling
 pub mod Openings
@@ -20,4 +21,5 @@ pub mod History
 pub mod Statements
 pub mod Ending
 pub mod Second
+pub mod Once
 pub mod Program

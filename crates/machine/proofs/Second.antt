@@ -56,7 +56,8 @@ same-listed m m′ e i a b = sorted-same opening-key (m .openings) (m′ .openin
     part : (m m′ : Machine) → m .rows ≡ m′ .rows → m .rounds ≡ m′ .rounds → Listed m → Listed m′ → m .openings part-of m′ .openings
     part m m′ e i a b o k = let d = a .depths o .0 k in b .depths o .1 (omega (arith, d .0), rw e at (d .1))
 
-same-machine : (m m′ : Machine) → m .rows ≡ m′ .rows → m .phase ≡ m′ .phase → m .openings ≡ m′ .openings → m .rounds ≡ m′ .rounds → m ≡ m′
+-- a machine is its four parts
+pub same-machine : (m m′ : Machine) → m .rows ≡ m′ .rows → m .phase ≡ m′ .phase → m .openings ≡ m′ .openings → m .rounds ≡ m′ .rounds → m ≡ m′
 same-machine m m′ a b c d = let f : _≡_ {A = Machine} (record { rows = m .rows; phase = m .phase; openings = m .openings; rounds = m .rounds })
     (record { rows = m′ .rows; phase = m′ .phase; openings = m′ .openings; rounds = m′ .rounds }) = rw (a, b, c, d) in f
 

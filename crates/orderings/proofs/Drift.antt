@@ -87,6 +87,13 @@ pub any-to-any : opened (Successor 0 7 0 ∷ Successor 1 7 1 ∷ LeftLimit 3 2 �
 unfolding ℕ-discrete member standing-sets same-row members reach holds?
 any-to-any = refl
 
+-- not from one to the others only, nor one way only; and not from some state to itself only
+pub both-ways : (opened (Successor 0 7 0 ∷ Successor 0 7 1 ∷ Successor 1 7 1 ∷ LeftLimit 3 2 ∷ []) 1 ≡ [])
+    × (opened (Successor 0 7 0 ∷ Successor 1 7 0 ∷ Successor 1 7 1 ∷ LeftLimit 3 2 ∷ []) 1 ≡ [])
+    × (opened (Successor 0 7 1 ∷ Successor 1 7 0 ∷ LeftLimit 3 2 ∷ []) 1 ≡ loops 3 ∷ [])
+unfolding ℕ-discrete member standing-sets same-row members reach holds?
+both-ways = (refl, refl, refl)
+
 -- each state of a set that mixes may lie on a piece of its own
 pub some-piece-each : opened (Successor 0 7 0 ∷ Successor 1 7 1 ∷ LeftLimit 3 0 ∷ LeftLimit 3 1 ∷ RightLimit 0 3 ∷ RightLimit 1 3 ∷ []) 1 ≡ mixes 3 ∷ []
 unfolding ℕ-discrete member standing-sets same-row members reach holds?
@@ -126,3 +133,16 @@ pub from-initial-to-final : (accepts? (Initial 0 ∷ Final 0 ∷ []) [] ≡ true
     × (accepts? (Initial 0 ∷ Final 1 ∷ Successor 1 7 0 ∷ []) [] ≡ false)
 unfolding ℕ-discrete member standing-sets same-row members reach accepts?
 from-initial-to-final = (refl, refl, refl, refl)
+
+-- one initial and one final state are enough, whatever the others are
+pub one-of-each : (accepts? (Initial 0 ∷ Initial 5 ∷ Final 1 ∷ Final 6 ∷ Successor 0 7 1 ∷ []) [] ≡ true)
+    × (accepts? (Initial 5 ∷ Initial 0 ∷ Final 6 ∷ Final 1 ∷ Successor 0 7 1 ∷ []) [] ≡ true)
+    × (accepts? (Initial 5 ∷ Final 1 ∷ Successor 0 7 1 ∷ []) [] ≡ false)
+unfolding ℕ-discrete member standing-sets same-row members reach accepts?
+one-of-each = (refl, refl, refl)
+
+-- state 63 is a state as any other
+pub state-63 : (opened (Successor 63 7 63 ∷ LeftLimit 9223372036854775808 0 ∷ []) 1 ≡ loops 9223372036854775808 ∷ [])
+    × (opened (Successor 0 7 0 ∷ LeftLimit 9223372036854775809 1 ∷ []) 1 ≡ [])
+unfolding ℕ-discrete member standing-sets same-row members reach holds?
+state-63 = (refl, refl)

@@ -1,4 +1,5 @@
--- The laws of orderings: walks, depths and verdicts, and the tests that decide them.
+-- The laws of orderings: first what is computed, then walks, depths and verdicts, and the tests that decide them.
+pub mod Drift
 pub mod Walks
 pub mod Steps
 pub mod Depths
@@ -7,4 +8,3 @@ pub mod Timelines
 pub mod Reach
 pub mod Deciding
 pub mod Claims
-pub mod Drift

@@ -1,4 +1,5 @@
--- The laws of rows, batches, sets and keys.
+-- The laws of rows, batches, sets and keys; first what is computed of rows and their bytes.
+pub mod Pins
 pub mod Same
 pub mod Reading
 pub mod Batch

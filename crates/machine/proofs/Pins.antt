@@ -1,0 +1,39 @@
+-- What the papers name and no other law would tell: fresh and reopened machines as records, the digits of sets and numbers, and what answers
+-- return, computed from the definitions.
+use Prim.Native.Nat.{ℕ}
+use mathlib.Core.Path.{_≡_, refl, ap}
+use mathlib.Core.Option.{none, some}
+use mathlib.Core.List.{List, [], _∷_}
+use Rattle.machine.specs.declared.Answer.the-variants.{Done, Wrote, Refused}
+use Rattle.machine.specs.declared.Phase.the-variants.{Open}
+use Rattle.machine.specs.Machine.{Machine, fresh}
+use Rattle.machine.specs.Text.{text, hex, set-text, decimal, number-text}
+use Rattle.machine.specs.Calls.{reopen, Next, done, wrote, refused, returned, due, call}
+use Rattle.machine.specs.Causes.{NotOpen, foreign-record}
+use Rattle.machine.proofs.Phases.{not-open-reopens}
+
+-- sets are 16 lower-case hex digits, and numbers decimal
+pub digits : (set-text 0xfedcba9876543210 ≡ text "fedcba9876543210")
+    × (set-text 0x0123456789abcdef ≡ text "0123456789abcdef")
+    × (number-text 1234567890 ≡ text "1234567890")
+    × (number-text 0 ≡ text "0")
+unfolding hex decimal
+digits = (refl, refl, refl, refl)
+
+-- a refusal returns its number and its place, print and save their length, the other calls nothing; the number beside the table
+pub returns : (returned (Refused 7 300) ≡ record { number = some 7; values = 300 ∷ [] })
+    × (due (refused 7 300) ≡ record { number = some 7; values = 300 ∷ [] })
+    × (returned (Wrote 3) ≡ record { number = none; values = 3 ∷ [] })
+    × (due (wrote (text "abc")) ≡ record { number = none; values = 3 ∷ [] })
+    × (returned Done ≡ record { number = none; values = [] })
+    × (due done ≡ record { number = none; values = [] })
+    × (foreign-record ≡ 24)
+returns = (refl, refl, refl, refl, refl, refl, refl)
+
+-- fresh is open with no rows
+pub fresh-is : fresh ≡ record { rows = []; phase = Open; openings = []; rounds = 0 }
+fresh-is = refl
+
+-- reopen, running or settled, drops openings and rounds, keeps the rows and goes to open
+pub reopens : (m : Machine) → NotOpen (m .phase) → call m reopen .machine ≡ record { rows = m .rows; phase = Open; openings = []; rounds = 0 }
+reopens m n = ap (λ (x : Next). x .machine) (not-open-reopens n m)
