@@ -6,10 +6,10 @@ use Rattle.random.proofs.batches.digest.Statement.{statement}
 use Rattle.random.proofs.batches.digest.Tie as tie
 
 abbrev Inv-loop : tie.InvT-loop
-Inv-loop batch found₀ i₀ found i = i ≤ length batch
+Inv-loop bytes found₀ i₀ found i = i ≤ length bytes
 
 abbrev μ-loop : tie.MeasureT-loop
-μ-loop batch found₀ i₀ found i = length batch - i
+μ-loop bytes found₀ i₀ found i = length bytes - i
 
 loop-holds : tie.Need-loop-holds Inv-loop μ-loop
 loop-holds c = omega arith

@@ -1,14 +1,15 @@
--- `random::batches::place_of` is safe and ends. The invariant keeps the counter within its bound and the lengths of what is lent; the measure is what is left to count.
+-- `random::batches::place_of` is safe and ends. The measure is how many places are left.
 use native.Mathlib.Omega.{arith}
-use Prim.Native.Nat.{_≤_, _-_}
+use Prim.Native.Nat.{_-_}
+use lib.ListN.{length}
 use Rattle.random.proofs.batches.place_of.Statement.{statement}
 use Rattle.random.proofs.batches.place_of.Tie as tie
 
 abbrev Inv-loop : tie.InvT-loop
-Inv-loop seen digest at₀ at = at ≤ 32768
+Inv-loop seen from digest at₀ at = Unit {0}
 
 abbrev μ-loop : tie.MeasureT-loop
-μ-loop seen digest at₀ at = 32768 - at
+μ-loop seen from digest at₀ at = length seen - at
 
 loop-holds : tie.Need-loop-holds Inv-loop μ-loop
 loop-holds c = omega arith
