@@ -1,15 +1,17 @@
--- What the papers name and no other law would tell: fresh and reopened machines as records, the digits of sets and numbers, and what answers
--- return, computed from the definitions.
-use Prim.Native.Nat.{ℕ}
+-- What the papers name and no other law would tell: fresh and reopened machines as records, the digits of sets and numbers, what answers
+-- return, and the most rounds by phase, computed from the definitions.
+use Prim.Native.Nat.{suc}
 use mathlib.Core.Path.{_≡_, refl, ap}
 use mathlib.Core.Option.{none, some}
-use mathlib.Core.List.{List, [], _∷_}
+use mathlib.Core.List.{[], _∷_}
 use Rattle.machine.specs.declared.Answer.the-variants.{Done, Wrote, Refused}
-use Rattle.machine.specs.declared.Phase.the-variants.{Open}
+use Rattle.machine.specs.declared.Verdict.{Verdict}
+use Rattle.machine.specs.declared.Phase.the-variants.{Open, Running, Settled}
 use Rattle.machine.specs.Machine.{Machine, fresh}
 use Rattle.machine.specs.Text.{text, hex, set-text, decimal, number-text}
 use Rattle.machine.specs.Calls.{reopen, Next, done, wrote, refused, returned, due, call}
 use Rattle.machine.specs.Causes.{NotOpen, foreign-record}
+use Rattle.machine.specs.WellFormed.{most-done}
 use Rattle.machine.proofs.Phases.{not-open-reopens}
 
 -- sets are 16 lower-case hex digits, and numbers decimal
@@ -37,3 +39,7 @@ fresh-is = refl
 -- reopen, running or settled, drops openings and rounds, keeps the rows and goes to open
 pub reopens : (m : Machine) → NotOpen (m .phase) → call m reopen .machine ≡ record { rows = m .rows; phase = Open; openings = []; rounds = 0 }
 reopens m n = ap (λ (x : Next). x .machine) (not-open-reopens n m)
+
+-- no round is done while open; the last of 129 settles
+pub rounds-by-phase : (most-done Open ≡ 0) × (suc (most-done Running) ≡ 129) × ((v : Verdict) → most-done (Settled v) ≡ 129)
+rounds-by-phase = (refl, refl, λ v. refl)

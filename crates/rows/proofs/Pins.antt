@@ -1,7 +1,7 @@
 -- Document 01, "Rows and the batch" and causes 2 to 5, at the numbers that it names, computed: the bytes of each kind of row (`kinds-in-bytes`),
 -- and what the reader says of them (`rows-read`, `states-to-63`, `sets-not-0`, `kinds-1-to-5`, `lowest-number`).
 use mathlib.Core.Path.{_≡_, refl}
-use mathlib.Core.List.{List, [], _∷_}
+use mathlib.Core.List.{[], _∷_}
 use Rattle.rows.specs.declared.Row.the-variants.{Initial, Final, Successor, LeftLimit, RightLimit}
 use Rattle.rows.specs.declared.ReadRow.the-variants.{Read, Refused}
 use Rattle.rows.specs.Rows.{row-bytes}
