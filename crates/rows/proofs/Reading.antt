@@ -2,7 +2,7 @@
 -- a refusal has its cause (`malformed`).
 use Prim.Native.Nat.{ℕ, zero, suc, _≤_, _<_, _+_, _*_, _/_, _%_, _^_}
 use mathlib.Core.Path.{_≡_, refl, ap, sym, _∙_, subst}
-use mathlib.Core.Bool.{Bool, true, false, cond, _&&_, _||_}
+use mathlib.Core.Bool.{Bool, true, false, cond, _&&_}
 use mathlib.Core.Logic.{⊎-elim, _↔_}
 use mathlib.Core.List.{List, [], _∷_, _++_, List·Memᴰ·head, List·Memᴰ·tail, List·Memᴰ·not-nil, List·Memᴰ·cases-cons, List·Memᴰ·append-cases, List·Memᴰ·eq-of-singleton}
 use lib.Dec.{eqb, ltb, leb, eqb·suc-zero}
@@ -12,13 +12,13 @@ use native.Mathlib.Omega.{arith}
 use native.Mathlib.Nat.{div-div-eq-div-mul, div-eq-of-lt, div-one, pow-suc, one-le-pow, pow-le-pow-right, div-lt-iff-lt-mul, one-mul}
 use native.Mathlib.Numerals.{add-one}
 use Rattle.lists.specs.Tests.{Decides, _among_, any}
-use Rattle.lists.proofs.Deciding.{eqb·, ltb·, leb·, and·, any·, yes·, no·}
+use Rattle.lists.proofs.Deciding.{so, eqb·, ltb·, leb·, and·, any·, yes·, no·}
 use Rattle.rows.specs.declared.Row.{Row}
 use Rattle.rows.specs.declared.Row.the-variants.{Initial, Final, Successor, LeftLimit, RightLimit}
 use Rattle.rows.specs.declared.ReadRow.{ReadRow}
 use Rattle.rows.specs.declared.ReadRow.the-variants.{Read, Refused}
 use Rattle.rows.specs.Rows.{big, row-bytes, Fits, Bytes}
-use Rattle.rows.specs.Reading.{number, set-at, row-at, cut-or-high, row-cause, read-row, Known, width, state-places, set-places, Malformed, unknown-kind, cut-short, high-state, zero-set, Headed}
+use Rattle.rows.specs.Reading.{number, set-at, row-at, row-cause, read-row, Known, width, state-places, set-places, Malformed, unknown-kind, cut-short, high-state, zero-set, Headed}
 
 -- without one byte more
 high : (x n : ℕ) → x / 256 ^ suc n ≡ x / 256 ^ n / 256
@@ -141,7 +141,7 @@ cond-no : {A : Type 0} {b : Bool} {B : Type 0} (x : A) {y z : A} → Decides b B
 cond-no x {z = z} d n e = cond-ok (λ a. a ≡ z) d (λ h. absurd (n h)) (λ n. e)
 
 -- what holds of each kind holds of a known kind
-by-kind : (Q : ℕ → Type 0) → Q 1 → Q 2 → Q 3 → Q 4 → Q 5 → (k : ℕ) → Known k → Q k
+pub by-kind : (Q : ℕ → Type 0) → Q 1 → Q 2 → Q 3 → Q 4 → Q 5 → (k : ℕ) → Known k → Q k
 by-kind Q a b c d e zero h = absurd (omega arith)
 by-kind Q a b c d e (suc zero) h = a
 by-kind Q a b c d e (suc (suc zero)) h = b
@@ -183,31 +183,6 @@ caused l = cond-ok (Caused l) (known· (getD l 0 0))
   where
     below : (i : ℕ) → i among state-places (getD l 0 0) → ¬ ((i : ℕ) × i among state-places (getD l 0 0) × (63 < getD l i 0)) → getD l i 0 ≤ 63
     below i m n = let g : ¬ (63 < getD l i 0) = λ g. n (i, m, g) in omega arith
-
--- a place said twice; and a number that stands where no other does
-module _ (w : ℕ) (l : List ℕ) where
-  pub place-twice : (i n : ℕ) → cut-or-high w (i ∷ i ∷ []) l n ≡ cut-or-high w (i ∷ []) l n
-  place-twice i n = go (ltb 63 (getD l i 0))
-    where
-      go : (b : Bool) → cond (ltb (length l) w) 3 (cond (b || (b || false)) 4 n) ≡ cond (ltb (length l) w) 3 (cond (b || false) 4 n)
-      go true = refl
-      go false = refl
-
-  pub cut-first : (places : List ℕ) (n : ℕ) → ¬ (cut-or-high w places l 0 ≡ 0) → cut-or-high w places l n ≡ cut-or-high w places l 0
-  cut-first places n = go (ltb (length l) w) (any (λ i. ltb 63 (getD l i 0)) places)
-    where
-      go : (a b : Bool) → ¬ (_≡_ {A = ℕ} (cond a 3 (cond b 4 0)) 0) → _≡_ {A = ℕ} (cond a 3 (cond b 4 n)) (cond a 3 (cond b 4 0))
-      go true b h = refl
-      go false true h = refl
-      go false false h = absurd (h refl)
-
-  pub cut-none : (places : List ℕ) (n : ℕ) → cut-or-high w places l 0 ≡ 0 → (w ≤ length l) × (cut-or-high w places l n ≡ n)
-  cut-none places n = go (ltb (length l) w) (any (λ i. ltb 63 (getD l i 0)) places) (ltb· (length l) w)
-    where
-      go : (a b : Bool) → Decides a (length l < w) → _≡_ {A = ℕ} (cond a 3 (cond b 4 0)) 0 → (w ≤ length l) × (cond a 3 (cond b 4 n) ≡ n)
-      go true b d h = absurd (omega arith)
-      go false true d h = absurd (omega arith)
-      go false false d h = let g = no· d in (omega arith, refl)
 
 -- each cause has its number, and a sound row none
 module _ (k : ℕ) (l : List ℕ) where
@@ -251,10 +226,6 @@ only P i h j m = subst P (sym (List·Memᴰ·eq-of-singleton m)) h
 read-sound : (k : ℕ) (l : List ℕ) → Known k → Sound k (k ∷ l) → read-row (k ∷ l) ≡ Read (row-at k (k ∷ l)) (width k)
 unfolding read-row
 read-sound k l h s = rw (no-cause k (k ∷ l) h s)
-
--- known and whole where no cause refuses it
-none-caused : (l : List ℕ) → row-cause (getD l 0 0) l ≡ 0 → Known (getD l 0 0) × (width (getD l 0 0) ≤ length l)
-none-caused l e = let c = subst (Caused l) e (caused l) in (c .0, c .1 .whole)
 
 -- a row that fits is read back, whatever follows it
 pub read-back : (r : Row) (tail : List ℕ) → Fits r → read-row (row-bytes r ++ tail) ≡ Read r (length (row-bytes r))
@@ -305,23 +276,31 @@ unfolding read-row
 read-some [] h = absurd (omega arith)
 read-some (k ∷ l) h = refl
 
--- by the kind at the head: the number that refuses the row, or the row
+-- a row of a kind by its tests in their order: its bytes, the states at some places, the sets at some places
+abbrev pub by-tests : ℕ → List ℕ → List ℕ → ℕ → List ℕ → ReadRow
+by-tests w s t k l =
+    cond (ltb (length l) w) (Refused 3)
+    (cond (any (λ i. ltb 63 (getD l i 0)) s) (Refused 4) (cond (any (λ j. eqb (set-at l j) 0) t) (Refused 5) (Read (row-at k l) w)))
+
+-- by the kind at the head: an unknown one, and one by its table
 module _ (k : ℕ) (l : List ℕ) (h : Headed k l) where
   headed : read-row l ≡ cond (eqb (row-cause k l) 0) (Read (row-at k l) (width k)) (Refused (row-cause k l))
   headed = rw (h .1) at (read-some l (h .0))
 
-  pub read-caused : ¬ (row-cause k l ≡ 0) → read-row l ≡ Refused (row-cause k l)
-  read-caused n = headed ∙ cond-no _ (eqb· (row-cause k l) 0) n refl
-
-  pub read-clear : row-cause k l ≡ 0 → read-row l ≡ Read (row-at k l) (width k)
-  read-clear e = headed ∙ cond-yes _ (eqb· (row-cause k l) 0) e
-
-  -- known and whole where no cause refuses it
-  pub clear-whole : row-cause k l ≡ 0 → Known k × (width k ≤ length l)
-  clear-whole e = rw (h .1) at (none-caused l (ap (λ (x : ℕ). row-cause x l) (h .1) ∙ e))
-
   pub read-unknown : ¬ Known k → read-row l ≡ Refused 2
-  read-unknown n = let e = unknown-cause k l n in read-caused (λ z. omega arith) ∙ ap Refused e
+  read-unknown n = headed ∙ rw (unknown-cause k l n)
+
+  pub read-known : Known k → read-row l ≡ by-tests (width k) (state-places k) (set-places k) k l
+  unfolding row-cause
+  read-known g = headed ∙ rw (so (known· k) g)
+      (go (ltb (length l) (width k)) (any (λ i. ltb 63 (getD l i 0)) (state-places k)) (any (λ j. eqb (set-at l j) 0) (set-places k)))
+    where
+      go : (a b z : Bool) → cond (eqb (cond a 3 (cond b 4 (cond z 5 0))) 0) (Read (row-at k l) (width k)) (Refused (cond a 3 (cond b 4 (cond z 5 0))))
+          ≡ cond a (Refused 3) (cond b (Refused 4) (cond z (Refused 5) (Read (row-at k l) (width k))))
+      go true b z = refl
+      go false true z = refl
+      go false false true = refl
+      go false false false = refl
 
 by-cause : (l : List ℕ) (n : ℕ) → Caused l n → Right l (cond (eqb n 0) (Read (row-at (getD l 0 0) l) (width (getD l 0 0))) (Refused n))
 by-cause l zero c = (c .0, c .1, refl, refl)

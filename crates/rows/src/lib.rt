@@ -1,19 +1,26 @@
 // The rows of an automaton on linear orderings: read from bytes, written to bytes, and their keys.
 
 ghost use mathlib.Core.Path.{_≡_};
-ghost use mathlib.Core.Bool.{cond};
 ghost use mathlib.Core.List.{[], _∷_};
-ghost use Prim.Native.Nat.{_+_, _≤_, _<_};
-ghost use lib.Dec.{eqb};
+ghost use Prim.Native.Nat.{_+_, _≤_};
 ghost use lib.ListN.{length};
 ghost use Rattle.lists.specs.Writing.{Wrote};
 ghost use Rattle.rows.specs.Rows.{row-bytes};
-ghost use Rattle.rows.specs.Reading.{set-at, Known, width, row-at, cut-or-high, row-cause, read-row, Headed};
+ghost use Rattle.rows.specs.Reading.{set-at, state-places, set-places, read-row, Headed};
 ghost use Rattle.rows.specs.Keys.{high, low, row-from, set-or-none};
 ghost use Rattle.rows.specs.Storing.{stored};
 
 // States are 0 to this.
 const LAST_STATE: u8 = 63;
+
+// The numbers of the causes that refuse a row.
+const UNKNOWN_KIND: u8 = 2;
+
+const CUT_SHORT: u8 = 3;
+
+const HIGH_STATE: u8 = 4;
+
+const ZERO_SET: u8 = 5;
 
 // The weights of a word's bytes: 256 to the power 1 to 7.
 const BYTE_1: u64 = 256;
@@ -70,76 +77,81 @@ fn set_at(s: &[u8], at: usize) -> u64
     set
 }
 
-// 3 where a row of `width` bytes is cut short, 4 where the state at `first` or at `last` is too high, else 0.
-fn cut_or_high(rest: &[u8], width: usize, first: usize, last: usize) -> u8
-    requires { ⌜ (first < width) × (last < width) ⌝ }
-    ensures { λ r. ⌜ r ≡ cut-or-high width (first ∷ last ∷ []) (now (rest .entry)) 0 ⌝ }
-{
-    if rest.len() < width {
-        return 3;
-    }
-    if LAST_STATE < rest[first] {
-        return 4;
-    }
-    if LAST_STATE < rest[last] {
-        return 4;
-    }
-    0
-}
-
-// The same for a row of ten bytes with a state, and 5 where the set at `set` is 0.
-fn limit_cause(rest: &[u8], state: usize, set: usize) -> u8
-    requires { ⌜ (state < 10) × (set ≤ 2) ⌝ }
-    ensures { λ r. ⌜ r ≡ cut-or-high 10 (state ∷ []) (now (rest .entry))
-        (cond (eqb (set-at (now (rest .entry)) set) 0) 5 0) ⌝ }
-{
-    let cause = cut_or_high(rest, 10, state, state);
-    if cause != 0 {
-        return cause;
-    }
-    if set_at(rest, set) == 0 { 5 } else { 0 }
-}
-
-// The row of the kind at the head of the bytes, of which there are enough.
-fn row_at(rest: &[u8], kind: u8) -> Row
-    requires { ⌜ Known kind × (width kind ≤ length (now rest)) ⌝ }
-    ensures { λ r. ⌜ r ≡ row-at kind (now (rest .entry)) ⌝ }
-{
-    match kind {
-        1 => Row::Initial(rest[1]),
-        2 => Row::Final(rest[1]),
-        3 => Row::Successor(rest[1], rest[2], rest[3]),
-        4 => Row::LeftLimit(set_at(rest, 1), rest[9]),
-        _ => Row::RightLimit(rest[1], set_at(rest, 2)),
-    }
-}
-
-// The row of the kind at the head of the bytes, or the number `cause` that refuses it, if that is not 0.
-fn unless(cause: u8, rest: &[u8], kind: u8) -> ReadRow
-    requires { ⌜ Headed kind (now rest) × (cause ≡ row-cause kind (now rest)) ⌝ }
+// A row of kind 1 or 2: its state.
+fn read_state(rest: &[u8], kind: u8) -> ReadRow
+    requires { ⌜ Headed kind (now rest) × (1 ≤ kind) × (kind ≤ 2) ⌝ }
     ensures { λ r. ⌜ r ≡ read-row (now (rest .entry)) ⌝ }
 {
-    if cause != 0 {
-        return ReadRow::Refused(cause);
+    if rest.len() < 2 {
+        return ReadRow::Refused(CUT_SHORT);
     }
-    let row = row_at(rest, kind);
-    ReadRow::Read(row, row_len(row))
+    let state = rest[1];
+    if LAST_STATE < state {
+        return ReadRow::Refused(HIGH_STATE);
+    }
+    match kind {
+        1 => ReadRow::Read(Row::Initial(state), 2),
+        _ => ReadRow::Read(Row::Final(state), 2),
+    }
 }
 
-// The row at the head of the bytes, or the lowest number that refuses it. One match for the cause and for the row.
+// A row of kind 3: two states with a letter between them.
+fn read_step(rest: &[u8]) -> ReadRow
+    requires { ⌜ Headed 3 (now rest) ⌝ }
+    ensures { λ r. ⌜ r ≡ read-row (now (rest .entry)) ⌝ }
+{
+    if rest.len() < 4 {
+        return ReadRow::Refused(CUT_SHORT);
+    }
+    let from = rest[1];
+    if LAST_STATE < from {
+        return ReadRow::Refused(HIGH_STATE);
+    }
+    let letter = rest[2];
+    let to = rest[3];
+    if LAST_STATE < to {
+        return ReadRow::Refused(HIGH_STATE);
+    }
+    ReadRow::Read(Row::Successor(from, letter, to), 4)
+}
+
+// A row of kind 4 or 5: a state and a set, at the places that the kind has for them. The set is read once.
+fn read_limit(rest: &[u8], kind: u8, state_place: usize, set_place: usize) -> ReadRow
+    requires { ⌜ Headed kind (now rest) × (4 ≤ kind) × (kind ≤ 5)
+        × (state-places kind ≡ «state_place» ∷ []) × (set-places kind ≡ «set_place» ∷ []) ⌝ }
+    ensures { λ r. ⌜ r ≡ read-row (now (rest .entry)) ⌝ }
+{
+    if rest.len() < 10 {
+        return ReadRow::Refused(CUT_SHORT);
+    }
+    let state = rest[state_place];
+    if LAST_STATE < state {
+        return ReadRow::Refused(HIGH_STATE);
+    }
+    let set = set_at(rest, set_place);
+    if set == 0 {
+        return ReadRow::Refused(ZERO_SET);
+    }
+    match kind {
+        4 => ReadRow::Read(Row::LeftLimit(set, state), 10),
+        _ => ReadRow::Read(Row::RightLimit(state, set), 10),
+    }
+}
+
+// The row at the head of the bytes, or the lowest number that refuses it.
 pub fn read_row(rest: &[u8]) -> ReadRow
     ensures { λ r. ⌜ r ≡ read-row (now (rest .entry)) ⌝ }
 {
     if rest.len() == 0 {
-        return ReadRow::Refused(3);
+        return ReadRow::Refused(CUT_SHORT);
     }
     match rest[0] {
-        1 => unless(cut_or_high(rest, 2, 1, 1), rest, 1),
-        2 => unless(cut_or_high(rest, 2, 1, 1), rest, 2),
-        3 => unless(cut_or_high(rest, 4, 1, 3), rest, 3),
-        4 => unless(limit_cause(rest, 9, 1), rest, 4),
-        5 => unless(limit_cause(rest, 1, 2), rest, 5),
-        0 | 6..=255 => ReadRow::Refused(2),
+        1 => read_state(rest, 1),
+        2 => read_state(rest, 2),
+        3 => read_step(rest),
+        4 => read_limit(rest, 4, 9, 1),
+        5 => read_limit(rest, 5, 1, 2),
+        0 | 6..=255 => ReadRow::Refused(UNKNOWN_KIND),
     }
 }
 
