@@ -1,5 +1,6 @@
 -- `is_running` meets its contract.
 use Prim.Native.Nat.{ℕ}
+use mathlib.Core.Path.{_≡_}
 use borrow.Author.Needs.{needs}
 use native.Mathlib.Omega.{arith}
 use Rattle.rounds.proofs.Settled.{not-running}
