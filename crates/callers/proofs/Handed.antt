@@ -1,6 +1,6 @@
 -- Callers: each call goes on a list of calls from a fresh session (`one-more`), and what holds at every call holds at it (`at-call`). The
 -- lists: rounds until settled, and a print (`prints-after`); refusals (`refuses-first`); save and load (`saves-again`, `saves-short`).
-use Prim.Native.Nat.{ℕ, suc, _+_, _≤_, _<_}
+use Prim.Native.Nat.{ℕ, zero, suc, _+_, _≤_, _<_}
 use mathlib.Core.Path.{_≡_, refl, ap, sym, _∙_, subst}
 use mathlib.Core.Bool.{Bool, true, false, cond}
 use mathlib.Core.Logic.{_⊎_, inl, inr, ⊎-elim}
@@ -13,30 +13,32 @@ use Rattle.lists.proofs.Deciding.{yes·, no·, ltb·}
 use Rattle.rows.specs.declared.Row.{Row}
 use Rattle.rows.specs.Batch.{Fed, fed, failed, feed}
 use Rattle.orderings.specs.Decide.{accepts?}
+use Rattle.orderings.specs.MoreRows.{Grows}
 use Rattle.machine.specs.declared.Answer.{Answer}
 use Rattle.machine.specs.declared.Answer.the-variants.{Done, Wrote, Refused}
 use Rattle.machine.specs.declared.Phase.{Phase}
-use Rattle.machine.specs.declared.Phase.the-variants.{Open}
+use Rattle.machine.specs.declared.Phase.the-variants.{Open, Running, Settled}
 use Rattle.machine.specs.Machine.{Machine, fresh, load-row, judged, closed, opened-next, nothing?, next-round, open-claims}
-use Rattle.machine.specs.Calls.{Call, load, close, round, print, save, done, wrote, refused, returned, Next, with-rows, saved, call-in, call, run, Tells}
+use Rattle.machine.specs.Calls.{Call, load, close, round, reopen, print, save, done, wrote, refused, returned, Next, with-rows, saved, call-in, call, run, Brings, Tells}
 use Rattle.machine.specs.Causes.{NotOpen, running, settled, NeedsClosed, rounding, printing, saves, still-open}
 use Rattle.machine.proofs.Answers.{done-by, answer-by, tells-as}
 use Rattle.machine.proofs.Phases.{open-closes, settled-refuses}
 use Rattle.machine.proofs.Outcomes.{Done as RoundDone, round-done, comes, writing}
 use Rattle.machine.proofs.Ending.{rounds-done}
+use Rattle.machine.proofs.MoreRows.{NoneWithdraw, run-grows}
 use Rattle.session.specs.declared.Session.{Session}
 use Rattle.session.specs.declared.Reply.{Reply}
 use Rattle.session.specs.Record.{record-of, Represents}
 use Rattle.session.specs.Standing.{reply}
 use Rattle.demands.specs.Trace.{Exchange, Trace, given, Served, onward, plain-after, exchange}
 use Rattle.demands.specs.Demands.{EveryCall, Answered, PrintsTrue, SavesRows, ExactPrint}
-use Rattle.demands.specs.Requests.{OneRound}
-use Rattle.callers.specs.Handed.{HandedBack, FirstCall, RoundsAfter, worked, PrintedAfter, RefusedFirst, SavedAgain}
+use Rattle.demands.specs.Requests.{OneRound, Printed, SheetsGrow}
+use Rattle.callers.specs.Handed.{HandedBack, FirstCall, RoundsAfter, worked, PrintedAfter, reworked, AddedLate, RefusedFirst, SavedAgain}
 use Rattle.demands.proofs.Reached.{Stands, told, step, fresh-is, reached}
 use Rattle.demands.proofs.Demand1.{demand-1}
 use Rattle.demands.proofs.Demand2.{demand-2}
 use Rattle.demands.proofs.Demand3.{demand-3}
-use Rattle.demands.proofs.Requests.{request-14}
+use Rattle.demands.proofs.Requests.{request-14, request-15}
 
 -- ---- one call more
 
@@ -159,18 +161,24 @@ module _ (cs : List Call) (k : ℕ) (s : Session) (h : Rounding cs k s) where
 
 -- ---- load, close, rounds and print
 
--- a fresh machine that was loaded is open, and closed it is not
-loaded-open : (x : Fed (List Row)) → with-rows fresh x .machine .phase ≡ Open
-loaded-open (fed rows) = refl
-loaded-open (failed n place) = refl
+-- an open machine that was loaded is open, and closed it is not
+loaded-open : (m : Machine) → m .phase ≡ Open → (batch : List ℕ) → call m (load batch) .machine .phase ≡ Open
+unfolding call-in
+loaded-open m e batch = subst (λ (p : Phase). call-in p m (load batch) .machine .phase ≡ Open) (sym e) (by (feed load-row (m .rows) batch))
+  where
+    by : (x : Fed (List Row)) → with-rows m x .machine .phase ≡ Open
+    by (fed rows) = e
+    by (failed n place) = e
 
 close-closes : (m : Machine) → m .phase ≡ Open → NotOpen (call m close .machine .phase)
 unfolding closed
 close-closes m e = subst (λ (x : Next). NotOpen (x .machine .phase)) (sym (ap (λ (p : Phase). call-in p m close) e ∙ open-closes m)) (judged-not-open (accepts? (m .rows) []) false)
 
+load-closes : (m : Machine) → m .phase ≡ Open → (batch : List ℕ) → NotOpen (run m (load batch ∷ close ∷ []) .phase)
+load-closes m e batch = close-closes (call m (load batch) .machine) (loaded-open m e batch)
+
 pub closed-not-open : (batch : List ℕ) → NotOpen (run fresh (load batch ∷ close ∷ []) .phase)
-unfolding call-in
-closed-not-open batch = close-closes (call fresh (load batch) .machine) (loaded-open (feed load-row [] batch))
+closed-not-open batch = load-closes fresh refl batch
 
 pub first-handed : (c : Call) (old new : List ℕ) (r : Reply) → FirstCall c old new r → HandedBack (c ∷ []) (r .session)
 first-handed c old new r k = one-more [] (record-of fresh) no-calls (exchange c old new r) k
@@ -186,6 +194,81 @@ prints-after batch old new t r w k = let cs = worked batch (w .count) in let e =
   true-sheet = at-call cs t (w .handed) e k (λ m s e. (size : ℕ) → e .asked ≡ print size → PrintsTrue m (e .old) (e .new) (e .reply .answer)) (demand-2 .prints) (length old) refl;
   exact = at-call cs t (w .handed) e k (λ m s e. (size : ℕ) → e .asked ≡ print size → ExactPrint m (e .old) (e .new) (e .reply .answer)) (demand-3 .prints) (length old) refl;
 }
+
+-- ---- rows added late
+
+-- after reopen a machine is open
+reopened-open : (m : Machine) → call m reopen .machine .phase ≡ Open
+unfolding call-in
+reopened-open m = by (m .phase) refl
+  where
+    by : (p : Phase) → m .phase ≡ p → call-in p m reopen .machine .phase ≡ Open
+    by Open e = e
+    by Running e = refl
+    by (Settled v) e = refl
+
+run-append : (m : Machine) (cs ds : List Call) → run m (cs ++ ds) ≡ run (run m cs) ds
+run-append m [] ds = refl
+run-append m (c ∷ cs) ds = run-append (call m c .machine) cs ds
+
+-- one call more, after calls that follow others
+further : (cs ds : List Call) (s : Session) → HandedBack (cs ++ ds) s → (e : Exchange Call Reply) → Served s e → HandedBack (cs ++ (ds ++ (e .asked ∷ []))) (e .reply .session)
+further cs ds s h e k = subst (λ (x : List Call). HandedBack x (e .reply .session)) (append-assoc cs ds (e .asked ∷ [])) (one-more (cs ++ ds) s h e k)
+
+rounds-keep : (k : ℕ) → NoneWithdraw (replicate k round)
+rounds-keep zero = tt
+rounds-keep (suc k) = (tt, rounds-keep k)
+
+-- the calls of `add_late` up to its rounds, and what they came to
+pub record Reworked (cs : List Call) (batch old new : List ℕ) (p : Reply) (s : Session) : Type 0 where
+  pub before : Session
+  pub handed-before : HandedBack cs before
+  pub printed : Served before (exchange (print (length old)) old new p)
+  pub brings : Brings (load batch)
+  pub handed : HandedBack (cs ++ (print (length old) ∷ reopen ∷ load batch ∷ close ∷ [])) s
+  pub not-open : NotOpen (run fresh (cs ++ (print (length old) ∷ reopen ∷ load batch ∷ close ∷ [])) .phase)
+
+pub reworks : (cs : List Call) (s : Session) → HandedBack cs s → (batch old new : List ℕ) (p o l c : Reply) → Served s (exchange (print (length old)) old new p)
+    → Served (p .session) (exchange reopen [] [] o) → Served (o .session) (exchange (load batch) [] [] l) → Served (l .session) (exchange close [] [] c)
+    → Reworked cs batch old new p (c .session)
+reworks cs s h batch old new p o l c a b d e =
+    let i = one-more cs s h (exchange (print (length old)) old new p) a in
+    let j = further cs (print (length old) ∷ []) (p .session) i (exchange reopen [] [] o) b in
+    let k = further cs (print (length old) ∷ reopen ∷ []) (o .session) j (exchange (load batch) [] [] l) d in
+    record {
+      before = s;
+      handed-before = h;
+      printed = a;
+      brings = d .brings;
+      handed = further cs (print (length old) ∷ reopen ∷ load batch ∷ []) (l .session) k (exchange close [] [] c) e;
+      not-open = let m = call (run fresh cs) (print (length old)) .machine in
+          subst (λ (x : Machine). NotOpen (x .phase)) (sym (run-append fresh cs (print (length old) ∷ reopen ∷ load batch ∷ close ∷ []))) (load-closes (call m reopen .machine) (reopened-open m) batch);
+    }
+
+pub adds-late : (cs : List Call) (batch old new old′ new′ : List ℕ) (p r : Reply) (s t : Session) → Reworked cs batch old new p s
+    → RoundsAfter (cs ++ (print (length old) ∷ reopen ∷ load batch ∷ close ∷ [])) t → Served t (exchange (print (length old′)) old′ new′ r)
+    → AddedLate cs batch old new old′ new′ (record { printed = p .answer; again = r })
+adds-late cs batch old new old′ new′ p r s t w x k =
+    let ds = reworked (length old) batch (x .count) in
+    let i : (cs ++ (print (length old) ∷ reopen ∷ load batch ∷ close ∷ [])) ++ replicate (x .count) round ≡ cs ++ ds = append-assoc cs _ (replicate (x .count) round) in
+    let h : HandedBack (cs ++ ds) t = subst (λ (y : List Call). HandedBack y t) i (x .handed) in
+    let e = exchange (print (length old)) old new p in
+    let e′ = exchange (print (length old′)) old′ new′ r in
+    let up : Grows (run fresh cs .rows) (run fresh (cs ++ ds) .rows) =
+    subst (λ (y : Machine). Grows (run fresh cs .rows) (y .rows)) (sym (run-append fresh cs ds)) (run-grows (run fresh cs) ds (tt, tt, w .brings, tt, rounds-keep (x .count))) in
+    record {
+      count = x .count;
+      few = x .few;
+      handed = further cs ds t h e′ k;
+      verdict = x .verdict;
+      settled = subst (λ (y : List Call). run fresh y .phase ≡ Settled (x .verdict)) i (x .settled);
+      sheets = λ n n′ a a′.
+          at-call (cs ++ ds) t h e′ k (λ m′ s′ f. Grows (run fresh cs .rows) (m′ .rows) → (l l′ : List ℕ) → Printed e l → Printed f l′ → SheetsGrow l l′)
+          (at-call cs (w .before) (w .handed-before) e (w .printed) (λ m s d. EveryCall (λ m′ s′ f. Grows (m .rows) (m′ .rows) → (l l′ : List ℕ) → Printed d l → Printed f l′ → SheetsGrow l l′)) (request-15 .sheets))
+          up (take n new) (take n′ new′)
+          (record { size = length old; asked-is = refl; count = n; answer-is = a; bytes-are = refl })
+          (record { size = length old′; asked-is = refl; count = n′; answer-is = a′; bytes-are = refl });
+    }
 
 -- ---- refusals
 

@@ -3,20 +3,21 @@ use Prim.Native.Nat.{ℕ, _≤_, _<_}
 use mathlib.Core.Path.{_≡_}
 use mathlib.Core.List.{List, [], _∷_, _++_, map}
 use lib.ListN.{length, take, replicate}
-use Rattle.machine.specs.declared.Answer.the-variants.{Done, Refused}
+use Rattle.machine.specs.declared.Answer.the-variants.{Done, Wrote, Refused}
 use Rattle.machine.specs.declared.Verdict.{Verdict}
 use Rattle.machine.specs.declared.Phase.the-variants.{Settled}
 use Rattle.machine.specs.Machine.{fresh, open-with}
-use Rattle.machine.specs.Calls.{Call, load, close, round, print, run, saved}
+use Rattle.machine.specs.Calls.{Call, load, close, round, reopen, print, run, saved}
 use Rattle.machine.specs.Causes.{NotOpen}
 use Rattle.session.specs.declared.Session.{Session}
 use Rattle.session.specs.declared.Reply.{Reply}
 use Rattle.session.specs.Record.{record-of}
 use Rattle.session.specs.Standing.{reply}
+use Rattle.callers.specs.declared.Added.{Added}
 use Rattle.callers.specs.declared.Refusals.{Refusals}
 use Rattle.demands.specs.Trace.{Exchange, Trace, given, Served, onward, exchange}
 use Rattle.demands.specs.Demands.{Answered, PrintsTrue, ExactPrint}
-use Rattle.demands.specs.Requests.{OneRound}
+use Rattle.demands.specs.Requests.{OneRound, SheetsGrow}
 
 -- the session is what calls from a fresh one handed back
 pub record HandedBack (cs : List Call) (s : Session) : Type 0 where
@@ -57,6 +58,22 @@ pub record PrintedAfter (batch old new : List ℕ) (r : Reply) : Type 0 where
   pub settled : run fresh (worked batch count) .phase ≡ Settled verdict
   pub true-sheet : PrintsTrue (run fresh (worked batch count)) old new (r .answer)
   pub exact : ExactPrint (run fresh (worked batch count)) old new (r .answer)
+
+-- a print, then reopen, load, close and k rounds
+abbrev pub reworked : ℕ → List ℕ → ℕ → List Call
+reworked size batch k = print size ∷ reopen ∷ load batch ∷ close ∷ replicate k round
+
+-- a print after any calls, rows added late, and a print again: request C-15 at the two prints
+pub record AddedLate (cs : List Call) (batch old new old′ new′ : List ℕ) (r : Added) : Type 0 where
+  pub count : ℕ
+  pub few : count ≤ 129
+  pub handed : HandedBack (cs ++ (reworked (length old) batch count ++ (print (length old′) ∷ []))) (r .again .session)
+  pub verdict : Verdict
+  pub settled : run fresh (cs ++ reworked (length old) batch count) .phase ≡ Settled verdict
+  pub sheets : (n n′ : ℕ) → r .printed ≡ Wrote n → r .again .answer ≡ Wrote n′ → SheetsGrow (take n new) (take n′ new′)
+
+abbrev pub AddsLate : Session → List ℕ → List ℕ → List ℕ → List ℕ → List ℕ → Added → Type 0
+AddsLate s batch old new old′ new′ r = (cs : List Call) → HandedBack cs s → AddedLate cs batch old new old′ new′ r
 
 -- print and round on a fresh session, and then a load: demand 1 at each. The first two are refused, and change nothing
 pub record RefusedFirst (batch old new : List ℕ) (r : Refusals) : Type 0 where

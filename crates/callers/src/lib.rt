@@ -5,6 +5,12 @@ pub mod sequences;
 use machine::Answer;
 use session::Reply;
 
+// What the prints of `sequences::add_late` answered, and the session then.
+pub struct Added {
+    pub printed: Answer,
+    pub again: Reply,
+}
+
 // What the calls of `sequences::refused_first` answered.
 pub struct Refusals {
     pub printed: Answer,

@@ -1,9 +1,11 @@
 // Lists of calls, made by a caller: what is promised are the demands at them.
+use crate::Added;
 use crate::Refusals;
 use crate::calls::call_close;
 use crate::calls::call_fresh;
 use crate::calls::call_load;
 use crate::calls::call_print;
+use crate::calls::call_reopen;
 use crate::calls::call_round;
 use crate::calls::call_save;
 use machine::Answer;
@@ -13,7 +15,7 @@ use session::Session;
 ghost use mathlib.Core.List.{[], _∷_};
 ghost use Rattle.machine.specs.Calls.{load, close};
 ghost use Rattle.callers.specs.Handed.{HandedBack, FirstCall, RoundsOn, DoesRounds};
-ghost use Rattle.callers.specs.Handed.{PrintedAfter, RefusedFirst, SavedAgain};
+ghost use Rattle.callers.specs.Handed.{PrintedAfter, AddsLate, RefusedFirst, SavedAgain};
 
 // Load into a fresh session.
 fn loaded(batch: &[u8]) -> Reply
@@ -66,6 +68,21 @@ pub fn print_settled(batch: &[u8], buffer: &mut [u8]) -> Reply
     let r = closed(batch);
     let s = rounds_until(r.session);
     call_print(s, buffer)
+}
+
+// A sheet of any session, rows added late, and the sheet again.
+pub fn add_late(session: Session, batch: &[u8], first: &mut [u8], second: &mut [u8]) -> Added
+    ensures { λ r. ⌜ AddsLate session (now (batch .entry)) (now (first .entry)) (now (first .exit))
+        (now (second .entry)) (now (second .exit)) r ⌝ }
+{
+    let p = call_print(session, first);
+    let printed = p.answer;
+    let o = call_reopen(p.session);
+    let l = call_load(o.session, batch);
+    let c = call_close(l.session);
+    let s = rounds_until(c.session);
+    let again = call_print(s, second);
+    Added { printed, again }
 }
 
 // Print and round of a fresh session, and a load.

@@ -5,7 +5,6 @@ use mathlib.Core.Logic.{_↔_}
 use mathlib.Core.Option.{Option}
 use mathlib.Core.List.{List, _++_}
 use lib.ListN.{length, take, drop}
-use lib.Seq.{take-at}
 use native.Mathlib.Omega.{arith}
 use Rattle.lists.specs.Tests.{_among_, gather}
 use Rattle.rows.specs.declared.Row.{Row}
@@ -26,10 +25,10 @@ use Rattle.machine.specs.Sheet.{verdict-line, opening-line, walk-lines, sheet}
 use Rattle.machine.specs.Calls.{load, print, save, Outcome, wrote, returned, Next, accept, saved, call, buffer-after, Tells}
 use Rattle.machine.specs.WellFormed.{Worked, Made, WellFormed}
 use Rattle.machine.specs.Statements.{Number}
-use Rattle.machine.proofs.Answers.{answer-of, answer-by, wrote-by}
+use Rattle.machine.proofs.Answers.{answer-of, answer-by, wrote-by, text-by}
 use Rattle.machine.proofs.Settling.{after-after}
 use Rattle.machine.proofs.Loading.{loads-back, saves}
-use Rattle.machine.proofs.Statements.{settled-number, second-is, worked-listed, prints, printed-walk}
+use Rattle.machine.proofs.Statements.{settled-number, second-is, settled-listed, prints, printed-walk}
 use Rattle.session.specs.Record.{record-of}
 use Rattle.demands.specs.Trace.{plain-after}
 use Rattle.demands.specs.Demands.{Walked, TrueSheet, PrintsTrue, SavesRows, Demand2}
@@ -73,7 +72,7 @@ module _ (m : Machine) (w : WellFormed m) where
   true-sheet v e = record {
     settled = e;
     verdict = verdict-of (m .rows) v (m .rounds) (settled-number m w v e .0);
-    listed = worked-listed m w (worked v e);
+    listed = settled-listed m w v e;
     walked = λ i. walked (e ∙ ap Settled i);
   }
 
@@ -93,8 +92,7 @@ module _ (m : Machine) (w : WellFormed m) where
   )
     where
       bytes : take n new ≡ saved m
-      bytes = let o = call m (save (length old)) .answer in let l = wrote-by o n (sym (t .answer-is) ∙ ap returned e) in let k = saves m (w .table) (length old) (l .0) (l .1) .sorted in
-          ap (take n) (written o old new (l .0) (saved m) n (t .buffer-is) (l .1) (l .2) k) ∙ take-at (saved m) (drop n old) n (sym (l .2 ∙ ap length k))
+      bytes = let l = text-by t n e in l .3 ∙ saves m (w .table) (length old) (l .0) (l .1) .sorted
 
 pub demand-2 : Demand2
 demand-2 = record {

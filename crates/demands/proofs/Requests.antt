@@ -1,24 +1,32 @@
 -- The requests, at one call and at every one.
-use Prim.Native.Nat.{suc, _≤_}
-use mathlib.Core.Path.{_≡_, ap, sym, _∙_}
+use Prim.Native.Nat.{ℕ, suc, _≤_}
+use mathlib.Core.Path.{_≡_, refl, ap, sym, _∙_}
+use mathlib.Core.List.{List}
+use lib.ListN.{length}
 use native.Mathlib.Omega.{arith}
 use Rattle.machine.specs.declared.Answer.the-variants.{Done}
+use Rattle.machine.specs.declared.Verdict.{Verdict}
 use Rattle.machine.specs.declared.Phase.{Phase}
-use Rattle.machine.specs.declared.Phase.the-variants.{Running}
+use Rattle.machine.specs.declared.Phase.the-variants.{Running, Settled}
 use Rattle.machine.specs.Machine.{Machine, next-round}
-use Rattle.machine.specs.Calls.{Call, round, done, returned, Next, accept, call-in, call}
-use Rattle.machine.proofs.Answers.{done-by, answer-of, answer-by}
+use Rattle.machine.specs.Sheet.{sheet}
+use Rattle.machine.specs.Calls.{Call, round, print, done, returned, Next, accept, call-in, call}
+use Rattle.machine.specs.Statements.{said, NeverLess, SheetSays}
+use Rattle.machine.proofs.Answers.{done-by, answer-of, answer-by, text-by}
 use Rattle.machine.proofs.Phases.{running-rounds}
 use Rattle.machine.proofs.Outcomes.{comes}
 use Rattle.machine.proofs.Rounding.{round-rounded}
+use Rattle.machine.proofs.Statements.{second-is, prints}
 use Rattle.machine.proofs.Ending.{rounds-from, rounds-end}
+use Rattle.machine.proofs.MoreRows.{never-less}
+use Rattle.machine.proofs.Says.{sheet-says, says-one}
 use Rattle.session.specs.declared.Session.{Session}
 use Rattle.session.specs.declared.Reply.{Reply}
 use Rattle.session.specs.Record.{Represents}
 use Rattle.session.proofs.Whole.{rounds-count}
 use Rattle.demands.specs.Trace.{Exchange, plain-after}
-use Rattle.demands.specs.Requests.{OneRound, Request14}
-use Rattle.demands.proofs.Reached.{Stands, does, step, reached}
+use Rattle.demands.specs.Requests.{OneRound, Request14, Printed, SheetsGrow, Request15}
+use Rattle.demands.proofs.Reached.{Stands, does, told, step, reached}
 
 -- a machine that runs does its round
 runs : (m : Machine) → m .phase ≡ Running → call m round ≡ accept (next-round m)
@@ -50,4 +58,38 @@ request-14 = record {
   rounds = λ s f es t before later e i. round-counted (plain-after before) _ e (reached s f es t before later e i);
   ends = λ s f es t before later e i. let h = reached s f es t before later e i in
       (rounds-end (plain-after before) (h .record-is .formed), most-done (call (plain-after before) (e .asked) .machine) (e .reply .session) (step h));
+}
+
+-- ---- C-15
+
+-- the bytes of an accepted print at its place say what its machine came to
+record Says (m : Machine) (l : List ℕ) : Type 0 where
+  verdict : Verdict
+  settled : m .phase ≡ Settled verdict
+  says : SheetSays l (said verdict m)
+
+print-says : (m : Machine) (s : Session) (e : Exchange Call Reply) → Stands m s e → (l : List ℕ) → Printed e l → Says m l
+print-says m s e h l p =
+    let w = h .record-is .formed in
+    let x = text-by (told h print (λ n. refl) (p .size) (p .asked-is)) (p .count) (p .answer-is) in
+    let v = prints m w (length (e .old)) .accepted (x .0) .0 (x .1) in
+    let k : l ≡ sheet (v .0) m = sym (p .bytes-are) ∙ x .3 ∙ v .2 ∙ ap (sheet (v .0)) (second-is m w (v .0) (v .1)) in
+    record { verdict = v .0; settled = v .1; says = rw k (sheet-says m (v .0) w (v .1)) }
+
+-- whatever is read from two sheets is what their machines came to
+grows : (m m′ : Machine) (l l′ : List ℕ) → NeverLess m m′ → Says m l → Says m′ l′ → SheetsGrow l l′
+grows m m′ l l′ n t t′ = record {
+  smaller = (said (t .verdict) m, t .says);
+  larger = (said (t′ .verdict) m′, t′ .says);
+  no-less = λ s s′ h h′. rw (says-one h (t .says), says-one h′ (t′ .says)) (n .says (t .verdict) (t′ .verdict) (t .settled) (t′ .settled));
+}
+
+pub request-15 : Request15
+request-15 = record {
+  claims = λ s f es t before later e i s′ f′ es′ t′ before′ later′ e′ i′ up.
+      never-less (plain-after before) (plain-after before′) (reached s f es t before later e i .record-is .formed) (reached s′ f′ es′ t′ before′ later′ e′ i′ .record-is .formed) up .claims;
+  sheets = λ s f es t before later e i s′ f′ es′ t′ before′ later′ e′ i′ up l l′ p p′.
+      let m = plain-after before in let m′ = plain-after before′ in
+      let h = reached s f es t before later e i in let h′ = reached s′ f′ es′ t′ before′ later′ e′ i′ in
+      grows m m′ l l′ (never-less m m′ (h .record-is .formed) (h′ .record-is .formed) up) (print-says m _ e h l p) (print-says m′ _ e′ h′ l′ p′);
 }

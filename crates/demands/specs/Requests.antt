@@ -1,12 +1,15 @@
 -- What the requests for changes ask of every list of calls from a fresh session.
-use Prim.Native.Nat.{suc, _≤_}
+use Prim.Native.Nat.{ℕ, suc, _≤_}
 use mathlib.Core.Path.{_≡_}
 use mathlib.Core.Logic.{_↔_}
-use Rattle.machine.specs.declared.Answer.the-variants.{Done}
+use mathlib.Core.List.{List}
+use lib.ListN.{take}
+use Rattle.orderings.specs.MoreRows.{Grows, KeepsDepths}
+use Rattle.machine.specs.declared.Answer.the-variants.{Done, Wrote}
 use Rattle.machine.specs.declared.Phase.the-variants.{Running}
 use Rattle.machine.specs.Machine.{Machine}
-use Rattle.machine.specs.Calls.{Call, round}
-use Rattle.machine.specs.Statements.{RoundsEnd}
+use Rattle.machine.specs.Calls.{Call, round, print}
+use Rattle.machine.specs.Statements.{RoundsEnd, Said, SaysNoLess, SheetSays}
 use Rattle.session.specs.declared.Session.{Session}
 use Rattle.session.specs.declared.Reply.{Reply}
 use Rattle.demands.specs.Trace.{Exchange}
@@ -23,3 +26,22 @@ pub record Request14 : Type 0 where
   pub rounds : EveryCall (λ m s e. e .asked ≡ round → OneRound m s e)
   -- whatever the call, on the way to it every round but the last opened something, and the session that it hands back has done at most 129
   pub ends : EveryCall (λ m s e. RoundsEnd m × (e .reply .session .rounds ≤ 129))
+
+-- an accepted print, and the bytes that it wrote
+pub record Printed (e : Exchange Call Reply) (l : List ℕ) : Type 0 where
+  pub size : ℕ
+  pub asked-is : e .asked ≡ print size
+  pub count : ℕ
+  pub answer-is : e .reply .answer ≡ Wrote count
+  pub bytes-are : take count (e .new) ≡ l
+
+-- C-15, of the bytes of two sheets: each says something, and whatever they say, the second says no less than the first
+pub record SheetsGrow (l l′ : List ℕ) : Type 0 where
+  pub smaller : (s : Said) × SheetSays l s
+  pub larger : (s : Said) × SheetSays l′ s
+  pub no-less : (s s′ : Said) → SheetSays l s → SheetSays l′ s′ → SaysNoLess s s′
+
+-- at two calls, in two lists of calls, where the rows of the one plain machine stand in the other
+pub record Request15 : Type 0 where
+  pub claims : EveryCall (λ m s e. EveryCall (λ m′ s′ e′. Grows (m .rows) (m′ .rows) → KeepsDepths (m .rows) (m′ .rows)))
+  pub sheets : EveryCall (λ m s e. EveryCall (λ m′ s′ e′. Grows (m .rows) (m′ .rows) → (l l′ : List ℕ) → Printed e l → Printed e′ l′ → SheetsGrow l l′))

@@ -41,6 +41,13 @@ pub place-of : (l : List ℕ) (x : ℕ) → x among l → (i : ℕ) × (i < leng
 place-of [] x m = absurd (List·Memᴰ·not-nil m)
 place-of (y ∷ l) x m = ⊎-elim (λ e. (0, omega arith, sym e)) (λ i. let r = place-of l x i in (suc (r .0), omega (arith, r .1), r .2)) (List·Memᴰ·cases-cons m)
 
+-- where a mark that neither has ends the first parts of two equal lists, the parts are equal
+pub split-once : {A : Type 0} (x : A) (l m r s : List A) → ¬ (x among l) → ¬ (x among m) → l ++ (x ∷ r) ≡ m ++ (x ∷ s) → (l ≡ m) × (r ≡ s)
+split-once x [] [] r s h k e = (refl, cc)
+split-once x [] (y ∷ m) r s h k e = absurd (k (List·Memᴰ·head cc))
+split-once x (y ∷ l) [] r s h k e = absurd (h (List·Memᴰ·head cc))
+split-once x (y ∷ l) (z ∷ m) r s h k e = let p = split-once x l m r s (λ i. h (List·Memᴰ·tail i)) (λ i. k (List·Memᴰ·tail i)) cc in let i = p .0 in (cc, p .1)
+
 pub gather-append : {A B : Type 0} (f : A → List B) (l m : List A) → gather f (l ++ m) ≡ gather f l ++ gather f m
 gather-append f [] m = refl
 gather-append {A} {B} f (x ∷ l) m = ap (λ (k : List B). f x ++ k) (gather-append f l m) ∙ sym (append-assoc (f x) (gather f l) (gather f m))

@@ -2,13 +2,14 @@
 use Prim.Native.Nat.{ℕ, _<_, _≤_}
 use mathlib.Core.Path.{_≡_, refl, ap, sym, _∙_}
 use mathlib.Core.List.{List}
-use lib.ListN.{length}
+use lib.ListN.{length, take, drop}
+use lib.Seq.{take-at}
 use native.Mathlib.Omega.{arith}
 use borrow.Author.Tests.{lt-ltb, le-ltb}
 use Rattle.lists.specs.Writing as Writing
 use Rattle.machine.specs.declared.Answer.{Answer}
 use Rattle.machine.specs.declared.Answer.the-variants.{Done, Wrote, Refused}
-use Rattle.machine.specs.Calls.{Outcome, done, wrote, refused, Returned, returned, due, Tells, TellsText}
+use Rattle.machine.specs.Calls.{Outcome, done, wrote, refused, Returned, returned, due, buffer-after, Tells, TellsText}
 
 -- ---- an outcome from the number and values that are due for it
 
@@ -55,6 +56,11 @@ answer-due o r h = by r (sym h)
 
 pub answer-by : {o : Outcome} {old new : List ℕ} {r : Answer} → Tells o old new r → r ≡ answer-of o
 answer-by {o} {old} {new} {r} t = answer-due o r (t .answer-is)
+
+-- the text of a call that wrote, at the front of the buffer
+pub text-by : {o : Outcome} {old new : List ℕ} {r : Answer} → Tells o old new r → (n : ℕ) → r ≡ Wrote n → (l : List ℕ) × (o ≡ wrote l) × (n ≡ length l) × (take n new ≡ l)
+text-by {o} {old} {new} t n e = let w = wrote-by o n (sym (t .answer-is) ∙ ap returned e) in
+    (w .0, w .1, w .2, ap (take n) (t .buffer-is ∙ ap (λ (x : Outcome). buffer-after x old) (w .1)) ∙ take-at (w .0) (drop (length (w .0)) old) n (sym (w .2)))
 
 -- answers that are not done
 pub wrote-not-done : {r : Answer} {n : ℕ} → r ≡ Wrote n → r ≡ Done → ⊥

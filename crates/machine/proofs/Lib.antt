@@ -20,6 +20,8 @@ pub mod Causes
 pub mod History
 pub mod Statements
 pub mod Ending
+pub mod MoreRows
+pub mod Says
 pub mod Second
 pub mod Once
 pub mod Program

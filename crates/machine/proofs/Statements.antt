@@ -67,6 +67,9 @@ module _ (m : Machine) (w : WellFormed m) where
   pub worked-listed : Worked m → Listed m
   worked-listed k = subst Listed (sym (k .1)) (after-listed (m .rows) (k .0))
 
+  pub settled-listed : (v : Verdict) → m .phase ≡ Settled v → Listed m
+  settled-listed v e = worked-listed (subst (Made m) e (w .made))
+
   pub print-accepts : (size : ℕ) (v : Verdict) → m .phase ≡ Settled v → length (sheet v m) ≤ size → call m (print size) .answer ≡ wrote (sheet v m)
   unfolding call-in
   print-accepts size v e h = ap (λ (p : Phase). call-in p m (print size) .answer) e

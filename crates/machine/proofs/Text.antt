@@ -114,17 +114,20 @@ worth-digit d h = go (ltb d 10) (ltb· d 10)
     go true i = rw (low (48 + d) (omega (arith, yes· i))) (omega arith)
     go false i = rw (high (87 + d) (omega arith)) (omega arith)
 
-digit-byte : (d : ℕ) → d < 16 → digit d < 256
+digit-byte : (d : ℕ) → d < 16 → (48 ≤ digit d) × (digit d < 256)
 digit-byte d h = go (ltb d 10)
   where
-    go : (t : Bool) → cond t (48 + d) (87 + d) < 256
-    go true = omega arith
-    go false = omega arith
+    go : (t : Bool) → (48 ≤ cond t (48 + d) (87 + d)) × (cond t (48 + d) (87 + d) < 256)
+    go true = (omega arith, omega arith)
+    go false = (omega arith, omega arith)
+
+pub hex-digits : (n x b : ℕ) → b among hex n x → (48 ≤ b) × (b < 256)
+unfolding hex
+hex-digits zero x b m = absurd (List·Memᴰ·not-nil m)
+hex-digits (suc n) x b m = ⊎-elim (λ e. rw e (digit-byte (x / 16 ^ n % 16) (omega arith))) (hex-digits n x b) (List·Memᴰ·cases-cons m)
 
 pub hex-bytes : (n x : ℕ) → Bytes (hex n x)
-unfolding hex
-hex-bytes zero x b m = absurd (List·Memᴰ·not-nil m)
-hex-bytes (suc n) x b m = ⊎-elim (λ e. rw e (digit-byte (x / 16 ^ n % 16) (omega arith))) (hex-bytes n x b) (List·Memᴰ·cases-cons m)
+hex-bytes n x b m = hex-digits n x b m .1
 
 -- a number is that of its digits, after what stands ahead of them
 read-after : (n x : ℕ) → read-hex (hex n x) (x / 16 ^ n) ≡ x

@@ -1,22 +1,25 @@
--- What is shown of the plain machine, as statements: `Closed`, `Rounded`, `Listed`, `Works`, `SecondWorks`, `RoundsEnd`, `Prints`, `Saves`. Nothing here is
--- computed by the machine's own search.
-use Prim.Native.Nat.{ℕ, suc, _≤_, _<_, _*_}
+-- What is shown of the plain machine, as statements: `Closed`, `Rounded`, `Listed`, `Works`, `SecondWorks`, `RoundsEnd`, `MoreRows`, `Prints`, `Saves`. Nothing
+-- here is computed by the machine's own search.
+use Prim.Native.Nat.{ℕ, suc, _≤_, _<_, _*_, _^_}
 use mathlib.Core.Path.{_≡_}
 use mathlib.Core.Logic.{_⊎_, _↔_, _≢_}
-use mathlib.Core.List.{List, [], _∷_}
+use mathlib.Core.Option.{Option}
+use mathlib.Core.List.{List, [], _∷_, _++_}
 use lib.ListN.{length}
-use Rattle.lists.specs.Tests.{_among_, Once}
+use Rattle.lists.specs.Tests.{_among_, Once, gather}
 use Rattle.lists.specs.Order.{Sorted, sort-by}
 use Rattle.rows.specs.declared.Row.{Row}
 use Rattle.rows.specs.Rows.{row-bytes, batch-of, AllFit, Bytes, standing-sets}
 use Rattle.orderings.specs.Steps.{Claim, loops, mixes, set-of, Walk}
 use Rattle.orderings.specs.Systems.{Allowed, Holds, LeastDepth, GreatestLeast, Accepts, LeastAccepted}
 use Rattle.orderings.specs.Timelines.{Accepting, timelines}
+use Rattle.orderings.specs.MoreRows.{Grows, KeepsDepths}
 use Rattle.machine.specs.declared.Verdict.{Verdict}
 use Rattle.machine.specs.declared.Verdict.the-variants.{NonEmpty, Empty}
 use Rattle.machine.specs.declared.Phase.the-variants.{Open, Running, Settled}
 use Rattle.machine.specs.Machine.{most-sets, most-rounds, Opening, Machine, open-with, fresh, open-claims}
-use Rattle.machine.specs.Sheet.{sheet}
+use Rattle.machine.specs.Order.{Found}
+use Rattle.machine.specs.Sheet.{verdict-line, opening-line, walk-lines, sheet}
 use Rattle.machine.specs.Calls.{Call, load, round, print, done, wrote, accept, call, run, second, Brings}
 
 -- a walk of zero or more steps, with letter steps and steps of the claims l, leads from an initial to a final state
@@ -122,6 +125,41 @@ pub record RoundsEnd (m : Machine) : Type 0 where
 -- from any list of calls a round is never the 130th
 abbrev pub NeverThe130th : Type 0
 NeverThe130th = (cs : List Call) → ((c : Call) → c among cs → Brings c) → RoundsEnd (run fresh cs)
+
+-- what a sheet says beside its walk: the verdict, the round number and the openings
+pub record Said : Type 0 where
+  pub verdict : Verdict
+  pub number : ℕ
+  pub openings : List Opening
+
+-- of a settled machine
+abbrev pub said : Verdict → Machine → Said
+said v m = record { verdict = v; number = m .rounds; openings = m .openings }
+
+-- request C-15, of what two sheets say, the second of more rows
+pub record SaysNoLess (s s′ : Said) : Type 0 where
+  -- a non-empty verdict of the smaller is one of the larger
+  pub verdict : s .verdict ≡ NonEmpty → s′ .verdict ≡ NonEmpty
+  -- with no greater round number
+  pub number : s .verdict ≡ NonEmpty → s′ .number ≤ s .number
+  -- what opens in the smaller up to the larger's last round opens in the larger, in no later round
+  pub listed : (o : Opening) → o among s .openings → o .round ≤ s′ .number → (k : ℕ) × (k ≤ o .round) × record { round = k; claim = o .claim } among s′ .openings
+
+-- m′ is a machine with more rows than m
+pub record NeverLess (m m′ : Machine) : Type 0 where
+  pub claims : KeepsDepths (m .rows) (m′ .rows)
+  pub says : (v v′ : Verdict) → m .phase ≡ Settled v → m′ .phase ≡ Settled v′ → SaysNoLess (said v m) (said v′ m′)
+
+-- after any two lists of calls
+abbrev pub MoreRows : Type 0
+MoreRows = (cs ds : List Call) → ((c : Call) → c among cs → Brings c) → ((c : Call) → c among ds → Brings c)
+    → Grows (run fresh cs .rows) (run fresh ds .rows) → NeverLess (run fresh cs) (run fresh ds)
+
+-- the bytes are a sheet that says so: they are its lines, and a set is a number of eight bytes
+pub record SheetSays (l : List ℕ) (s : Said) : Type 0 where
+  pub walk : Option Found
+  pub lines : l ≡ verdict-line (s .verdict) (s .number) ++ (gather opening-line (s .openings) ++ walk-lines walk)
+  pub sets : (o : Opening) → o among s .openings → set-of (o .claim) < 256 ^ 8
 
 -- demand 3 at one print: the machine m was fed the calls before it, and the buffer has some size
 pub record Prints (m : Machine) (size : ℕ) : Type 0 where

@@ -46,6 +46,11 @@ module _ (S : System) where
   depth-has [] c h = absurd (omega arith)
   depth-has (l ∷ D) c h = choose-cases (S .same c (l .claim)) (λ n. 0 < n → Has S (l ∷ D) c) (λ e i. List·Memᴰ·head e) (λ n i. List·Memᴰ·tail (depth-has D c i)) h
 
+  -- it has only claims that a derivation may hold
+  pub has-subject : (D : Derivation S) (c : S .Claim) → Valid S D → Has S D c → S .Subject c
+  has-subject [] c v m = absurd (List·Memᴰ·not-nil m)
+  has-subject (l ∷ D) c v m = ⊎-elim (λ e. rw e (v .0)) (has-subject D c (v .3)) (List·Memᴰ·cases-cons m)
+
   module _ (law : Lawful S) where
     pub holds-more : {In In′ : S .Claim → Type 0} → ((c : S .Claim) → In c → In′ c) → (c : S .Claim) → Holds S In c → Holds S In′ c
     holds-more up c h = (h .0, law .more (λ w a. (a .0, allowed-more S up w (a .1))) c (h .1))

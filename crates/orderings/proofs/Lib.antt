@@ -8,3 +8,4 @@ pub mod Timelines
 pub mod Reach
 pub mod Deciding
 pub mod Claims
+pub mod MoreRows

@@ -88,10 +88,13 @@ Valid S (l ∷ D) = S .Subject (l .claim)
 abbrev pub Derivable : (S : System) → S .Claim → Type 0
 Derivable S c = (D : Derivation S) × Valid S D × Has S D c
 
+-- the claim holds at depth k: some derivation has it there
+abbrev pub HoldsAt : (S : System) → S .Claim → ℕ → Type 0
+HoldsAt S c k = (D : Derivation S) × Valid S D × Has S D c × (depth S D c ≡ k)
+
 -- the smallest depth of the claim over all derivations is k
 abbrev pub LeastDepth : (S : System) → S .Claim → ℕ → Type 0
-LeastDepth S c k = ((D : Derivation S) × Valid S D × Has S D c × (depth S D c ≡ k))
-    × ((D : Derivation S) → Valid S D → Has S D c → k ≤ depth S D c)
+LeastDepth S c k = HoldsAt S c k × ((D : Derivation S) → Valid S D → Has S D c → k ≤ depth S D c)
 
 -- g is the greatest least depth of any derivable claim, 0 if there is none
 abbrev pub GreatestLeast : System → ℕ → Type 0

@@ -1,6 +1,6 @@
 -- The different sets of some rows: which they are (`sets-iff`), their order (`sets-sorted`, `sets-once`, `sets-rise`) and their number
--- (`sets-fewer`, `sets-new`).
-use Prim.Native.Nat.{ℕ, suc, _≤_, _<_}
+-- (`sets-fewer`, `sets-new`); that they fit (`set-fits`).
+use Prim.Native.Nat.{ℕ, suc, _^_, _≤_, _<_}
 use mathlib.Core.Path.{_≡_, refl}
 use mathlib.Core.Bool.{Bool, true, false}
 use mathlib.Core.Logic.{_⊎_, inl, inr, ⊎-elim, _↔_}
@@ -17,7 +17,7 @@ use Rattle.lists.proofs.Sorting.{insert-iff, insert-sorted, insert-once, sorted
 use Rattle.sorted_keys.specs.Keys.{Rising}
 use Rattle.rows.specs.declared.Row.{Row}
 use Rattle.rows.specs.declared.Row.the-variants.{Initial, Final, Successor, LeftLimit, RightLimit}
-use Rattle.rows.specs.Rows.{sets-of, SetOf, add-new, distinct, standing-sets}
+use Rattle.rows.specs.Rows.{Fits, AllFit, sets-of, SetOf, add-new, distinct, standing-sets}
 
 abbrev key : ℕ → List ℕ
 key P = P ∷ []
@@ -70,6 +70,17 @@ module _ (rows : List Row) (sets : List ℕ) (k : ℕ) (are : take k sets ≡ st
 
   pub set-place : (P : ℕ) → SetOf rows P → (i : ℕ) × (i < k) × (P ≡ getD sets i 0)
   set-place P h = held-place k sets P (rw are (sets-iff rows P .1 h))
+
+-- a set of rows that fit is a number of eight bytes
+pub set-fits : (rows : List Row) → AllFit rows → (P : ℕ) → SetOf rows P → P < 256 ^ 8
+set-fits rows f P h = by (h .0) (f (h .0) (h .1)) (h .2)
+  where
+    by : (r : Row) → Fits r → P among sets-of r → P < 256 ^ 8
+    by (Initial s) g m = absurd (List·Memᴰ·not-nil m)
+    by (Final s) g m = absurd (List·Memᴰ·not-nil m)
+    by (Successor p a q) g m = absurd (List·Memᴰ·not-nil m)
+    by (LeftLimit Q q) g m = rw (List·Memᴰ·eq-of-singleton m) (g .1)
+    by (RightLimit q Q) g m = rw (List·Memᴰ·eq-of-singleton m) (g .1)
 
 sets-part : (rows rows′ : List Row) → rows part-of rows′ → standing-sets rows part-of standing-sets rows′
 sets-part rows rows′ h P m = let s = sets-iff rows P .0 m in sets-iff rows′ P .1 (s .0, h (s .0) (s .1), s .2)

@@ -1,0 +1,100 @@
+-- Request C-15, of the machines that calls make: more rows, never less (`never-less`, `more-rows`). Only a withdraw takes rows
+-- away (`run-grows`).
+use Prim.Native.Nat.{ℕ, _≤_}
+use mathlib.Core.Path.{_≡_, refl, ap, sym, subst}
+use mathlib.Core.Logic.{inl}
+use mathlib.Core.List.{List, [], _∷_}
+use native.Mathlib.Omega.{arith}
+use Rattle.lists.specs.Tests.{_among_}
+use Rattle.rows.specs.declared.Row.{Row}
+use Rattle.rows.specs.Rows.{Bytes}
+use Rattle.rows.specs.Batch.{fed, feed}
+use Rattle.rows.proofs.Batch.{feed-runs}
+use Rattle.orderings.specs.Timelines.{timelines}
+use Rattle.orderings.specs.MoreRows.{Grows}
+use Rattle.orderings.proofs.Timelines.{lawful}
+use Rattle.orderings.proofs.Claims.{open-dec}
+use Rattle.orderings.proofs.Verdicts.{least-depth}
+use Rattle.orderings.proofs.MoreRows.{depths-grow, accepts-grows, least-grows}
+use Rattle.machine.specs.declared.Verdict.{Verdict}
+use Rattle.machine.specs.declared.Verdict.the-variants.{NonEmpty, Empty}
+use Rattle.machine.specs.declared.Phase.the-variants.{Settled}
+use Rattle.machine.specs.Machine.{Opening, Machine, fresh, load-row, closed, next-round}
+use Rattle.machine.specs.Calls.{Call, load, withdraw, close, round, reopen, print, save, Outcome, done, wrote, refused, call, run}
+use Rattle.machine.specs.WellFormed.{WellFormed}
+use Rattle.machine.specs.Statements.{Listed, Number, said, SaysNoLess, NeverLess, MoreRows}
+use Rattle.machine.proofs.Tables.{load-sets}
+use Rattle.machine.proofs.Outcomes.{Done, load-done, withdraw-done, close-done, round-done, reopen-done, Comes, comes}
+use Rattle.machine.proofs.History.{fresh-formed}
+use Rattle.machine.proofs.Statements.{settled-number, settled-listed}
+
+module _ (m m′ : Machine) (w : WellFormed m) (w′ : WellFormed m′) (up : Grows (m .rows) (m′ .rows)) where
+  -- where the smaller is non-empty
+  non-empty : (v′ : Verdict) → Number (m .rows) NonEmpty (m .rounds) → Number (m′ .rows) v′ (m′ .rounds) → (v′ ≡ NonEmpty) × (m′ .rounds ≤ m .rounds)
+  non-empty NonEmpty n n′ = (refl, least-grows (m .rows) (m′ .rows) up (m .rounds) (m′ .rounds) (n .1) (n′ .1))
+  non-empty Empty n n′ = absurd (n′ .0 (accepts-grows (m .rows) (m′ .rows) up (n .0)))
+
+  -- an opening of the smaller has a least depth in the larger, no greater
+  opens : Listed m → Listed m′ → (o : Opening) → o among m .openings → o .round ≤ m′ .rounds → (k : ℕ) × (k ≤ o .round) × record { round = k; claim = o .claim } among m′ .openings
+  opens l l′ o i h =
+      let d = depths-grow (m .rows) (m′ .rows) up (o .claim) (o .round) (l .depths o .0 i .1 .0) in
+      let k = least-depth (timelines (m′ .rows)) (lawful (m′ .rows)) (open-dec (m′ .rows)) (o .claim) (d .0, d .1, d .2) in
+      let b : k .0 ≤ o .round = omega (arith, k .1 .1 (d .0) (d .1) (d .2), d .3) in
+      (k .0, b, l′ .depths (record { round = k .0; claim = o .claim }) .1 (omega (arith, b, h), k .1))
+
+  pub never-less : NeverLess m m′
+  never-less = record {
+    claims = depths-grow (m .rows) (m′ .rows) up;
+    says = λ v v′ e e′.
+        let both : v ≡ NonEmpty → (v′ ≡ NonEmpty) × (m′ .rounds ≤ m .rounds) = λ i.
+        non-empty v′ (subst (λ (x : Verdict). Number (m .rows) x (m .rounds)) i (settled-number m w v e .0)) (settled-number m′ w′ v′ e′ .0) in
+        record {
+          verdict = λ i. both i .0;
+          number = λ i. both i .1;
+          listed = opens (settled-listed m w v e) (settled-listed m′ w′ v′ e′);
+        };
+  }
+
+-- request C-15
+pub more-rows : MoreRows
+more-rows cs ds b d up = never-less (run fresh cs) (run fresh ds) (fresh-formed cs b) (fresh-formed ds d) up
+
+-- ---- what grows
+
+fed-grows : (rows rows′ : List Row) (l : List ℕ) → Bytes l → feed load-row rows l ≡ fed rows′ → Grows rows rows′
+fed-grows rows rows′ l b f r i = let o = feed-runs load-row rows rows′ l b .0 f in load-sets rows rows′ (o .rows) (o .ran) r .1 (inl i)
+
+-- calls that withdraw nothing, with batches of bytes
+abbrev NoWithdraw : Call → Type 0
+NoWithdraw (load l) = Bytes l
+NoWithdraw (withdraw l) = ⊥
+NoWithdraw close = Unit {0}
+NoWithdraw round = Unit {0}
+NoWithdraw reopen = Unit {0}
+NoWithdraw (print size) = Unit {0}
+NoWithdraw (save size) = Unit {0}
+
+abbrev pub NoneWithdraw : List Call → Type 0
+NoneWithdraw [] = Unit {0}
+NoneWithdraw (c ∷ cs) = NoWithdraw c × NoneWithdraw cs
+
+call-grows : (m : Machine) (c : Call) → NoWithdraw c → Grows (m .rows) (call m c .machine .rows)
+unfolding closed next-round
+call-grows m c n = by (call m c .answer) (call m c .machine) (comes m c (call m c .answer) refl)
+  where
+    done-grows : {c : Call} {m′ : Machine} → Done m c m′ → NoWithdraw c → Grows (m .rows) (m′ .rows)
+    done-grows (load-done l rows e f) b = fed-grows (m .rows) rows l b f
+    done-grows (withdraw-done l rows e f) b = absurd b
+    done-grows (close-done e) b = λ r i. i
+    done-grows (round-done e) b = λ r i. i
+    done-grows (reopen-done e) b = λ r i. i
+
+    by : (a : Outcome) (m′ : Machine) → Comes m c m′ a → Grows (m .rows) (m′ .rows)
+    by done m′ d = done-grows d n
+    by (wrote l) m′ k = λ r i. rw (k .0) i
+    by (refused p place) m′ k = λ r i. rw (k .0) i
+
+-- they take no row away
+pub run-grows : (m : Machine) (cs : List Call) → NoneWithdraw cs → Grows (m .rows) (run m cs .rows)
+run-grows m [] n = λ r i. i
+run-grows m (c ∷ cs) n = λ r i. run-grows (call m c .machine) cs (n .1) r (call-grows m c (n .0) r i)
