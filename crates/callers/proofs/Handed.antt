@@ -255,7 +255,7 @@ adds-late cs batch old new old′ new′ p r s t w x k =
     let e = exchange (print (length old)) old new p in
     let e′ = exchange (print (length old′)) old′ new′ r in
     let up : Grows (run fresh cs .rows) (run fresh (cs ++ ds) .rows) =
-    subst (λ (y : Machine). Grows (run fresh cs .rows) (y .rows)) (sym (run-append fresh cs ds)) (run-grows (run fresh cs) ds (tt, tt, w .brings, tt, rounds-keep (x .count))) in
+    subst (λ (y : Machine). Grows (run fresh cs .rows) (y .rows)) (sym (run-append fresh cs ds)) (run-grows (run fresh cs) ds (tt, (tt, (w .brings, (tt, rounds-keep (x .count)))))) in
     record {
       count = x .count;
       few = x .few;
