@@ -1,7 +1,7 @@
--- Request C-15, of the machines that calls make: more rows, never less (`never-less`, `more-rows`). Only a withdraw takes rows
--- away (`run-grows`).
+-- Request C-15, of the machines that calls make: more rows, never less (`never-less`, `more-rows`); no less both ways is
+-- the same (`no-less-both`). Only a withdraw takes rows away (`run-grows`).
 use Prim.Native.Nat.{ℕ, _≤_}
-use mathlib.Core.Path.{_≡_, refl, ap, sym, subst}
+use mathlib.Core.Path.{_≡_, refl, sym, subst}
 use mathlib.Core.Logic.{inl}
 use mathlib.Core.List.{List, [], _∷_}
 use native.Mathlib.Omega.{arith}
@@ -14,11 +14,10 @@ use Rattle.orderings.specs.Timelines.{timelines}
 use Rattle.orderings.specs.MoreRows.{Grows}
 use Rattle.orderings.proofs.Timelines.{lawful}
 use Rattle.orderings.proofs.Claims.{open-dec}
-use Rattle.orderings.proofs.Verdicts.{least-depth}
+use Rattle.orderings.proofs.Verdicts.{least-depth, least-depth-unique}
 use Rattle.orderings.proofs.MoreRows.{depths-grow, accepts-grows, least-grows}
 use Rattle.machine.specs.declared.Verdict.{Verdict}
 use Rattle.machine.specs.declared.Verdict.the-variants.{NonEmpty, Empty}
-use Rattle.machine.specs.declared.Phase.the-variants.{Settled}
 use Rattle.machine.specs.Machine.{Opening, Machine, fresh, load-row, closed, next-round}
 use Rattle.machine.specs.Calls.{Call, load, withdraw, close, round, reopen, print, save, Outcome, done, wrote, refused, call, run}
 use Rattle.machine.specs.WellFormed.{WellFormed}
@@ -58,6 +57,31 @@ module _ (m m′ : Machine) (w : WellFormed m) (w′ : WellFormed m′) (up : Gr
 -- request C-15
 pub more-rows : MoreRows
 more-rows cs ds b d up = never-less (run fresh cs) (run fresh ds) (fresh-formed cs b) (fresh-formed ds d) up
+
+-- no less both ways is the same: the verdict, the number of a non-empty one, and what both list
+module _ (m m′ : Machine) (l : Listed m) (v v′ : Verdict) (n : SaysNoLess (said v m) (said v′ m′)) (n′ : SaysNoLess (said v′ m′) (said v m)) where
+  same-verdict : v ≡ v′
+  same-verdict = by v v′ (n .verdict) (n′ .verdict)
+    where
+      by : (v v′ : Verdict) → (v ≡ NonEmpty → v′ ≡ NonEmpty) → (v′ ≡ NonEmpty → v ≡ NonEmpty) → v ≡ v′
+      by NonEmpty v′ f g = sym (f refl)
+      by Empty NonEmpty f g = g refl
+      by Empty Empty f g = refl
+
+  same-number : v ≡ NonEmpty → m .rounds ≡ m′ .rounds
+  same-number e = omega (arith, n .number e, n′ .number (n .verdict e))
+
+  same-opening : (o : Opening) → o among m .openings → o .round ≤ m′ .rounds → o among m′ .openings
+  same-opening o i h =
+      let a = l .depths o .0 i in
+      let p = n .listed o i h in
+      let q = n′ .listed (record { round = p .0; claim = o .claim }) (p .2) (omega (arith, p .1, a .0)) in
+      let b = l .depths (record { round = q .0; claim = o .claim }) .0 (q .2) in
+      let e = least-depth-unique (timelines (m .rows)) (o .claim) (q .0) (o .round) (b .1) (a .1) in
+      subst (λ (k : ℕ). record { round = k; claim = o .claim } among m′ .openings) (omega (arith, p .1, q .1, e)) (p .2)
+
+  pub no-less-both : (v ≡ v′) × (v ≡ NonEmpty → m .rounds ≡ m′ .rounds) × ((o : Opening) → o among m .openings → o .round ≤ m′ .rounds → o among m′ .openings)
+  no-less-both = (same-verdict, same-number, same-opening)
 
 -- ---- what grows
 

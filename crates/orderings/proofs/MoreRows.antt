@@ -1,6 +1,6 @@
 -- Request C-15: a derivation over some rows is one over more rows, line by line, with every claim at the same depth. First for any system
 -- (`keeps-depth`, `accepts-more`, `least-more`), then for rows (`depths-grow`, `accepts-grows`, `least-grows`).
-use Prim.Native.Nat.{ℕ, suc, max, _≤_}
+use Prim.Native.Nat.{ℕ, _≤_}
 use mathlib.Core.Path.{_≡_, refl, _∙_}
 use mathlib.Core.Logic.{⊎-elim}
 use mathlib.Core.Option.{Option, none, some}
