@@ -1,9 +1,9 @@
 -- The rounds in arrays are the machine's, from closed (`closed-kept`) through each round (`stage-start`, `stage-more`, `round-kept`) to the end
--- of its rounds (`kept-settled`).
+-- of its rounds (`kept-settled`, `closed-settled`).
 use Prim.Native.Nat.{ℕ, suc, _+_, _<_, _≤_}
 use mathlib.Core.Path.{_≡_, refl, ap, sym, _∙_, subst}
-use mathlib.Core.Bool.{Bool, false}
-use mathlib.Core.Logic.{_⊎_, ⊎-elim, _↔_}
+use mathlib.Core.Bool.{Bool, true, false}
+use mathlib.Core.Logic.{_⊎_, inr, ⊎-elim, _↔_}
 use mathlib.Core.List.{List, []}
 use lib.ListN.{getD, replicate}
 use native.Mathlib.Nat.{eq-or-lt-of-le}
@@ -26,9 +26,9 @@ use Rattle.search.specs.Masked.{Forced}
 use Rattle.search.specs.Promises.{AcceptsRight, OpensBelow}
 use Rattle.row_table.specs.Arrays.{SetsIn}
 use Rattle.rounds.specs.Arrays.{rounds-of, OpenPlaces, Marks}
-use Rattle.rounds.specs.Promises.{Given, Mirrors}
+use Rattle.rounds.specs.Promises.{Given, Mirrors, none}
 use Rattle.rounds.proofs.OpenClaims.{set-at, open-iff, no-rounds}
-use Rattle.rounds.proofs.Turn.{none, none-forced, walk-test, Turn, turn-kept, turn-forced}
+use Rattle.rounds.proofs.Turn.{none-forced, walk-test, Turn, turn-kept, turn-forced}
 
 -- another phase than running
 pub not-running : (p q : Phase) → p ≡ q → ¬ (q ≡ Running) → Decides false (p ≡ Running)
@@ -147,3 +147,9 @@ kept-settled rows t k loop-rounds mix-rounds phase count before ended kept =
     all-done : k ≡ settles rows .rounds
     all-done = let s = settles rows in let l = no-more rows s k before in
         ⊎-elim (λ h. omega (arith, l, few-rounds rows (t .few-sets))) (λ h. ⊎-elim (λ e. e) (λ i. absurd (h (kept .phase-is ∙ s .before k i))) (eq-or-lt-of-le l)) ended
+
+-- settled as it is closed
+pub closed-settled : (rows : List Row) {g : Graph} {initials finals n : ℕ} → Given rows g initials finals n → AcceptsRight g none initials finals true
+    → Mirrors (run (open-with rows) settle) (replicate 64 0) (replicate 64 0) (judged true false) 0
+closed-settled rows given r = let s = stage-start rows given true r in
+    kept-settled rows (given .table) 0 (replicate 64 0) (replicate 64 0) (judged true false) 0 (s .before) (inr (λ e. let z : _≡_ {A = ℕ} 0 1 = cc in absurd (omega arith))) (s .kept)

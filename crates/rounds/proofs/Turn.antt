@@ -26,7 +26,7 @@ use Rattle.search.specs.Hops.{WithNew}
 use Rattle.search.specs.Masked.{Forced}
 use Rattle.search.specs.Promises.{AcceptsRight, NewlyHolds, Opened}
 use Rattle.rounds.specs.Arrays.{rounds-of, Marks}
-use Rattle.rounds.specs.Promises.{Given, Mirrors}
+use Rattle.rounds.specs.Promises.{Given, Mirrors, none}
 use Rattle.rounds.proofs.OpenClaims.{set-at}
 use Rattle.rounds.proofs.Marking.{marked}
 
@@ -35,9 +35,6 @@ none· [] = record { to = λ e x. List·Memᴰ·not-nil; of = λ h. refl }
 none· (x ∷ l) = record { to = λ e. let z : _≡_ {A = ℕ} 0 1 = cc in absurd (omega arith); of = λ h. absurd (h x (List·Memᴰ·head refl)) }
 
 -- ---- claims in force
-
-abbrev pub none : Claims
-none = record { loops = 0; mixes = 0 }
 
 -- no claims
 pub none-forced : (g : Graph) (n : ℕ) → Forced (λ c. c among []) g n none

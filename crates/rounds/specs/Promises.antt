@@ -1,15 +1,20 @@
 -- What the rounds promise, of every table of rows that the graph stands for.
 use Prim.Native.Nat.{ℕ}
 use mathlib.Core.Path.{_≡_}
+use mathlib.Core.Bool.{Bool, false}
 use mathlib.Core.List.{List}
+use lib.ListN.{replicate}
 use Rattle.rows.specs.declared.Row.{Row}
 use Rattle.orderings.specs.Steps.{loops, mixes}
 use Rattle.machine.specs.declared.Phase.{Phase}
-use Rattle.machine.specs.Machine.{Machine, open-with, closed, next-round}
+use Rattle.machine.specs.Machine.{Machine, open-with, judged, closed, next-round}
 use Rattle.machine.specs.Calls.{run, settle}
 use Rattle.machine.specs.WellFormed.{Table, WellFormed}
+use Rattle.search.specs.declared.Claims.{Claims}
 use Rattle.search.specs.Graph.{Graph}
+use Rattle.search.specs.Hops.{Reached}
 use Rattle.search.specs.Masked.{Masked, Initials, Finals}
+use Rattle.search.specs.Promises.{AcceptsRight}
 use Rattle.row_table.specs.Arrays.{SetsIn}
 use Rattle.rounds.specs.declared.Progress.{Progress}
 use Rattle.rounds.specs.Arrays.{rounds-of}
@@ -29,6 +34,10 @@ pub record Mirrors (m : Machine) (loop-rounds mix-rounds : List ℕ) (phase : Ph
   pub phase-is : phase ≡ m .phase
   pub count-is : count ≡ m .rounds
 
+-- no claim is open and no round is done: a walk leads from an initial to a final state, or not
+abbrev pub closed-as : Bool → Progress
+closed-as accepted = record { «loop_rounds» = replicate 64 0; «mix_rounds» = replicate 64 0; phase = judged accepted false; rounds = 0 }
+
 -- they are those of the machine, closed
 abbrev pub Closes : Graph → ℕ → ℕ → Progress → Type 0
 Closes g initials finals r = (m : Machine) (n : ℕ) → Given (m .rows) g initials finals n
@@ -39,6 +48,15 @@ abbrev pub DoesRound : Graph → ℕ → ℕ → ℕ → Progress → Progress �
 DoesRound g initials finals n old new = (m : Machine) → WellFormed m → Given (m .rows) g initials finals n
     → Mirrors m (old .«loop_rounds») (old .«mix_rounds») (old .phase) (old .rounds)
     → Mirrors (next-round m) (new .«loop_rounds») (new .«mix_rounds») (new .phase) (new .rounds)
+
+-- no claim in force
+abbrev pub none : Claims
+none = record { loops = 0; mixes = 0 }
+
+-- letters alone lead to the states reached, and from no initial to a final state
+pub record Unaccepted (g : Graph) (initials finals reached : ℕ) : Type 0 where
+  pub reached-are : Reached g none initials reached
+  pub tested : AcceptsRight g none initials finals false
 
 -- they are those of the machine with these rows, closed and settled
 abbrev pub Settles : Graph → ℕ → ℕ → ℕ → Progress → Type 0

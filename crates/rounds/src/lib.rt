@@ -3,6 +3,7 @@ use machine::MOST_ROUNDS;
 use machine::MOST_SETS;
 use machine::Phase;
 use machine::Verdict;
+use masks::PLACES;
 use masks::Places;
 use masks::Set;
 use search::Claims;
@@ -21,7 +22,7 @@ ghost use Rattle.search.specs.Graph.{graph-of, Indexed};
 ghost use Rattle.search.specs.Hops.{WithNew};
 ghost use Rattle.search.specs.Promises.{OpensBelow};
 ghost use Rattle.rounds.specs.Arrays.{OpenPlaces, Marks};
-ghost use Rattle.rounds.specs.Promises.{Closes, DoesRound, Settles};
+ghost use Rattle.rounds.specs.Promises.{closed-as, Closes, DoesRound, Unaccepted, Settles};
 
 // The rounds in which the loop and the mix of each set opened, 0 for not open; the phase and the count of rounds.
 pub struct Progress {
@@ -100,13 +101,10 @@ fn mark(rounds: &mut [u8; MOST_SETS], opened: Places, round: u8)
     }
 }
 
-// Close: no claim is open.
-pub fn close(graph: &Masks, initials: Set, finals: Set) -> Progress
-    requires { ⌜ Indexed (now graph) ⌝ }
-    ensures { λ r. ⌜ Closes (graph-of (now (graph .entry))) initials finals r ⌝ }
+// Closed: no claim is open, and no round is done.
+fn without_rounds(accepted: bool) -> Progress
+    ensures { λ r. ⌜ r ≡ closed-as accepted ⌝ }
 {
-    let force = Claims { loops: 0, mixes: 0 };
-    let accepted = searches::accepts(graph, force, initials, finals);
     let phase = judge(accepted, false);
     let loop_rounds = [0u8; MOST_SETS];
     let mix_rounds = [0u8; MOST_SETS];
@@ -118,6 +116,16 @@ pub fn close(graph: &Masks, initials: Set, finals: Set) -> Progress
     }
 }
 
+// Close: letters alone may lead from an initial to a final state.
+pub fn close(graph: &Masks, initials: Set, finals: Set) -> Progress
+    requires { ⌜ Indexed (now graph) ⌝ }
+    ensures { λ r. ⌜ Closes (graph-of (now (graph .entry))) initials finals r ⌝ }
+{
+    let force = Claims { loops: 0, mixes: 0 };
+    let accepted = searches::accepts(graph, force, initials, finals);
+    without_rounds(accepted)
+}
+
 // The claims that a round opens, with the claims in force before it.
 fn opened(graph: &Masks, force: Claims, set_count: usize) -> Claims
     requires { ⌜ («set_count» ≤ 64) × Indexed (now graph) ⌝ }
@@ -125,8 +133,10 @@ fn opened(graph: &Masks, force: Claims, set_count: usize) -> Claims
 {
     let mut back = [0u64; MASKS];
     graphs::turn_indexed(graph, &mut back);
-    let to = openings::all_ends(graph, force, set_count);
-    let from = openings::all_ends(&back, force, set_count);
+    let mut to = [0u64; PLACES];
+    let mut from = [0u64; PLACES];
+    openings::all_ends(&mut to, graph, force, set_count);
+    openings::all_ends(&mut from, &back, force, set_count);
     openings::open_next(graph, &back, force, &to, &from, set_count)
 }
 
@@ -161,9 +171,10 @@ pub fn round(
     }
 }
 
-// Close, and rounds until the automaton is settled: none needs more than 129.
-pub fn settle(graph: &Masks, initials: Set, finals: Set, set_count: usize) -> Progress
-    requires { ⌜ («set_count» ≤ 64) × Indexed (now graph) ⌝ }
+// Rounds until the automaton is settled, where letters alone, which lead to the states `reached`, do not settle it: none needs more than 129.
+fn run_rounds(graph: &Masks, initials: Set, finals: Set, set_count: usize, reached: Set) -> Progress
+    requires { ⌜ («set_count» ≤ 64) × Indexed (now graph)
+        × Unaccepted (graph-of (now graph)) initials finals reached ⌝ }
     ensures { λ r. ⌜ Settles (graph-of (now (graph .entry))) initials finals «set_count» r ⌝ }
 {
     let mut back = [0u64; MASKS];
@@ -171,10 +182,12 @@ pub fn settle(graph: &Masks, initials: Set, finals: Set, set_count: usize) -> Pr
     let none = Claims { loops: 0, mixes: 0 };
     let mut force = none;
     let mut new = none;
-    let mut to = openings::all_ends(graph, none, set_count);
-    let mut from = openings::all_ends(&back, none, set_count);
-    let mut seen = searches::reached(graph, none, initials);
-    let mut phase = judge(searches::accepted(initials, seen, finals), false);
+    let mut to = [0u64; PLACES];
+    let mut from = [0u64; PLACES];
+    openings::all_ends(&mut to, graph, none, set_count);
+    openings::all_ends(&mut from, &back, none, set_count);
+    let mut seen = reached;
+    let mut phase = Phase::Running;
     let mut loop_rounds = [0u8; MOST_SETS];
     let mut mix_rounds = [0u8; MOST_SETS];
     let mut count: u8 = 0;
@@ -200,4 +213,17 @@ pub fn settle(graph: &Masks, initials: Set, finals: Set, set_count: usize) -> Pr
         phase,
         rounds: count,
     }
+}
+
+// Close, and rounds until the automaton is settled. The graph is turned round only where a round is done.
+pub fn settle(graph: &Masks, initials: Set, finals: Set, set_count: usize) -> Progress
+    requires { ⌜ («set_count» ≤ 64) × Indexed (now graph) ⌝ }
+    ensures { λ r. ⌜ Settles (graph-of (now (graph .entry))) initials finals «set_count» r ⌝ }
+{
+    let none = Claims { loops: 0, mixes: 0 };
+    let reached = searches::reached(graph, none, initials);
+    if searches::accepted(initials, reached, finals) {
+        return without_rounds(true);
+    }
+    run_rounds(graph, initials, finals, set_count, reached)
 }

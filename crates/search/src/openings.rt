@@ -63,19 +63,18 @@ fn ends(graph: &Masks, force: Claims, p: Set) -> Set
     targets(graph, parts, p, p)
 }
 
-// For each of the `n` sets the ends of all steps inside it.
-pub fn all_ends(graph: &Masks, force: Claims, set_count: usize) -> [Set; PLACES]
+// Writes for each of the `n` sets the ends of all steps inside it.
+pub fn all_ends(into: &mut [Set; PLACES], graph: &Masks, force: Claims, set_count: usize)
     requires { ⌜ «set_count» ≤ 64 ⌝ }
-    ensures ends { λ r. ⌜ EndsBelow (graph-of (now (graph .entry))) force «set_count» r ⌝ }
-    ensures sized { λ r. ⌜ length r ≡ 64 ⌝ }
+    ensures ends { λ _. ⌜ (length (now (into .entry)) ≡ 64 →
+        EndsBelow (graph-of (now (graph .entry))) force «set_count» (now (into .exit))) ⌝ }
+    ensures sized { λ _. ⌜ length (now (into .exit)) ≡ length (now (into .entry)) ⌝ }
 {
-    let mut r = [0u64; PLACES];
     let mut i = 0;
     while i < set_count {
-        r[i] = ends(graph, force, set_at(graph, i));
+        into[i] = ends(graph, force, set_at(graph, i));
         i += 1;
     }
-    r
 }
 
 // The same forward and backward with new claims in force, where `to` and `from` were so before.

@@ -1,8 +1,7 @@
 -- `close` meets its contract.
 use mathlib.Core.Path.{sym, subst}
-use lib.ListN.{replicate}
-use Rattle.machine.specs.declared.Phase.{Phase}
 use Rattle.machine.specs.Machine.{closed}
+use Rattle.rounds.specs.declared.Progress.{Progress}
 use Rattle.rounds.specs.Promises.{Mirrors}
 use Rattle.rounds.proofs.Settled.{closed-kept}
 use borrow.Author.Needs.{needs}
@@ -11,7 +10,7 @@ use Rattle.rounds.proofs.close.Tie as tie
 
 returns : tie.Need-returns
 returns c m n g =
-    subst (λ (p : Phase). Mirrors (closed m) (replicate 64 0) (replicate 64 0) p 0) (sym (c .judge .ensures))
+    subst (λ (r : Progress). Mirrors (closed m) (r .«loop_rounds») (r .«mix_rounds») (r .phase) (r .rounds)) (sym (c .without-rounds .ensures))
     (closed-kept m g (c .before .accepts .result) (c .before .accepts .ensures))
 
 pub close-spec : {M : Type 1} → statement M

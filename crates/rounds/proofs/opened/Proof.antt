@@ -7,14 +7,14 @@ use Rattle.rounds.proofs.opened.Tie as tie
 open-next-requires : tie.Need-open-next-requires
 open-next-requires c κs =
     let from = c .before .before .before in
-    let to = from .before .before in
-    let back = to .before in
+    let to = from .before .before .before in
+    let back = to .before .before in
     let pre = back .before .before .pre in
     record {
       few = pre .0;
       ways = back .turn-indexed .ensures refl (pre .1);
-      forward = to .all-ends .ensures .0;
-      backward = from .all-ends2 .ensures .0;
+      forward = to .all-ends .ensures .0 refl;
+      backward = from .all-ends2 .ensures .0 refl;
     }
 
 returns : tie.Need-returns

@@ -11,13 +11,13 @@ use Rattle.search.proofs.openings.all_ends.Statement.{statement}
 use Rattle.search.proofs.openings.all_ends.Tie as tie
 
 abbrev Inv-loop : tie.InvT-loop
-Inv-loop graph force set-count r₀ i₀ r i = (i ≤ set-count) × (length r ≡ 64) × EndsBelow (graph-of graph) force i r
+Inv-loop into₀ graph force set-count i₀ into i = (i ≤ set-count) × (length into ≡ length into₀) × (length into₀ ≡ 64 → EndsBelow (graph-of graph) force i into)
 
 abbrev μ-loop : tie.MeasureT-loop
-μ-loop graph force set-count r₀ i₀ r i = set-count - i
+μ-loop into₀ graph force set-count i₀ into i = set-count - i
 
 loop-holds : tie.Need-loop-holds Inv-loop μ-loop
-loop-holds c = (omega arith, refl, λ j l. absurd (omega arith))
+loop-holds c = (omega arith, refl, λ h j l. absurd (omega arith))
 
 loop-again : tie.Need-loop-again Inv-loop μ-loop
 loop-again c =
@@ -26,14 +26,14 @@ loop-again c =
     let g = graph-of (a .graph .now) in (
       omega arith,
       simp length-set (at .loop .inv .1),
-      set-below (λ j x. Ends g (a .force) (getD (g .sets) j 0) x) (at .loop .r) (at .loop .i) (c .ends .result)
-          (omega (arith, at .loop .inv .1, c .before .before .loop-test .taken)) (at .loop .inv .2) (rw (c .before .set-at .ensures) at (c .ends .ensures)),
+      λ h. set-below (λ j x. Ends g (a .force) (getD (g .sets) j 0) x) (at .loop .into) (at .loop .i) (c .ends .result)
+          (omega (arith, h, at .loop .inv .1, at .before .pre, c .before .before .loop-test .taken)) (at .loop .inv .2 h) (rw (c .before .set-at .ensures) at (c .ends .ensures)),
     )
 
 returns : tie.Need-returns Inv-loop μ-loop
 returns c =
     let e : c .before .loop .i ≡ c .before .before .args .set-count = omega arith in
-    (rw e at (c .before .loop .inv .2), c .before .loop .inv .1)
+    ((λ h. rw e at (c .before .loop .inv .2 h)), c .before .loop .inv .1)
 
 pub all-ends-spec : {M : Type 1} → statement M
 all-ends-spec =
