@@ -1,15 +1,11 @@
 -- What a sheet says: a settled machine's sheet says what the machine came to (`sheet-says`), and no bytes say two things (`says-one`).
-use Prim.Native.Nat.{ℕ, _^_, _≤_, _<_}
+use Prim.Native.Nat.{ℕ, _^_, _<_}
 use mathlib.Core.Path.{_≡_, refl, ap, sym, _∙_}
-use mathlib.Core.Bool.{true}
-use mathlib.Core.Logic.{⊎-elim}
 use mathlib.Core.Option.{Option, none, some}
-use mathlib.Core.List.{List, [], _∷_, _++_, append-assoc, append-cancel-left, List·Memᴰ·head, List·Memᴰ·tail, List·Memᴰ·append-cases}
-use lib.Dec.{leb}
+use mathlib.Core.List.{List, [], _∷_, _++_, append-assoc, append-cancel-left, List·Memᴰ·head, List·Memᴰ·tail}
 use lib.ListN.{length}
 use native.Mathlib.Omega.{arith}
-use Rattle.lists.specs.Tests.{_among_, all, gather}
-use Rattle.lists.proofs.Deciding.{leb·, all·}
+use Rattle.lists.specs.Tests.{_among_, gather}
 use Rattle.lists.proofs.Places.{split-once}
 use Rattle.rows.proofs.Sets.{set-fits}
 use Rattle.orderings.specs.Steps.{Claim, loops, mixes, set-of}
@@ -25,30 +21,13 @@ use Rattle.machine.specs.Text.{text, set-text, number-text}
 use Rattle.machine.specs.Sheet.{line, verdict-text, claim-text, verdict-line, opening-line, walk-lines, sheet}
 use Rattle.machine.specs.WellFormed.{WellFormed}
 use Rattle.machine.specs.Statements.{Said, said, SheetSays}
-use Rattle.machine.proofs.Text.{read-number, number-reads, digits-only, read-hex, set-reads, hex-digits}
+use Rattle.machine.proofs.Text.{read-number, number-reads, digits-only, read-hex, set-reads}
+use Rattle.machine.proofs.Sheet.{Visible, verdict-visible, opening-visible}
 use Rattle.machine.proofs.Statements.{settled-listed}
 
--- no line end in it, nor any byte below that of a blank
-abbrev Unbroken : List ℕ → Type 0
-Unbroken l = (b : ℕ) → b among l → 32 ≤ b
-
-unbroken-append : (l m : List ℕ) → Unbroken l → Unbroken m → Unbroken (l ++ m)
-unbroken-append l m h k b i = ⊎-elim (h b) (k b) (List·Memᴰ·append-cases l i)
-
--- after a text that is computed
-unbroken-after : (l m : List ℕ) → all (λ b. leb 32 b) l ≡ true → Unbroken m → Unbroken (l ++ m)
-unbroken-after l m e h = unbroken-append l m (all· (λ b. leb· 32 b) l .to e) h
-
-number-unbroken : (x : ℕ) → Unbroken (number-text x)
-number-unbroken x b i = omega (arith, digits-only x b i .0)
-
-claim-unbroken : (c : Claim) → Unbroken (claim-text c)
-claim-unbroken (loops P) = unbroken-after (text "loop ") (set-text P) refl (λ b i. omega (arith, hex-digits 16 P b i .0))
-claim-unbroken (mixes P) = unbroken-after (text "mix ") (set-text P) refl (λ b i. omega (arith, hex-digits 16 P b i .0))
-
 -- equal lines, and what follows them
-lines-split : (l m r s : List ℕ) → Unbroken l → Unbroken m → line l ++ r ≡ line m ++ s → (l ≡ m) × (r ≡ s)
-lines-split l m r s h k e = split-once 10 l m r s (λ i. omega (arith, h 10 i)) (λ i. omega (arith, k 10 i)) (sym (append-assoc l (10 ∷ []) r) ∙ e ∙ append-assoc m (10 ∷ []) s)
+lines-split : (l m r s : List ℕ) → Visible l → Visible m → line l ++ r ≡ line m ++ s → (l ≡ m) × (r ≡ s)
+lines-split l m r s h k e = split-once 10 l m r s (λ i. omega (arith, h 10 i .0)) (λ i. omega (arith, k 10 i .0)) (sym (append-assoc l (10 ∷ []) r) ∙ e ∙ append-assoc m (10 ∷ []) s)
 
 number-once : (x y : ℕ) → number-text x ≡ number-text y → x ≡ y
 number-once x y e = sym (number-reads x) ∙ ap (λ (l : List ℕ). read-number l 0) e ∙ number-reads y
@@ -64,12 +43,8 @@ claim-once (mixes P) (mixes Q) h k e = ap mixes (set-once P Q h k (append-cancel
 
 -- ---- the lines
 
-verdict-unbroken : (v : Verdict) (k : ℕ) → Unbroken (text "verdict " ++ (verdict-text v ++ (text " rounds " ++ number-text k)))
-verdict-unbroken NonEmpty k = unbroken-after (text "verdict nonempty rounds ") (number-text k) refl (number-unbroken k)
-verdict-unbroken Empty k = unbroken-after (text "verdict empty rounds ") (number-text k) refl (number-unbroken k)
-
 verdict-once : (v v′ : Verdict) (k k′ : ℕ) (r s : List ℕ) → verdict-line v k ++ r ≡ verdict-line v′ k′ ++ s → (v ≡ v′) × (k ≡ k′) × (r ≡ s)
-verdict-once v v′ k k′ r s e = let p = lines-split _ _ r s (verdict-unbroken v k) (verdict-unbroken v′ k′) e in let q = by v v′ (p .0) in (q .0, q .1, p .1)
+verdict-once v v′ k k′ r s e = let p = lines-split _ _ r s (verdict-visible v k) (verdict-visible v′ k′) e in let q = by v v′ (p .0) in (q .0, q .1, p .1)
   where
     by : (v v′ : Verdict) → text "verdict " ++ (verdict-text v ++ (text " rounds " ++ number-text k)) ≡ text "verdict " ++ (verdict-text v′ ++ (text " rounds " ++ number-text k′))
         → (v ≡ v′) × (k ≡ k′)
@@ -84,15 +59,12 @@ Sets l = (o : Opening) → o among l → set-of (o .claim) < 256 ^ 8
 
 opening-once : (o p : Opening) (r s : List ℕ) → set-of (o .claim) < 256 ^ 8 → set-of (p .claim) < 256 ^ 8 → opening-line o ++ r ≡ opening-line p ++ s → (o ≡ p) × (r ≡ s)
 opening-once o p r s h k e =
-    let i = lines-split _ _ r s (unbroken o) (unbroken p) e in
+    let i = lines-split _ _ r s (opening-visible o) (opening-visible p) e in
     let j = split-once 32 (number-text (o .round)) (number-text (p .round)) (claim-text (o .claim)) (claim-text (p .claim)) (λ m. omega (arith, digits-only (o .round) 32 m .0)) (λ m. omega (arith, digits-only (p .round) 32 m .0))
     (append-cancel-left (text "open ") _ _ (i .0)) in
     let a = number-once (o .round) (p .round) (j .0) in
     let b = claim-once (o .claim) (p .claim) h k (j .1) in
     ((λ x. record { round = a x; claim = b x }), i .1)
-  where
-    unbroken : (o : Opening) → Unbroken (text "open " ++ (number-text (o .round) ++ (text " " ++ claim-text (o .claim))))
-    unbroken o = unbroken-after (text "open ") _ refl (unbroken-append (number-text (o .round)) _ (number-unbroken (o .round)) (unbroken-after (text " ") (claim-text (o .claim)) refl (claim-unbroken (o .claim))))
 
 -- no line of a walk is one of an opening
 walk-apart : (w : Option Found) (o : Opening) (r : List ℕ) → walk-lines w ≡ opening-line o ++ r → ⊥

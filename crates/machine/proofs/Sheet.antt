@@ -1,14 +1,16 @@
--- A sheet is bytes (`sheet-bytes`), at most 6,400 of them (`sheet-short`).
+-- A sheet is at most 6,400 bytes (`sheet-short`). The text of a line has no line end in it (`verdict-visible`, `opening-visible`), and a sheet is
+-- bytes (`sheet-bytes`).
 use Prim.Native.Nat.{ℕ, _≤_, _<_}
 use mathlib.Core.Path.{_≡_, refl}
-use mathlib.Core.Bool.{true}
+use mathlib.Core.Bool.{true, _&&_}
+use mathlib.Core.Logic.{⊎-elim}
 use mathlib.Core.Option.{Option, none, some}
-use mathlib.Core.List.{List, [], _∷_, _++_, List·Memᴰ·not-nil, List·Memᴰ·eq-of-singleton}
-use lib.Dec.{ltb}
+use mathlib.Core.List.{List, [], _∷_, _++_, List·Memᴰ·not-nil, List·Memᴰ·append-cases, List·Memᴰ·eq-of-singleton}
+use lib.Dec.{ltb, leb}
 use lib.ListN.{length, length-append}
 use native.Mathlib.Omega.{arith}
 use Rattle.lists.specs.Tests.{_among_, all, gather}
-use Rattle.lists.proofs.Deciding.{ltb·, all·, gather-out}
+use Rattle.lists.proofs.Deciding.{ltb·, leb·, and·, all·, gather-out}
 use Rattle.lists.proofs.Counting.{gather-length}
 use Rattle.rows.specs.declared.Row.{Row}
 use Rattle.rows.specs.Rows.{AllFit, Bytes}
@@ -20,10 +22,10 @@ use Rattle.machine.specs.Machine.{Opening, Machine, open-claims}
 use Rattle.machine.specs.Order.{Found}
 use Rattle.machine.specs.Search.{shortest}
 use Rattle.machine.specs.Text.{text, set-text, number-text}
-use Rattle.machine.specs.Sheet.{line, claim-text, label-text, verdict-line, opening-line, start-line, step-line, walk-lines, last-lines, sheet}
+use Rattle.machine.specs.Sheet.{line, verdict-text, claim-text, label-text, verdict-line, opening-line, start-line, step-line, walk-lines, last-lines, sheet}
 use Rattle.machine.proofs.Search.{shortest-some}
 use Rattle.machine.proofs.Walks.{ValueFits, walk-states, walk-values, best-short}
-use Rattle.machine.proofs.Text.{number-length, number-bytes, hex-length, hex-bytes}
+use Rattle.machine.proofs.Text.{number-length, digits-only, hex-length, hex-digits}
 
 verdict-length : (v : Verdict) (k : ℕ) → k ≤ 999 → length (verdict-line v k) ≤ 28
 verdict-length NonEmpty k h = simp length-append (omega (arith, number-length 3 k (omega arith) (omega arith)))
@@ -73,40 +75,56 @@ sheet-short v m f k n h = omega (
   last-length v m f,
 )
 
+-- ---- the text of a line: bytes, none below that of a blank, so no line end
+
+abbrev pub Visible : List ℕ → Type 0
+Visible l = (b : ℕ) → b among l → (32 ≤ b) × (b < 256)
+
+visible-append : (l m : List ℕ) → Visible l → Visible m → Visible (l ++ m)
+visible-append l m h k b i = ⊎-elim (h b) (k b) (List·Memᴰ·append-cases l i)
+
+-- after a text that is computed
+after-text : (l m : List ℕ) → all (λ b. leb 32 b && ltb b 256) l ≡ true → Visible m → Visible (l ++ m)
+after-text l m e h = visible-append l m (all· (λ b. and· (leb· 32 b) (ltb· b 256)) l .to e) h
+
+number-visible : (x : ℕ) → Visible (number-text x)
+number-visible x b i = let d = digits-only x b i in (omega (arith, d .0), omega (arith, d .1))
+
+set-visible : (P : ℕ) → Visible (set-text P)
+set-visible P b i = let d = hex-digits 16 P b i in (omega (arith, d .0), d .1)
+
+pub verdict-visible : (v : Verdict) (k : ℕ) → Visible (text "verdict " ++ (verdict-text v ++ (text " rounds " ++ number-text k)))
+verdict-visible NonEmpty k = after-text (text "verdict nonempty rounds ") (number-text k) refl (number-visible k)
+verdict-visible Empty k = after-text (text "verdict empty rounds ") (number-text k) refl (number-visible k)
+
+claim-visible : (c : Claim) → Visible (claim-text c)
+claim-visible (loops P) = after-text (text "loop ") (set-text P) refl (set-visible P)
+claim-visible (mixes P) = after-text (text "mix ") (set-text P) refl (set-visible P)
+
+pub opening-visible : (o : Opening) → Visible (text "open " ++ (number-text (o .round) ++ (text " " ++ claim-text (o .claim))))
+opening-visible o = after-text (text "open ") _ refl (visible-append (number-text (o .round)) _ (number-visible (o .round)) (after-text (text " ") (claim-text (o .claim)) refl (claim-visible (o .claim))))
+
+label-visible : (x : Label) → Visible (label-text x)
+label-visible (letter a) = after-text (text "letter ") (number-text a) refl (number-visible a)
+label-visible (ω P) = after-text (text "omega ") (set-text P) refl (set-visible P)
+label-visible (back P) = after-text (text "back ") (set-text P) refl (set-visible P)
+label-visible (mix P) = after-text (text "mix ") (set-text P) refl (set-visible P)
+
+step-visible : (t : Step) → Visible (text "step " ++ (label-text (t .label) ++ (text " to " ++ number-text (t .to))))
+step-visible t = after-text (text "step ") _ refl (visible-append (label-text (t .label)) _ (label-visible (t .label)) (after-text (text " to ") (number-text (t .to)) refl (number-visible (t .to))))
+
+-- ---- a sheet is bytes
+
 gather-bytes : {A : Type 0} (f : A → List ℕ) (l : List A) → ((x : A) → Bytes (f x)) → Bytes (gather f l)
 gather-bytes f l h b m = let r = gather-out f b l m in h (r .0) b (r .2)
 
--- bytes after a text that is computed
-after-text : (l m : List ℕ) → all (λ b. ltb b 256) l ≡ true → Bytes m → Bytes (l ++ m)
-after-text l m e h = bytes-append l m (all· (λ b. ltb· b 256) l .to e) h
-
-line-bytes : (l : List ℕ) → Bytes l → Bytes (line l)
-line-bytes l h = bytes-append l (10 ∷ []) h (λ b m. omega (arith, List·Memᴰ·eq-of-singleton m))
-
-verdict-bytes : (v : Verdict) (k : ℕ) → Bytes (verdict-line v k)
-verdict-bytes NonEmpty k = line-bytes _ (after-text (text "verdict nonempty rounds ") (number-text k) refl (number-bytes k))
-verdict-bytes Empty k = line-bytes _ (after-text (text "verdict empty rounds ") (number-text k) refl (number-bytes k))
-
-claim-bytes : (c : Claim) → Bytes (claim-text c)
-claim-bytes (loops P) = after-text (text "loop ") (set-text P) refl (hex-bytes 16 P)
-claim-bytes (mixes P) = after-text (text "mix ") (set-text P) refl (hex-bytes 16 P)
-
-opening-bytes : (o : Opening) → Bytes (opening-line o)
-opening-bytes o = line-bytes _ (after-text (text "open ") _ refl (bytes-append (number-text (o .round)) _ (number-bytes (o .round)) (after-text (text " ") (claim-text (o .claim)) refl (claim-bytes (o .claim)))))
-
-label-bytes : (x : Label) → Bytes (label-text x)
-label-bytes (letter a) = after-text (text "letter ") (number-text a) refl (number-bytes a)
-label-bytes (ω P) = after-text (text "omega ") (set-text P) refl (hex-bytes 16 P)
-label-bytes (back P) = after-text (text "back ") (set-text P) refl (hex-bytes 16 P)
-label-bytes (mix P) = after-text (text "mix ") (set-text P) refl (hex-bytes 16 P)
-
-step-bytes : (t : Step) → Bytes (step-line t)
-step-bytes t = line-bytes _ (after-text (text "step ") _ refl (bytes-append (label-text (t .label)) _ (label-bytes (t .label)) (after-text (text " to ") (number-text (t .to)) refl (number-bytes (t .to)))))
+line-bytes : (l : List ℕ) → Visible l → Bytes (line l)
+line-bytes l h = bytes-append l (10 ∷ []) (λ b m. h b m .1) (λ b m. omega (arith, List·Memᴰ·eq-of-singleton m))
 
 walk-bytes : (o : Option Found) → Bytes (walk-lines o)
 walk-bytes none = λ b m. absurd (List·Memᴰ·not-nil m)
 walk-bytes (some f) = bytes-append (start-line (f .start)) (gather step-line (f .walk))
-    (line-bytes _ (after-text (text "start ") (number-text (f .start)) refl (number-bytes (f .start)))) (gather-bytes step-line (f .walk) step-bytes)
+    (line-bytes _ (after-text (text "start ") (number-text (f .start)) refl (number-visible (f .start)))) (gather-bytes step-line (f .walk) (λ t. line-bytes _ (step-visible t)))
 
 last-bytes : (v : Verdict) (m : Machine) → Bytes (last-lines v m)
 last-bytes NonEmpty m = walk-bytes (shortest (m .rows) (open-claims m))
@@ -114,5 +132,5 @@ last-bytes Empty m = λ b i. absurd (List·Memᴰ·not-nil i)
 
 pub sheet-bytes : (v : Verdict) (m : Machine) → Bytes (sheet v m)
 unfolding sheet
-sheet-bytes v m = bytes-append (verdict-line v (m .rounds)) _ (verdict-bytes v (m .rounds))
-    (bytes-append (gather opening-line (m .openings)) (last-lines v m) (gather-bytes opening-line (m .openings) opening-bytes) (last-bytes v m))
+sheet-bytes v m = bytes-append (verdict-line v (m .rounds)) _ (line-bytes _ (verdict-visible v (m .rounds)))
+    (bytes-append (gather opening-line (m .openings)) (last-lines v m) (gather-bytes opening-line (m .openings) (λ o. line-bytes _ (opening-visible o))) (last-bytes v m))

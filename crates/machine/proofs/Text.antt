@@ -1,5 +1,5 @@
 -- Numbers and sets are read back from their texts (`number-reads`, `no-leading-zero`, `set-reads`), how long these are (`number-length`,
--- `hex-length`), and that they are bytes.
+-- `hex-length`), and which bytes they have (`digits-only`, `hex-digits`).
 use Prim.Native.Nat.{ℕ, zero, suc, _+_, _-_, _*_, _/_, _%_, _^_, _≤_, _<_}
 use mathlib.Core.Path.{_≡_, refl, ap, sym, _∙_, subst}
 use mathlib.Core.Bool.{Bool, true, false, cond}
@@ -11,7 +11,6 @@ use native.Mathlib.Omega.{arith}
 use native.Mathlib.Nat.{div-div-eq-div-mul, div-eq-of-lt, div-one, div-lt-iff-lt-mul, pow-suc}
 use Rattle.lists.specs.Tests.{Decides, _among_}
 use Rattle.lists.proofs.Deciding.{ltb·, so, not-so, yes·, no·}
-use Rattle.rows.specs.Rows.{Bytes}
 use Rattle.machine.specs.Text.{digit, hex, set-text, decimal, number-text}
 
 digit-low : (d : ℕ) → d < 10 → digit d ≡ 48 + d
@@ -84,9 +83,6 @@ pub number-length : (n x : ℕ) → 1 ≤ n → x < 10 ^ n → length (number-te
 number-length zero x p h = absurd (omega arith)
 number-length (suc n) x p h = numeral-length (numeral x) n h
 
-pub number-bytes : (x : ℕ) → Bytes (number-text x)
-number-bytes x b m = omega (arith, digits-only x b m .1)
-
 pub hex-length : (n x : ℕ) → length (hex n x) ≡ n
 unfolding hex
 hex-length zero x = refl
@@ -125,9 +121,6 @@ pub hex-digits : (n x b : ℕ) → b among hex n x → (48 ≤ b) × (b < 256)
 unfolding hex
 hex-digits zero x b m = absurd (List·Memᴰ·not-nil m)
 hex-digits (suc n) x b m = ⊎-elim (λ e. rw e (digit-byte (x / 16 ^ n % 16) (omega arith))) (hex-digits n x b) (List·Memᴰ·cases-cons m)
-
-pub hex-bytes : (n x : ℕ) → Bytes (hex n x)
-hex-bytes n x b m = hex-digits n x b m .1
 
 -- a number is that of its digits, after what stands ahead of them
 read-after : (n x : ℕ) → read-hex (hex n x) (x / 16 ^ n) ≡ x

@@ -1,8 +1,8 @@
 -- Request C-15: a derivation over some rows is one over more rows, line by line, with every claim at the same depth. First for any system
--- (`keeps-depth`, `accepts-more`, `least-more`), then for rows (`depths-grow`, `accepts-grows`, `least-grows`).
+-- (`keeps-depth`, `accepts-more`, `least-more`), then for rows (`depths-grow`, `accepts-grows`, `least-grows`, `same-depths`).
 use Prim.Native.Nat.{ℕ, _≤_}
 use mathlib.Core.Path.{_≡_, refl, _∙_}
-use mathlib.Core.Logic.{⊎-elim}
+use mathlib.Core.Logic.{⊎-elim, _↔_}
 use mathlib.Core.Option.{Option, none, some}
 use mathlib.Core.List.{List, [], _∷_, map, List·Memᴰ·head, List·Memᴰ·tail, List·Memᴰ·not-nil, List·Memᴰ·cases-cons}
 use native.Mathlib.Omega.{arith}
@@ -138,3 +138,7 @@ module _ (rows rows′ : List Row) (up : Grows rows rows′) where
   -- no greater round number
   pub least-grows : (k k′ : ℕ) → LeastAccepted (timelines rows) k → LeastAccepted (timelines rows′) k′ → k′ ≤ k
   least-grows = least-more (timelines rows) more
+
+-- the same rows, in whatever order and however often, have the same depths
+pub same-depths : (rows rows′ : List Row) → Grows rows rows′ → Grows rows′ rows → (c : Claim) (k : ℕ) → HoldsAt (timelines rows) c k ↔ HoldsAt (timelines rows′) c k
+same-depths rows rows′ up down c k = (depths-grow rows rows′ up c k, depths-grow rows′ rows down c k)

@@ -26,7 +26,7 @@ use Rattle.search.specs.Masked.{Forced}
 use Rattle.search.specs.Promises.{AcceptsRight, OpensBelow}
 use Rattle.row_table.specs.Arrays.{SetsIn}
 use Rattle.rounds.specs.Arrays.{rounds-of, OpenPlaces, Marks}
-use Rattle.rounds.specs.Promises.{Given, Mirrors, none}
+use Rattle.rounds.specs.Promises.{Given, Mirrors, no-claims}
 use Rattle.rounds.proofs.OpenClaims.{set-at, open-iff, no-rounds}
 use Rattle.rounds.proofs.Turn.{none-forced, walk-test, Turn, turn-kept, turn-forced}
 
@@ -35,7 +35,7 @@ pub not-running : (p q : Phase) → p ≡ q → ¬ (q ≡ Running) → Decides f
 not-running p q e h = record { to = λ f. let z : _≡_ {A = ℕ} 0 1 = cc in absurd (omega arith); of = λ f. absurd (h (sym e ∙ f)) }
 
 -- closed, with no claims in force
-pub closed-kept : (m : Machine) {g : Graph} {initials finals n : ℕ} → Given (m .rows) g initials finals n → (b : Bool) → AcceptsRight g none initials finals b
+pub closed-kept : (m : Machine) {g : Graph} {initials finals n : ℕ} → Given (m .rows) g initials finals n → (b : Bool) → AcceptsRight g no-claims initials finals b
     → Mirrors (closed m) (replicate 64 0) (replicate 64 0) (judged b false) 0
 unfolding closed
 closed-kept m {g} {n = n} given b r = record {
@@ -109,7 +109,7 @@ pub record Tracked (g back : Graph) (n : ℕ) (force new : Claims) (to from : Li
   pub backward : EndsBelow back old n from
 
 module _ (rows : List Row) {g : Graph} {initials finals n : ℕ} (given : Given rows g initials finals n) where
-  pub stage-start : (b : Bool) → AcceptsRight g none initials finals b → Stage rows g n none (replicate 64 0) (replicate 64 0) (judged b false) 0
+  pub stage-start : (b : Bool) → AcceptsRight g no-claims initials finals b → Stage rows g n no-claims (replicate 64 0) (replicate 64 0) (judged b false) 0
   unfolding closed
   stage-start b r = record {
     kept = closed-kept (open-with rows) given b r;
@@ -149,7 +149,7 @@ kept-settled rows t k loop-rounds mix-rounds phase count before ended kept =
         ⊎-elim (λ h. omega (arith, l, few-rounds rows (t .few-sets))) (λ h. ⊎-elim (λ e. e) (λ i. absurd (h (kept .phase-is ∙ s .before k i))) (eq-or-lt-of-le l)) ended
 
 -- settled as it is closed
-pub closed-settled : (rows : List Row) {g : Graph} {initials finals n : ℕ} → Given rows g initials finals n → AcceptsRight g none initials finals true
+pub closed-settled : (rows : List Row) {g : Graph} {initials finals n : ℕ} → Given rows g initials finals n → AcceptsRight g no-claims initials finals true
     → Mirrors (run (open-with rows) settle) (replicate 64 0) (replicate 64 0) (judged true false) 0
 closed-settled rows given r = let s = stage-start rows given true r in
     kept-settled rows (given .table) 0 (replicate 64 0) (replicate 64 0) (judged true false) 0 (s .before) (inr (λ e. let z : _≡_ {A = ℕ} 0 1 = cc in absurd (omega arith))) (s .kept)

@@ -26,7 +26,7 @@ use Rattle.search.specs.Hops.{WithNew}
 use Rattle.search.specs.Masked.{Forced}
 use Rattle.search.specs.Promises.{AcceptsRight, NewlyHolds, Opened}
 use Rattle.rounds.specs.Arrays.{rounds-of, Marks}
-use Rattle.rounds.specs.Promises.{Given, Mirrors, none}
+use Rattle.rounds.specs.Promises.{Given, Mirrors, no-claims}
 use Rattle.rounds.proofs.OpenClaims.{set-at}
 use Rattle.rounds.proofs.Marking.{marked}
 
@@ -37,7 +37,7 @@ none· (x ∷ l) = record { to = λ e. let z : _≡_ {A = ℕ} 0 1 = cc in absur
 -- ---- claims in force
 
 -- no claims
-pub none-forced : (g : Graph) (n : ℕ) → Forced (λ c. c among []) g n none
+pub none-forced : (g : Graph) (n : ℕ) → Forced (λ c. c among []) g n no-claims
 none-forced g n = record { loop-iff = λ i. nowhere i; mix-iff = λ i. nowhere i }
   where
     nowhere : {c : Claim} (i : ℕ) → (i ∈ 0) ↔ ((i < n) × c among [])

@@ -50,13 +50,13 @@ DoesRound g initials finals n old new = (m : Machine) → WellFormed m → Given
     → Mirrors (next-round m) (new .«loop_rounds») (new .«mix_rounds») (new .phase) (new .rounds)
 
 -- no claim in force
-abbrev pub none : Claims
-none = record { loops = 0; mixes = 0 }
+abbrev pub no-claims : Claims
+no-claims = record { loops = 0; mixes = 0 }
 
 -- letters alone lead to the states reached, and from no initial to a final state
 pub record Unaccepted (g : Graph) (initials finals reached : ℕ) : Type 0 where
-  pub reached-are : Reached g none initials reached
-  pub tested : AcceptsRight g none initials finals false
+  pub reached-are : Reached g no-claims initials reached
+  pub tested : AcceptsRight g no-claims initials finals false
 
 -- they are those of the machine with these rows, closed and settled
 abbrev pub Settles : Graph → ℕ → ℕ → ℕ → Progress → Type 0

@@ -14,7 +14,7 @@ use Rattle.rows.specs.declared.Row.{Row}
 use Rattle.machine.specs.declared.Phase.{Phase}
 use Rattle.search.specs.Graph.{graph-of, BothWays}
 use Rattle.search.specs.Hops.{EndsBelow, Reached}
-use Rattle.rounds.specs.Promises.{Given, none}
+use Rattle.rounds.specs.Promises.{Given, no-claims}
 use Rattle.rounds.proofs.Settled.{Stage, Tracked, stage-start, stage-more, kept-settled}
 use Rattle.rounds.proofs.run_rounds.Statement.{statement}
 use Rattle.rounds.proofs.run_rounds.Tie as tie
@@ -45,7 +45,7 @@ loop-holds c =
       c .all-ends2 .ensures .1,
       back .turn-indexed .ensures refl (s .pre .1),
       record {
-        old = none;
+        old = no-claims;
         with-new = record { loops-are = λ t. rw (member-none t) refl; mixes-are = λ t. rw (member-none t) refl };
         forward = ends .all-ends .ensures .0 refl;
         backward = c .all-ends2 .ensures .0 refl;

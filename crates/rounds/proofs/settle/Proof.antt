@@ -6,14 +6,14 @@ use Rattle.machine.specs.Calls.{run, settle}
 use Rattle.search.specs.Graph.{graph-of}
 use Rattle.search.specs.Promises.{AcceptsRight}
 use Rattle.rounds.specs.declared.Progress.{Progress}
-use Rattle.rounds.specs.Promises.{Mirrors, none}
+use Rattle.rounds.specs.Promises.{Mirrors, no-claims}
 use Rattle.rounds.proofs.Settled.{closed-settled}
 use Rattle.rounds.proofs.settle.Statement.{statement}
 use Rattle.rounds.proofs.settle.Tie as tie
 
 -- the test with no claims in force
-tested : (c : tie.After-accepted) → let a = c .before .before .args in AcceptsRight (graph-of (a .graph .now)) none (a .initials) (a .finals) (c .accepted .result)
-tested c = c .accepted .ensures (graph-of (c .before .before .args .graph .now)) none (c .before .reached .ensures)
+tested : (c : tie.After-accepted) → let a = c .before .before .args in AcceptsRight (graph-of (a .graph .now)) no-claims (a .initials) (a .finals) (c .accepted .result)
+tested c = c .accepted .ensures (graph-of (c .before .before .args .graph .now)) no-claims (c .before .reached .ensures)
 
 run-rounds-requires : tie.Need-run-rounds-requires
 run-rounds-requires c κs =
@@ -23,7 +23,7 @@ run-rounds-requires c κs =
       s .pre .1,
       record {
         reached-are = c .before .before .reached .ensures;
-        tested = subst (AcceptsRight (graph-of (a .graph .now)) none (a .initials) (a .finals)) (c .if1 .left) (tested (c .before));
+        tested = subst (AcceptsRight (graph-of (a .graph .now)) no-claims (a .initials) (a .finals)) (c .if1 .left) (tested (c .before));
       },
     )
 
@@ -31,7 +31,7 @@ returns : tie.Need-returns
 returns c rows g =
     let a = c .before .before .before .before .args in
     subst (λ (r : Progress). Mirrors (run (open-with rows) settle) (r .«loop_rounds») (r .«mix_rounds») (r .phase) (r .rounds)) (sym (c .without-rounds .ensures))
-    (closed-settled rows g (subst (AcceptsRight (graph-of (a .graph .now)) none (a .initials) (a .finals)) (c .before .if1 .taken) (tested (c .before .before))))
+    (closed-settled rows g (subst (AcceptsRight (graph-of (a .graph .now)) no-claims (a .initials) (a .finals)) (c .before .if1 .taken) (tested (c .before .before))))
 
 returns-2 : tie.Need-returns-2
 returns-2 c = c .run-rounds .ensures
