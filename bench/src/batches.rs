@@ -77,7 +77,7 @@ pub fn automaton(random: &mut Random, states: u64, rows: usize, letters: u64) ->
     all
 }
 
-/// Few letters and sets that grow from one another, with limits at their own states: much is left to the claims.
+/// Few letters and sets that grow from one another, with limits and gaps at their own states: much is left to the claims.
 pub fn nested(random: &mut Random) -> Vec<Vec<u8>> {
     let states = 2 + random.below(7);
     let base = [0, 0, 63 - states][random.below(3) as usize] as u8;
@@ -105,7 +105,14 @@ pub fn nested(random: &mut Random) -> Vec<Vec<u8>> {
                 0 => random.state(states),
                 _ => members[random.below(members.len() as u64) as usize],
             } + base;
-            all.push(if random.below(2) == 0 { left(set << base, state) } else { right(state, set << base) });
+            // Both rows make a gap.
+            let kinds = 1 + random.below(3);
+            if kinds != 1 {
+                all.push(left(set << base, state));
+            }
+            if kinds != 2 {
+                all.push(right(state, set << base));
+            }
         }
     }
     if ties || random.below(2) == 0 {

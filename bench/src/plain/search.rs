@@ -366,7 +366,7 @@ impl<'a> Search<'a> {
         }
         self.work.reached[at] = reach.reached;
         self.work.used[at] = reach.used;
-        reach.reached == set && (!self.has_pieces(at) || self.all_touched(at))
+        reach.reached == set && (!self.has_pieces(at) || self.has_step(at))
     }
 
     /// Adds what the claims of the round before lead to, and all that follows.
@@ -407,15 +407,12 @@ impl<'a> Search<'a> {
         }
     }
 
-    /// Whether each state that is entrance and exit has a step inside the set: a piece has one step or more.
-    fn all_touched(&self, at: usize) -> bool {
+    /// Whether a set of which every state lies on a piece has one with a step. A state that is not both entrance and
+    /// exit, a gap, lies on such a piece; among gaps alone any step is one, and by a claim only where there is a letter.
+    fn has_step(&self, at: usize) -> bool {
         let rows = self.rows;
         let set = rows.sets[at];
-        Bits(set & rows.left[at] & rows.right[at]).all(|state| {
-            let near = self.member_of[state] | rows.left_of[state] | rows.right_of[state];
-            (rows.succ[state] | rows.pred[state]) & set != 0
-                || Bits(self.opened & near).any(|at| rows.sets[at] & !set == 0)
-        })
+        set & !(rows.left[at] & rows.right[at]) != 0 || Bits(set).any(|state| rows.succ[state] & set != 0)
     }
 
     /// Whether a set that mixes loops with the same claims.

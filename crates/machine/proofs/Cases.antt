@@ -1,4 +1,4 @@
--- Document 01, "Sheets to check": cases A to K, computed from the definitions.
+-- Document 01, "Sheets to check": cases A to K, computed from the definitions; behind them the case of request C-16.
 use Prim.Native.Nat.{ℕ}
 use mathlib.Core.Path.{_≡_, refl}
 use mathlib.Core.List.{List, [], _∷_}
@@ -36,5 +36,7 @@ pub cases : (program A ≡ text "verdict nonempty rounds 1\nopen 1 mix 000000000
     × (on-rows (Initial 0 ∷ Final 2 ∷ Successor 0 7 1 ∷ Successor 1 7 0 ∷ LeftLimit 1 2 ∷ []) ≡ text "verdict empty rounds 1\n")
     × (on-rows (Initial 0 ∷ Final 3 ∷ Successor 0 7 2 ∷ Successor 2 7 0 ∷ Successor 1 7 0 ∷ LeftLimit 5 1 ∷ LeftLimit 3 3 ∷ []) ≡ text "verdict empty rounds 2\nopen 1 loop 0000000000000005\n")
     × (on-rows (Initial 0 ∷ Final 1 ∷ RightLimit 0 1 ∷ LeftLimit 1 0 ∷ LeftLimit 1 1 ∷ []) ≡ text "verdict empty rounds 1\n")
+    × (on-rows (Initial 0 ∷ Final 1 ∷ Successor 0 7 0 ∷ LeftLimit 5 0 ∷ LeftLimit 5 1 ∷ RightLimit 0 5 ∷ LeftLimit 5 2 ∷ RightLimit 2 5 ∷ [])
+    ≡ text "verdict nonempty rounds 1\nopen 1 mix 0000000000000005\nstart 0\nstep mix 0000000000000005 to 1\n")
 unfolding ℕ-discrete member row-bytes standing-sets same-row set-at row-at row-cause read-row on-turn on-read feed-from feed members reach holds? accepts? load-row closed opened-next next-round walk-of least shortest hex decimal sheet call-in outcome program
-cases = (refl, refl, refl, refl, refl, refl, refl, refl, refl, refl, refl)
+cases = (refl, refl, refl, refl, refl, refl, refl, refl, refl, refl, refl, refl)

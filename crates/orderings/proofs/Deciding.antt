@@ -17,10 +17,10 @@ use Rattle.rows.specs.Rows.{SetOf, standing-sets}
 use Rattle.rows.proofs.Same.{stands·}
 use Rattle.rows.proofs.Sets.{sets-iff}
 use Rattle.orderings.specs.Steps.{Claim, loops, mixes, set-of, Label, letter, ω, back, mix, Step, Possible, needs, members, content, Walk, Leads, Inside, On}
-use Rattle.orderings.specs.Claims.{Through, Says}
+use Rattle.orderings.specs.Claims.{Through, Piece, OnPiece, Gap, Says}
 use Rattle.orderings.specs.Systems.{InForce, Allowed, AtHand, Holds}
 use Rattle.orderings.specs.Timelines.{same, IsInitial, IsFinal, Accepting, timelines}
-use Rattle.orderings.specs.Decide.{yes?, same-claim, claim-in?, step, mix-steps, steps-of, in-force?, steps, steps-in, reaches?, between?, says?, holds?, initial-of, final-of, initials, finals, accepts?}
+use Rattle.orderings.specs.Decide.{yes?, same-claim, claim-in?, step, mix-steps, steps-of, in-force?, steps, steps-in, reaches?, between?, on-piece?, gap?, says?, holds?, initial-of, final-of, initials, finals, accepts?}
 use Rattle.orderings.proofs.Timelines.{members-iff}
 use Rattle.orderings.proofs.Walks.{allowed-append}
 use Rattle.orderings.proofs.Steps.{leads-append, inside-append, on-start, on-middle, on-end}
@@ -37,8 +37,10 @@ pub claim-in· : (l : List Claim) (c : Claim) → Decides (claim-in? l c) (c amo
 claim-in· l c = has· same-claim· c l
 
 -- a test for all states of P, and for some that pass another test
-all-in· : {f : ℕ → Bool} {A : ℕ → Type 0} (P : ℕ) → ((s : ℕ) → Decides (f s) (A s)) → Decides (all f (members P)) ((s : ℕ) → s ∈ P → A s)
-all-in· P d = iff· (λ h s i. h s (members-iff P s .1 i)) (λ h s m. h s (members-iff P s .0 m)) (all· d (members P))
+all-in· : {f : ℕ → Bool} {A : ℕ → Type 0} (P : ℕ) → ((s : ℕ) → s ∈ P → Decides (f s) (A s)) → Decides (all f (members P)) ((s : ℕ) → s ∈ P → A s)
+all-in· {f} P d = iff·
+    (λ h s i. d s i .to (h s (members-iff P s .1 i)))
+    (λ h s m. let i = members-iff P s .0 m in d s i .of (h s i)) (all· (λ s. test· (f s)) (members P))
 
 some-in· : {f g : ℕ → Bool} {A B : ℕ → Type 0} (P : ℕ) → ((s : ℕ) → Decides (g s) (B s)) → ((s : ℕ) → Decides (f s) (A s))
     → Decides (any f (keep g (members P))) ((s : ℕ) × ((s ∈ P) × B s) × A s)
@@ -169,13 +171,24 @@ module _ (rows : List Row) where
     between· P e f s = iff· (between-iff P e f s .1) (between-iff P e f s .0)
         (or· (and· (eqb· s e) (through· P s f)) (and· (through· P e s) (or· (eqb· s f) (through· P s f))))
 
+    on-piece· : (P s : ℕ) → Decides (on-piece? rows (steps-in rows l P) P s) (OnPiece rows Hand P s)
+    on-piece· P s = iff·
+        (λ p. let q = p .2 in ((p .0, q .0, p .1, q .1, q .2 .0), q .2 .1))
+        (λ o. let k = o .0 in (k .0, k .2, (k .1, k .3, (k .4, o .1))))
+        (some-in· P (λ e. stands· (LeftLimit P e) rows) (λ e. some-in· P (λ f. stands· (RightLimit f P) rows) (λ f. between· P e f s)))
+
+    -- a piece has its first state on it
+    piece· : (P : ℕ) → Decides (any (on-piece? rows (steps-in rows l P) P) (members P)) (Piece rows Hand P)
+    piece· P = iff· (λ p. p .2 .0) (λ k. (k .0, members-iff P (k .0) .1 (k .2 .0), (k, on-start (k .0) (k .0) (k .4 .0) refl))) (any· (on-piece· P) (members P))
+
+    gap· : (P s : ℕ) → s ∈ P → Decides (gap? rows P s) (Gap rows P s)
+    gap· P s i = iff· (λ p. ((i, p .0), (i, p .1))) (λ g. (g .0 .1, g .1 .1)) (and· (stands· (LeftLimit P s) rows) (stands· (RightLimit s P) rows))
+
     -- P loops, P mixes
     says· : (c : Claim) → Decides (says? rows (steps-in rows l (set-of c)) c) (Says rows Hand c)
-    says· (loops P) = iff· (λ h a b p q. h a p b q) (λ h a p b q. h a b p q) (all-in· P (λ a. all-in· P (λ b. through· P a b)))
-    says· (mixes P) = all-in· P (λ s. iff·
-        (λ p. let q = p .2 in (p .0, q .0, p .1, q .1, q .2 .0, q .2 .1))
-        (λ p. (p .0, p .2, (p .1, p .3, (p .4, p .5))))
-        (some-in· P (λ e. stands· (LeftLimit P e) rows) (λ e. some-in· P (λ f. stands· (RightLimit f P) rows) (λ f. between· P e f s))))
+    says· (loops P) = iff· (λ h a b p q. h a p b q) (λ h a p b q. h a b p q) (all-in· P (λ a i. all-in· P (λ b j. through· P a b)))
+    says· (mixes P) = iff· (λ h. record { covered = h .0; stepped = h .1 }) (λ h. (h .covered, h .stepped))
+        (and· (all-in· P (λ s i. or· (on-piece· P s) (gap· P s i))) (piece· P))
 
     subject· : (c : Claim) → Decides (any (eqb (set-of c)) (standing-sets rows)) (SetOf rows (set-of c))
     subject· c = iff· (sets-iff rows (set-of c) .0) (sets-iff rows (set-of c) .1) (has· eqb· (set-of c) (standing-sets rows))

@@ -9,7 +9,7 @@ use native.Mathlib.Omega.{arith}
 use native.Mathlib.Decide.{decLe, ℕ-discrete}
 use Rattle.lists.specs.Tests.{_among_, _part-of_, gather}
 use Rattle.lists.proofs.Deciding.{gather-in, gather-out}
-use Rattle.orderings.specs.Systems.{System, Allowed, AtHand, Holds, walk-depth, greatest, Derivation, Has, choose, depth, Valid, Derivable, LeastDepth, AcceptedIn}
+use Rattle.orderings.specs.Systems.{System, Allowed, AtHand, Holds, walk-depth, greatest, Line, Derivation, Has, choose, depth, Valid, Derivable, LeastDepth, AcceptedIn}
 use Rattle.orderings.specs.Rounds.{OpenBy, Opens, AcceptedBy}
 use Rattle.orderings.proofs.Walks.{needed, allowed-use, allowed-change, allowed-more, depth-least, depth-most, greatest-least, greatest-most}
 
@@ -45,6 +45,12 @@ module _ (S : System) where
   unfolding depth
   depth-has [] c h = absurd (omega arith)
   depth-has (l ∷ D) c h = choose-cases (S .same c (l .claim)) (λ n. 0 < n → Has S (l ∷ D) c) (λ e i. List·Memᴰ·head e) (λ n i. List·Memᴰ·tail (depth-has D c i)) h
+
+  -- a claim is deeper than each walk that justifies it
+  pub walk-counts : (l : Line S) (D : Derivation S) (w : List (S .Step)) → w among l .walks → walk-depth S (depth S D) w < depth S (l ∷ D) (l .claim)
+  unfolding depth
+  walk-counts l D w m = choose-cases (S .same (l .claim) (l .claim)) (λ n. walk-depth S (depth S D) w < n)
+      (λ e. omega (arith, greatest-least S (depth S D) (l .walks) w m)) (λ n. absurd (n refl))
 
   -- it has only claims that a derivation may hold
   pub has-subject : (D : Derivation S) (c : S .Claim) → Valid S D → Has S D c → S .Subject c

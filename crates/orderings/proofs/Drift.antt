@@ -1,5 +1,5 @@
 -- Document 01, "Where implementations drift": small tables on which each drift would show, computed from the
--- definitions, one law each (`two-rounds`, `whole-content`, `mix-outside`, `one-set` and others).
+-- definitions, one law each (`two-rounds`, `whole-content`, `mix-outside`, `one-set`, `gaps` and others).
 use Prim.Native.Nat.{ℕ}
 use mathlib.Core.Path.{_≡_, refl}
 use mathlib.Core.Bool.{true, false}
@@ -98,6 +98,42 @@ both-ways = (refl, refl, refl)
 pub some-piece-each : opened (Successor 0 7 0 ∷ Successor 1 7 1 ∷ LeftLimit 3 0 ∷ LeftLimit 3 1 ∷ RightLimit 0 3 ∷ RightLimit 1 3 ∷ []) 1 ≡ mixes 3 ∷ []
 unfolding ℕ-discrete member standing-sets same-row members reach holds?
 some-piece-each = refl
+
+-- request C-16: a state of the set with both rows, P → s and s → P, lies on a piece of no steps; with one of them alone, or with the other of
+-- another set, it lies on none
+pub gaps : (opened (Successor 0 7 0 ∷ LeftLimit 5 0 ∷ RightLimit 0 5 ∷ LeftLimit 5 2 ∷ RightLimit 2 5 ∷ []) 1 ≡ mixes 5 ∷ [])
+    × (opened (Successor 0 7 0 ∷ LeftLimit 5 0 ∷ RightLimit 0 5 ∷ LeftLimit 5 2 ∷ []) 1 ≡ [])
+    × (opened (Successor 0 7 0 ∷ LeftLimit 5 0 ∷ RightLimit 0 5 ∷ RightLimit 2 5 ∷ []) 1 ≡ [])
+    × (opened (Successor 0 7 0 ∷ LeftLimit 5 0 ∷ RightLimit 0 5 ∷ LeftLimit 5 2 ∷ RightLimit 2 6 ∷ []) 1 ≡ [])
+    × (opened (Successor 0 7 0 ∷ LeftLimit 5 0 ∷ RightLimit 0 5 ∷ LeftLimit 6 2 ∷ RightLimit 2 5 ∷ []) 1 ≡ [])
+unfolding ℕ-discrete member standing-sets same-row members reach holds?
+gaps = (refl, refl, refl, refl, refl)
+
+-- a set may have several, and once it mixes its mix steps lead to them and from them
+pub gaps-joined : (opened (Successor 0 7 0 ∷ LeftLimit 7 0 ∷ RightLimit 0 7 ∷ LeftLimit 7 1 ∷ RightLimit 1 7 ∷ LeftLimit 7 2 ∷ RightLimit 2 7 ∷ []) 1 ≡ mixes 7 ∷ [])
+    × (opened (Successor 0 7 0 ∷ LeftLimit 7 0 ∷ RightLimit 0 7 ∷ LeftLimit 7 1 ∷ RightLimit 1 7 ∷ LeftLimit 7 2 ∷ RightLimit 2 7 ∷ []) 2 ≡ loops 7 ∷ mixes 7 ∷ [])
+unfolding ℕ-discrete member standing-sets same-row members reach holds?
+gaps-joined = (refl, refl)
+
+-- gaps alone do not mix, and a walk that leaves the set is no piece; one letter step between them is
+pub gaps-alone : (opened (LeftLimit 3 0 ∷ RightLimit 0 3 ∷ LeftLimit 3 1 ∷ RightLimit 1 3 ∷ []) 1 ≡ [])
+    × (opened (LeftLimit 3 0 ∷ RightLimit 0 3 ∷ LeftLimit 3 1 ∷ RightLimit 1 3 ∷ Successor 0 7 2 ∷ Successor 2 7 1 ∷ []) 1 ≡ [])
+    × (opened (LeftLimit 3 0 ∷ RightLimit 0 3 ∷ LeftLimit 3 1 ∷ RightLimit 1 3 ∷ Successor 0 7 1 ∷ []) 1 ≡ mixes 3 ∷ [])
+unfolding ℕ-discrete member standing-sets same-row members reach holds?
+gaps-alone = (refl, refl, refl)
+
+-- a state outside the set with both rows is no gap of it: it covers no state of the set, is no piece, and needs none
+pub gap-outside : (opened (Successor 0 7 0 ∷ LeftLimit 3 0 ∷ RightLimit 0 3 ∷ LeftLimit 3 2 ∷ RightLimit 2 3 ∷ []) 1 ≡ [])
+    × (opened (Successor 0 7 0 ∷ LeftLimit 1 2 ∷ RightLimit 2 1 ∷ []) 1 ≡ loops 1 ∷ [])
+    × (opened (Successor 0 7 0 ∷ LeftLimit 1 0 ∷ RightLimit 0 1 ∷ LeftLimit 1 2 ∷ RightLimit 2 1 ∷ []) 1 ≡ loops 1 ∷ mixes 1 ∷ [])
+unfolding ℕ-discrete member standing-sets same-row members reach holds?
+gap-outside = (refl, refl, refl)
+
+-- beside a gap the piece with a step may have to wait for a claim: 0 leads to 1 once {0} loops
+pub gap-waits : (opened (Successor 0 7 0 ∷ LeftLimit 1 1 ∷ LeftLimit 7 0 ∷ RightLimit 1 7 ∷ LeftLimit 7 2 ∷ RightLimit 2 7 ∷ []) 1 ≡ loops 1 ∷ [])
+    × (opened (Successor 0 7 0 ∷ LeftLimit 1 1 ∷ LeftLimit 7 0 ∷ RightLimit 1 7 ∷ LeftLimit 7 2 ∷ RightLimit 2 7 ∷ []) 2 ≡ loops 1 ∷ mixes 7 ∷ [])
+unfolding ℕ-discrete member standing-sets same-row members reach holds?
+gap-waits = (refl, refl)
 
 -- entrances and exits are states of the set
 pub ends-of-the-set : opened (Successor 5 7 0 ∷ Successor 0 7 0 ∷ LeftLimit 1 5 ∷ RightLimit 0 1 ∷ []) 1 ≡ loops 1 ∷ []

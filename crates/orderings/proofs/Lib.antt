@@ -9,3 +9,4 @@ pub mod Reach
 pub mod Deciding
 pub mod Claims
 pub mod MoreRows
+pub mod Gaps

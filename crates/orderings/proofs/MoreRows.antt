@@ -2,7 +2,7 @@
 -- (`keeps-depth`, `accepts-more`, `least-more`), then for rows (`depths-grow`, `accepts-grows`, `least-grows`, `same-depths`).
 use Prim.Native.Nat.{ℕ, _≤_}
 use mathlib.Core.Path.{_≡_, refl, _∙_}
-use mathlib.Core.Logic.{⊎-elim, _↔_}
+use mathlib.Core.Logic.{inl, inr, ⊎-elim, _↔_}
 use mathlib.Core.Option.{Option, none, some}
 use mathlib.Core.List.{List, [], _∷_, map, List·Memᴰ·head, List·Memᴰ·tail, List·Memᴰ·not-nil, List·Memᴰ·cases-cons}
 use native.Mathlib.Omega.{arith}
@@ -10,7 +10,7 @@ use Rattle.lists.specs.Tests.{_among_}
 use Rattle.rows.specs.declared.Row.{Row}
 use Rattle.rows.specs.Rows.{SetOf}
 use Rattle.orderings.specs.Steps.{Claim, loops, mixes, set-of, Label, letter, ω, back, mix, Step, Possible, Walk}
-use Rattle.orderings.specs.Claims.{Says}
+use Rattle.orderings.specs.Claims.{Entrance, Exit, Piece, Says}
 use Rattle.orderings.specs.Systems.{System, Allowed, Line, Derivation, Has, need-depth, walk-depth, greatest, depth, Valid, HoldsAt, AcceptedIn, Accepts, LeastAccepted}
 use Rattle.orderings.specs.Timelines.{Accepting, timelines}
 use Rattle.orderings.specs.MoreRows.{Grows, KeepsDepths}
@@ -109,9 +109,21 @@ module _ (rows rows′ : List Row) (up : Grows rows rows′) where
   sets-grow : (P : ℕ) → SetOf rows P → SetOf rows′ P
   sets-grow P h = (h .0, up _ (h .1), h .2)
 
+  entrances-grow : (P e : ℕ) → Entrance rows P e → Entrance rows′ P e
+  entrances-grow P e h = (h .0, up _ (h .1))
+
+  exits-grow : (P f : ℕ) → Exit rows P f → Exit rows′ P f
+  exits-grow P f h = (h .0, up _ (h .1))
+
+  abbrev pieces-grow : (W : Walk → Type 0) (P : ℕ) → Piece rows W P → Piece rows′ W P
+  pieces-grow W P k = (k .0, k .1, entrances-grow P (k .0) (k .2), exits-grow P (k .1) (k .3), k .4)
+
   says-grow : (W : Walk → Type 0) (c : Claim) → Says rows W c → Says rows′ W c
   says-grow W (loops P) h = h
-  says-grow W (mixes P) h = λ s i. let o = h s i in (o .0, o .1, (o .2 .0, up _ (o .2 .1)), (o .3 .0, up _ (o .3 .1)), o .4, o .5)
+  says-grow W (mixes P) h = record {
+    covered = λ s i. ⊎-elim (λ o. inl (pieces-grow W P (o .0), o .1)) (λ g. inr (entrances-grow P s (g .0), exits-grow P s (g .1))) (h .covered s i);
+    stepped = pieces-grow W P (h .stepped);
+  }
 
   accepting-grows : (w : Walk) → Accepting rows w → Accepting rows′ w
   accepting-grows w h = (h .0, h .1, up _ (h .2), up _ (h .3), h .4)

@@ -1,7 +1,7 @@
 -- The claims of document 01: more walks show more, and finitely many walks are enough (`lawful`).
 use Prim.Native.Nat.{ℕ}
 use mathlib.Core.Path.{refl}
-use mathlib.Core.Logic.{⊎-elim, _↔_}
+use mathlib.Core.Logic.{_⊎_, inl, inr, ⊎-elim, _↔_}
 use mathlib.Core.List.{List, [], _∷_, _++_, List·Memᴰ·head, List·Memᴰ·tail, List·Memᴰ·not-nil, List·Memᴰ·append-cases, List·Memᴰ·cases-cons, List·Memᴰ·eq-of-singleton, Memᴰ·append-left, Memᴰ·append-right}
 use native.Mathlib.Omega.{arith}
 use Rattle.lists.specs.Tests.{_among_, _part-of_, range}
@@ -10,7 +10,7 @@ use Rattle.masks.specs.Mask.{member, _∈_}
 use Rattle.masks.proofs.Member.{member-lt}
 use Rattle.rows.specs.declared.Row.{Row}
 use Rattle.orderings.specs.Steps.{Claim, loops, mixes, Walk, members}
-use Rattle.orderings.specs.Claims.{Through, OnPiece, Says}
+use Rattle.orderings.specs.Claims.{Through, Piece, OnPiece, Gap, Says}
 use Rattle.orderings.specs.Timelines.{timelines}
 use Rattle.orderings.proofs.Depths.{Lawful}
 
@@ -19,15 +19,18 @@ unfolding members
 members-iff P s = let k = keep· (λ s. test· (member s P)) (range 0 64) s in ((λ m. k .0 m .1), λ h. k .1 (range-in 0 64 s (omega arith) (omega (arith, member-lt s P h)), h))
 
 module _ {W W′ : Walk → Type 0} (f : (w : Walk) → W w → W′ w) where
-  through-more : (P a b : ℕ) → Through W P a b → Through W′ P a b
+  abbrev through-more : (P a b : ℕ) → Through W P a b → Through W′ P a b
   through-more P a b t = (t .0, f _ (t .1), t .2, t .3, t .4)
 
-  piece-more : (rows : List Row) (P s : ℕ) → OnPiece rows W P s → OnPiece rows W′ P s
-  piece-more rows P s h = (h .0, h .1, h .2, h .3, (h .4 .0, f _ (h .4 .1), h .4 .2, h .4 .3, h .4 .4), h .5)
+  abbrev piece-more : (rows : List Row) (P : ℕ) → Piece rows W P → Piece rows W′ P
+  piece-more rows P k = (k .0, k .1, k .2, k .3, through-more P (k .0) (k .1) (k .4))
+
+  covered-more : (rows : List Row) (P s : ℕ) → OnPiece rows W P s ⊎ Gap rows P s → OnPiece rows W′ P s ⊎ Gap rows P s
+  covered-more rows P s = ⊎-elim (λ o. inl (piece-more rows P (o .0), o .1)) inr
 
   pub says-more : (rows : List Row) (c : Claim) → Says rows W c → Says rows W′ c
   says-more rows (loops P) h = λ a b p q. through-more P a b (h a b p q)
-  says-more rows (mixes P) h = λ s p. piece-more rows P s (h s p)
+  says-more rows (mixes P) h = record { covered = λ s p. covered-more rows P s (h .covered s p); stepped = piece-more rows P (h .stepped) }
 
 -- finitely many of the walks at hand, of which T holds
 module _ (W : Walk → Type 0) where
@@ -50,14 +53,33 @@ module _ (W : Walk → Type 0) where
   alone : (w : Walk) → W w → (v : Walk) → v among (w ∷ []) → W v
   alone w h v m = rw (List·Memᴰ·eq-of-singleton m) h
 
+  -- one walk is enough for a walk through P, for a piece, for a state on a piece; none for a gap
+  abbrev one-through : (P a b : ℕ) → Through W P a b → Few (λ ws. Through (λ w. w among ws) P a b)
+  one-through P a b t = (t .0 ∷ [], alone (t .0) (t .1), (t .0, List·Memᴰ·head refl, t .2, t .3, t .4))
+
+  abbrev one-piece : (rows : List Row) (P : ℕ) → Piece rows W P → Few (λ ws. Piece rows (λ w. w among ws) P)
+  one-piece rows P k = let r = one-through P (k .0) (k .1) (k .4) in (r .0, r .1, (k .0, k .1, k .2, k .3, r .2))
+
+  one-covered : (rows : List Row) (P s : ℕ) → OnPiece rows W P s ⊎ Gap rows P s → Few (λ ws. OnPiece rows (λ w. w among ws) P s ⊎ Gap rows P s)
+  one-covered rows P s = ⊎-elim
+      (λ o. let r = one-piece rows P (o .0) in (r .0, r .1, inl (r .2, o .1)))
+      (λ g. ([], (λ w m. absurd (List·Memᴰ·not-nil m)), inr g))
+
   says-finite : (rows : List Row) (c : Claim) → Says rows W c → Few (λ ws. Says rows (λ w. w among ws) c)
   says-finite rows (loops P) h =
       let r = few-of P (λ a ws. (b : ℕ) → b ∈ P → Through (λ w. w among ws) P a b) (λ a ws ws′ up g b q. through-more up P a b (g b q))
-      (λ a p. few-of P (λ b ws. Through (λ w. w among ws) P a b) (λ b ws ws′ up. through-more up P a b)
-      (λ b q. let t = h a b p q in (t .0 ∷ [], alone (t .0) (t .1), (t .0, List·Memᴰ·head refl, t .2, t .3, t .4)))) in
+      (λ a p. few-of P (λ b ws. Through (λ w. w among ws) P a b) (λ b ws ws′ up. through-more up P a b) (λ b q. one-through P a b (h a b p q))) in
       (r .0, r .1, λ a b p q. r .2 a p b q)
-  says-finite rows (mixes P) h = few-of P (λ s ws. OnPiece rows (λ w. w among ws) P s) (λ s ws ws′ up. piece-more up rows P s)
-      (λ s p. let o = h s p in let t = o .4 in (t .0 ∷ [], alone (t .0) (t .1), (o .0, o .1, o .2, o .3, (t .0, List·Memᴰ·head refl, t .2, t .3, t .4), o .5)))
+  says-finite rows (mixes P) h =
+      let r = few-of P (λ s ws. OnPiece rows (λ w. w among ws) P s ⊎ Gap rows P s) (λ s ws ws′ up. covered-more up rows P s) (λ s p. one-covered rows P s (h .covered s p)) in
+      let k = one-piece rows P (h .stepped) in (
+        k .0 ++ r .0,
+        (λ w m. ⊎-elim (k .1 w) (r .1 w) (List·Memᴰ·append-cases (k .0) m)),
+        record {
+          covered = λ s p. covered-more (λ w i. Memᴰ·append-right (k .0) i) rows P s (r .2 s p);
+          stepped = piece-more (λ w i. Memᴰ·append-left (r .0) i) rows P (k .2);
+        },
+      )
 
 pub lawful : (rows : List Row) → Lawful (timelines rows)
 lawful rows = record { more = λ f c. says-more f rows c; finite = λ {W} c. says-finite W rows c }

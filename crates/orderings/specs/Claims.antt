@@ -1,6 +1,6 @@
 -- Document 01, "Steps and claims": what a claim says, of the walks W that are at hand.
 use Prim.Native.Nat.{ℕ}
-use mathlib.Core.Logic.{_≢_}
+use mathlib.Core.Logic.{_⊎_, _≢_}
 use mathlib.Core.List.{List, []}
 use Rattle.lists.specs.Tests.{_among_}
 use Rattle.masks.specs.Mask.{_∈_}
@@ -24,13 +24,22 @@ Entrance rows P e = (e ∈ P) × LeftLimit P e among rows
 abbrev pub Exit : List Row → ℕ → ℕ → Type 0
 Exit rows P f = (f ∈ P) × RightLimit f P among rows
 
--- s lies on a piece: a walk of one or more steps inside P from an entrance to an exit, ends included
-abbrev pub OnPiece : List Row → (Walk → Type 0) → ℕ → ℕ → Type 0
-OnPiece rows W P s = (e : ℕ) × (f : ℕ) × Entrance rows P e × Exit rows P f × (t : Through W P e f) × On s e (t .0)
+-- a piece of P: a walk of one or more steps inside P from an entrance to an exit
+abbrev pub Piece : List Row → (Walk → Type 0) → ℕ → Type 0
+Piece rows W P = (e : ℕ) × (f : ℕ) × Entrance rows P e × Exit rows P f × Through W P e f
 
--- P mixes: every state of P lies on some piece
-abbrev pub Mixes : List Row → (Walk → Type 0) → ℕ → Type 0
-Mixes rows W P = (s : ℕ) → s ∈ P → OnPiece rows W P s
+-- s lies on a piece, ends included
+abbrev pub OnPiece : List Row → (Walk → Type 0) → ℕ → ℕ → Type 0
+OnPiece rows W P s = (k : Piece rows W P) × On s (k .0) (k .4 .0)
+
+-- request C-16: a gap, a state s of P with both rows s → P and P → s, is a piece of no steps
+abbrev pub Gap : List Row → ℕ → ℕ → Type 0
+Gap rows P s = Entrance rows P s × Exit rows P s
+
+-- P mixes: every state of P lies on some piece, of no steps too, and at least one piece has a step
+pub record Mixes (rows : List Row) (W : Walk → Type 0) (P : ℕ) : Type 0 where
+  pub covered : (s : ℕ) → s ∈ P → OnPiece rows W P s ⊎ Gap rows P s
+  pub stepped : Piece rows W P
 
 abbrev pub Says : List Row → (Walk → Type 0) → Claim → Type 0
 Says rows W (loops P) = Loops W P

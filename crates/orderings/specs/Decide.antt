@@ -84,8 +84,15 @@ entrances rows P = keep (λ e. stands? (LeftLimit P e) rows) (members P)
 abbrev pub exits : List Row → ℕ → List ℕ
 exits rows P = keep (λ f. stands? (RightLimit f P) rows) (members P)
 
+-- s lies on a piece of one or more of the steps
+abbrev pub on-piece? : List Row → List Step → ℕ → ℕ → Bool
+on-piece? rows G P s = any (λ e. any (λ f. between? G e f s) (exits rows P)) (entrances rows P)
+
+abbrev pub gap? : List Row → ℕ → ℕ → Bool
+gap? rows P s = stands? (LeftLimit P s) rows && stands? (RightLimit s P) rows
+
 abbrev pub mixes? : List Row → List Step → ℕ → Bool
-mixes? rows G P = all (λ s. any (λ e. any (λ f. between? G e f s) (exits rows P)) (entrances rows P)) (members P)
+mixes? rows G P = all (λ s. on-piece? rows G P s || gap? rows P s) (members P) && any (on-piece? rows G P) (members P)
 
 abbrev pub says? : List Row → List Step → Claim → Bool
 says? rows G (loops P) = loops? G P

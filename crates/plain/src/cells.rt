@@ -22,6 +22,9 @@ pub const LOOPS: u64 = 4432;
 
 pub const MIXES: u64 = 4464;
 
+// Where 1 stands once a set mixed only with its gaps.
+pub const BY_GAP: u64 = 4496;
+
 // What stands at `base` and `i` more.
 pub fn at(cells: &[u64], base: u64, i: u64) -> u64 {
     let k = wrapping_add_u64(base, i) as usize;

@@ -77,7 +77,7 @@ fn gates(table: &[u64], kind: u64, p: u64) -> u64 {
     found & p
 }
 
-// Does `s` lie on some piece, ends included? The exits are those that it leads to, itself among them.
+// Does `s` lie on some piece of one or more steps, ends included? The exits are those that it leads to, itself among them.
 fn is_on_piece(links: &[u64], entrances: u64, exits: u64, s: u64) -> bool {
     let ends = exits & cells::with(cells::at(links, s, 0), s);
     let mut e = 0;
@@ -94,30 +94,39 @@ fn is_on_piece(links: &[u64], entrances: u64, exits: u64, s: u64) -> bool {
     false
 }
 
-// Does every state of P lie on some piece?
-fn is_covered(links: &[u64], p: u64, entrances: u64, exits: u64) -> bool {
+// The states of P that lie on some piece of one or more steps.
+fn on_pieces(links: &[u64], p: u64, entrances: u64, exits: u64) -> u64 {
+    let mut found = 0;
     let mut s = 0;
     while s < 64 {
-        if cells::has(p, s) && !is_on_piece(links, entrances, exits, s) {
-            return false;
+        if cells::has(p, s) && is_on_piece(links, entrances, exits, s) {
+            found = cells::with(found, s);
         }
         s += 1;
     }
-    true
+    found
 }
 
-// What holds of a set.
+// What holds of a set, and whether it mixes only with its gaps.
 pub struct Claims {
     pub loops: bool,
     pub mixes: bool,
+    pub by_gap: bool,
 }
 
-// P loops: walks inside P lead from each state of P to each. P mixes: every state of P lies on some piece.
+// P loops: walks inside P lead from each state of P to each. P mixes: every state of P lies on some piece, those of no steps among them,
+// and some piece has a step.
 pub fn of_set(table: &[u64], p: u64) -> Claims {
     let mut links = [0u64; 64];
     link_steps(table, p, &mut links);
     close_links(&mut links, p);
-    let loops = is_linked(&links, p);
-    let mixes = is_covered(&links, p, gates(table, 4, p), gates(table, 5, p));
-    Claims { loops, mixes }
+    let entrances = gates(table, 4, p);
+    let exits = gates(table, 5, p);
+    let on = on_pieces(&links, p, entrances, exits);
+    let mixes = on != 0 && cells::is_inside(p, on | (entrances & exits));
+    Claims {
+        loops: is_linked(&links, p),
+        mixes,
+        by_gap: mixes && on != p,
+    }
 }

@@ -4,7 +4,7 @@
 //
 // One table of cells holds all. Lines of four cells, kind, from, label and to: the rows on lines 0 to 79, with the set of a limit as
 // label; the steps on lines 80 to 1,099, kind 1 letter, 2 omega, 3 back, 4 mix. Then 32 cells for the sets, 32 for the rounds in which
-// their loops opened and 32 for those of their mixes, 0 for not open.
+// their loops opened and 32 for those of their mixes, 0 for not open; and one that says whether a set mixed only with its gaps.
 mod cells;
 mod claims;
 mod reader;
@@ -13,21 +13,34 @@ mod steps;
 mod text;
 mod walk;
 
-// Writes the sheet of the batch's rows into `out`, or the line of its refusal, and answers its length.
-pub fn sheet(batch: &[u8], out: &mut [u8]) -> usize {
+// The length of what was written, and whether a set mixed only with its gaps.
+pub struct Written {
+    pub length: usize,
+    pub by_gap: bool,
+}
+
+// Writes the sheet of the batch's rows into `out`, or the line of its refusal.
+pub fn sheet(batch: &[u8], out: &mut [u8]) -> Written {
     let refused = reader::refusal(batch);
     if refused.number != 0 {
-        return text::put_refusal(out, refused.number, refused.place as u64);
+        let length = text::put_refusal(out, refused.number, refused.place as u64);
+        return Written {
+            length,
+            by_gap: false,
+        };
     }
     settled(batch, out)
 }
 
-fn settled(batch: &[u8], out: &mut [u8]) -> usize {
-    let mut table = [0u64; 4496];
+fn settled(batch: &[u8], out: &mut [u8]) -> Written {
+    let mut table = [0u64; 4497];
     reader::read_rows(batch, &mut table);
     reader::collect_sets(&mut table);
     let verdict = settling::settle(&mut table);
-    report(&table, verdict, out)
+    Written {
+        length: report(&table, verdict, out),
+        by_gap: cells::at(&table, cells::BY_GAP, 0) == 1,
+    }
 }
 
 // The lines: verdict, openings and, if non-empty, the walk.

@@ -26,6 +26,13 @@ fn is_done(table: &[u64], i: u64) -> bool {
     cells::at(table, cells::LOOPS, i) != 0 && cells::at(table, cells::MIXES, i) != 0
 }
 
+// Keeps that a set mixed only with its gaps.
+fn keep_gap(table: &mut [u64], by_gap: bool) {
+    if by_gap {
+        cells::put(table, cells::BY_GAP, 0, 1);
+    }
+}
+
 // Tests both claims of set `i`.
 fn test_set(table: &mut [u64], i: u64, k: u64) -> bool {
     if is_done(table, i) {
@@ -34,6 +41,7 @@ fn test_set(table: &mut [u64], i: u64, k: u64) -> bool {
     let claims = claims::of_set(table, cells::at(table, cells::SETS, i));
     let looped = open(table, cells::LOOPS, i, claims.loops, k);
     let mixed = open(table, cells::MIXES, i, claims.mixes, k);
+    keep_gap(table, mixed && claims.by_gap);
     looped || mixed
 }
 

@@ -1,5 +1,6 @@
 // Random automata. A tower of sets, each with a state more than the one before, and limits between a set and the state that is added
-// next: so a set loops only after the one below it, and it takes rounds. States are counted from 0 here; `names` says which they are.
+// next: so a set loops only after the one below it, and it takes rounds. Some states are added as gaps instead: then the set mixes, and
+// loops by its mix one round later. States are counted from 0 here; `names` says which they are.
 use crate::dice::choice;
 use crate::dice::next;
 use std::num::wrapping_add_u64;
@@ -139,7 +140,7 @@ fn put_gates(batch: &mut [u8], place: usize, word: u64, set: u64, s: u64, names:
     )
 }
 
-// What makes a set loop with its newest state, seldom left out, and what may make it mix.
+// What makes a set loop with its newest state, seldom left out, and what may make it mix; where that state came as a gap, nothing.
 fn put_floor(
     batch: &mut [u8],
     place: usize,
@@ -147,8 +148,12 @@ fn put_floor(
     set: u64,
     s: u64,
     by_left: bool,
+    as_gap: bool,
     names: u64,
 ) -> usize {
+    if as_gap {
+        return place;
+    }
     if choice(word, 2, odds(names)) == 0 {
         return put_gates(batch, place, word, set, s, names);
     }
@@ -191,6 +196,39 @@ fn grown(word: u64, set: u64, s: u64, names: u64) -> u64 {
     }
 }
 
+// The rows of a gap: s → set and set → s, seldom the second alone.
+fn put_gap(batch: &mut [u8], place: usize, word: u64, set: u64, s: u64, names: u64) -> usize {
+    let end = put_limit(batch, place, set, s, true, names);
+    if choice(word, 1, 8) == 0 {
+        return end;
+    }
+    put_limit(batch, end, set, s, false, names)
+}
+
+// Does the new state come as a gap?
+fn comes_as_gap(word: u64) -> bool {
+    choice(word, 0, 5) == 0
+}
+
+// Joins the state `s` to the set by a limit; or as a gap, with one more gap at a state that the set has.
+fn put_join(
+    batch: &mut [u8],
+    place: usize,
+    word: u64,
+    set: u64,
+    s: u64,
+    by_left: bool,
+    names: u64,
+) -> usize {
+    if comes_as_gap(word) {
+        let whole = with(set, s);
+        let end = put_gap(batch, place, word, whole, s, names);
+        let other = member(set, choice(word, 2, 16));
+        return put_gap(batch, end, next(word), whole, other, names);
+    }
+    put_limit(batch, place, set, s, by_left, names)
+}
+
 // The end of the batch, and the state that was added last.
 struct Built {
     end: usize,
@@ -212,12 +250,15 @@ fn put_towers(
     let mut set = with(0, first);
     let mut s = first;
     let mut left_side = by_left;
+    let mut as_gap = false;
     let mut left = floors;
     while left > 0 {
-        end = put_floor(batch, end, word, set, s, left_side, names);
+        end = put_floor(batch, end, word, set, s, left_side, as_gap, names);
         s = new_state(word, states, s, names);
         left_side = by_left == (choice(word, 7, odds(names)) != 0);
-        end = put_limit(batch, end, set, s, left_side, names);
+        let gap_word = next(word ^ 6);
+        as_gap = comes_as_gap(gap_word);
+        end = put_join(batch, end, gap_word, set, s, left_side, names);
         word = next(word);
         set = grown(word, set, s, names);
         left -= 1;
@@ -302,7 +343,7 @@ fn put_end(
     )
 }
 
-// Writes the batch of an automaton and answers its length: 3 to 16 states, fewer floors, at most 15 sets and 60 + 15 + 4 rows.
+// Writes the batch of an automaton and answers its length: 3 to 16 states, fewer floors, at most 30 sets and 60 + 15 + 4 rows.
 pub fn automaton(word: u64, batch: &mut [u8]) -> usize {
     let names = next(word ^ 3);
     let states = wrapping_add_u64(3, choice(word, 0, 14));

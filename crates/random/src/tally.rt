@@ -1,5 +1,5 @@
 // Comparing sheets, and counting what they say. The counts: from 0 on the non-empty by rounds, from 40 on the empty, from 80 on the
-// refused by number; then those repeated, different, pairs of different batches, and those of them that were told different.
+// refused by number; then those repeated, different, pairs of different batches, those of them that were told different, and those with a gap.
 use program_output::say;
 use program_output::say_count;
 
@@ -17,6 +17,8 @@ pub const DIFFERENT: usize = 91;
 const PAIRS: usize = 92;
 
 pub const TOLD: usize = 93;
+
+const GAPS: usize = 94;
 
 // The byte at `i`, 0 past the end.
 pub fn byte(text: &[u8], i: usize) -> u8 {
@@ -77,6 +79,13 @@ pub fn repeated(counts: &mut [u64]) {
     add(counts, REPEATED);
 }
 
+// Counts a batch in which a set mixed only with its gaps.
+pub fn count_gap(counts: &mut [u64], by_gap: bool) {
+    if by_gap {
+        add(counts, GAPS);
+    }
+}
+
 fn report_line(counts: &[u64], word: &[u8], k: usize, at: usize) {
     let n = get(counts, at);
     if n > 0 {
@@ -114,6 +123,10 @@ pub fn report(counts: &[u64]) {
     say_count(
         b"tried, no two the same: ",
         std::num::wrapping_sub_u64(BATCHES, repeated),
+    );
+    say_count(
+        b"with a set that mixes only with its gaps: ",
+        get(counts, GAPS),
     );
     say_count(b"different: ", get(counts, DIFFERENT));
     say_count(b"pairs of different batches: ", get(counts, PAIRS));

@@ -1,17 +1,16 @@
 -- What a set that loops or mixes shows before any search: where steps lead to its states, and where steps lead from them.
-use Prim.Native.Nat.{ℕ, _^_, _<_}
+use Prim.Native.Nat.{ℕ}
 use mathlib.Core.Path.{_≡_, subst, sym}
 use mathlib.Core.Bool.{Bool, _&&_, _||_}
-use mathlib.Core.Logic.{_⊎_, inl, inr, ⊎-elim, _↔_, _≢_}
+use mathlib.Core.Logic.{_⊎_, inl, inr, ⊎-elim, _↔_}
 use mathlib.Core.List.{List}
-use lib.Dec.{eqb}
 use Rattle.lists.specs.Tests.{Decides}
-use Rattle.lists.proofs.Deciding.{eqb·, iff·}
+use Rattle.lists.proofs.Deciding.{iff·}
 use Rattle.masks.specs.Mask.{member, _∈_, _⊆_}
-use Rattle.masks.proofs.Member.{in-none, none as empty, union-left, union-right, union-cases, intersection-left, intersection-right, intersection-both}
+use Rattle.masks.proofs.Member.{union-left, union-right, union-cases, intersection-left, intersection-right, intersection-both}
 use Rattle.rows.specs.declared.Row.{Row}
 use Rattle.orderings.specs.Steps.{Claim}
-use Rattle.orderings.specs.Claims.{Loops, Mixes, Entrance, Exit}
+use Rattle.orderings.specs.Claims.{Loops, Entrance, Exit, OnPiece, Mixes}
 use Rattle.orderings.specs.Systems.{AtHand}
 use Rattle.orderings.specs.Timelines.{timelines}
 use Rattle.search.specs.declared.Claims.{Claims}
@@ -24,29 +23,22 @@ use Rattle.search.proofs.Parts.{turn-back}
 use Rattle.search.proofs.Steps.{step-hop}
 use Rattle.search.proofs.Walks.{leg-chain, leg-between}
 
--- a set with a state
-not-none : (s m : ℕ) → s ∈ m → m ≢ 0
-not-none s m h e = in-none s (subst (λ (x : ℕ). s ∈ x) e h)
-
--- without an entrance, or without an exit, only a set without a state is to be tried
-pub unthreaded : (p m n to from : ℕ) → p < 2 ^ 64 → (m ≡ 0) ⊎ (n ≡ 0) → Decides (eqb p 0) (Threaded p m n to from)
-unthreaded p m n to from h none = iff· (λ e s i. absurd (in-none s (subst (λ (x : ℕ). s ∈ x) e i)))
-    (λ f. empty p h (λ s i. ⊎-elim (f s i .0) (f s i .1) none)) (eqb· p 0)
-
--- with some of both, a test against two unions
-pub threaded : {b : Bool} (p m n to from after before both : ℕ) → m ≢ 0 → n ≢ 0
+-- a test against two unions
+pub threaded : {b : Bool} (p m n to from after before both : ℕ) → (s : ℕ) × (s ∈ m) × (s ∈ from) → (s : ℕ) × (s ∈ n) × (s ∈ to)
     → ((t : ℕ) → member t after ≡ (member t m || member t to)) → ((t : ℕ) → member t before ≡ (member t n || member t from))
     → ((t : ℕ) → member t both ≡ (member t after && member t before)) → Decides b (p ⊆ both) → Decides b (Threaded p m n to from)
-threaded p m n to from after before both some-m some-n is-a is-b is = iff·
-    (λ f s h. (
-      some-m,
-      some-n,
-      union-cases m to after is-a s (intersection-left after before both is s (f s h)),
-      union-cases n from before is-b s (intersection-right after before both is s (f s h)),
-    ))
-    (λ f s h. let x = f s h in intersection-both after before both is s
-    (⊎-elim (union-left m to after is-a s) (union-right m to after is-a s) (x .2))
-    (⊎-elim (union-left n from before is-b s) (union-right n from before is-b s) (x .3)))
+threaded p m n to from after before both leaves enters is-a is-b is = iff·
+    (λ f. record {
+      leaves = leaves;
+      enters = enters;
+      states = λ s h. (
+        union-cases m to after is-a s (intersection-left after before both is s (f s h)),
+        union-cases n from before is-b s (intersection-right after before both is s (f s h)),
+      );
+    })
+    (λ f s h. let x = f .states s h in intersection-both after before both is s
+    (⊎-elim (union-left m to after is-a s) (union-right m to after is-a s) (x .0))
+    (⊎-elim (union-left n from before is-b s) (union-right n from before is-b s) (x .1)))
 
 module _ {rows : List Row} {g back : Graph} {n : ℕ} (is : Masked rows g n) (turned : TurnedGraph g back) {In : Claim → Type 0} {force : Claims} (forced : Forced In g n force)
     (to from p : ℕ) (is-to : Ends g force p to) (is-from : Ends back force p from) where
@@ -66,14 +58,19 @@ module _ {rows : List Row} {g back : Graph} {n : ℕ} (is : Masked rows g n) (tu
 
   pub mixing-passes : (m k : ℕ) → ((e : ℕ) → (e ∈ m) ↔ Entrance rows p e) → ((e : ℕ) → (e ∈ k) ↔ Exit rows p e)
       → Mixes rows (AtHand (timelines rows) In) p → Threaded p m k to from
-  mixing-passes m k is-m is-k f s h =
-      let o = f s h in
-      let in-m = is-m (o .0) .1 (o .2) in
-      let in-k = is-k (o .1) .1 (o .3) in
-      let on = cut (o .0) (o .1) in-m in-k (leg-between rows In p (o .0) (o .1) s (o .4, o .5)) in
-      (not-none (o .0) m in-m, not-none (o .1) k in-k, on .0, on .1)
+  mixing-passes m k is-m is-k h =
+      let o = h .stepped in
+      let c = leg-chain rows In p (o .0) (o .1) (o .4) in
+      record {
+        leaves = (o .0, is-m (o .0) .1 (o .2), precedes c);
+        enters = (o .1, is-k (o .1) .1 (o .3), follows c);
+        states = λ s i. ⊎-elim (on-piece s) (λ g. (inl (is-m s .1 (g .0)), inl (is-k s .1 (g .1)))) (h .covered s i);
+      }
     where
-      cut : (a b : ℕ) → a ∈ m → b ∈ k → Between Step a b s → ((s ∈ m) ⊎ (s ∈ to)) × ((s ∈ k) ⊎ (s ∈ from))
-      cut a b ha hb = ⊎-elim
+      cut : (a b s : ℕ) → a ∈ m → b ∈ k → Between Step a b s → ((s ∈ m) ⊎ (s ∈ to)) × ((s ∈ k) ⊎ (s ∈ from))
+      cut a b s ha hb = ⊎-elim
           (λ x. (inl (subst (λ (y : ℕ). y ∈ m) (sym (x .0)) ha), inr (precedes (x .1))))
           (λ x. (inr (follows (x .0)), ⊎-elim (λ e. inl (subst (λ (y : ℕ). y ∈ k) (sym e) hb)) (λ d. inr (precedes d)) (x .1)))
+
+      on-piece : (s : ℕ) → OnPiece rows (AtHand (timelines rows) In) p s → ((s ∈ m) ⊎ (s ∈ to)) × ((s ∈ k) ⊎ (s ∈ from))
+      on-piece s (o, i) = cut (o .0) (o .1) s (is-m (o .0) .1 (o .2)) (is-k (o .1) .1 (o .3)) (leg-between rows In p (o .0) (o .1) s (o .4, i))

@@ -9,13 +9,13 @@ use Rattle.masks.specs.Mask.{member, _∈_}
 use Rattle.masks.proofs.Member.{intersection-left, intersection-right, intersection-both}
 use Rattle.rows.specs.declared.Row.{Row}
 use Rattle.orderings.specs.Steps.{Claim}
-use Rattle.orderings.specs.Claims.{Through, Loops, Mixes, Entrance, Exit}
+use Rattle.orderings.specs.Claims.{Through, Loops, Entrance, Exit, OnPiece, Mixes}
 use Rattle.orderings.specs.Systems.{AtHand}
 use Rattle.orderings.specs.Timelines.{timelines}
 use Rattle.search.specs.declared.Claims.{Claims}
 use Rattle.search.specs.Graph.{Graph}
 use Rattle.search.specs.Masked.{Masked, Forced, StepInside}
-use Rattle.search.specs.Hops.{Hop, Chain, InnerClaims, Joined, Between, Covered}
+use Rattle.search.specs.Hops.{Hop, Chain, InnerClaims, Joined, Between, OnChain, Covered}
 use Rattle.search.proofs.Chains.{chain-map}
 use Rattle.search.proofs.Steps.{hop-step, step-hop}
 use Rattle.search.proofs.Walks.{chain-leg, leg-chain, leg-between, between-leg}
@@ -62,8 +62,20 @@ module _ {rows : List Row} {g : Graph} {n : ℕ} (is : Masked rows g n) where
     pub mixes-iff : (m k : ℕ) → ((e : ℕ) → (e ∈ m) ↔ Entrance rows p e) → ((f : ℕ) → (f ∈ k) ↔ Exit rows p f)
         → Covered Links m k p ↔ Mixes rows (AtHand (timelines rows) In) p
     mixes-iff m k is-m is-k = (
-      (λ h s hs. let o = h s hs in let t = between-leg rows In p (o .0) (o .1) s (between-map to-step (o .0) (o .1) s (o .4)) in
-          (o .0, o .1, is-m (o .0) .0 (o .2), is-k (o .1) .0 (o .3), t .0, t .1)),
-      λ h s hs. let o = h s hs in
-          (o .0, o .1, is-m (o .0) .1 (o .2), is-k (o .1) .1 (o .3), between-map of-step (o .0) (o .1) s (leg-between rows In p (o .0) (o .1) s (o .4, o .5))),
+      (λ h. record {
+        covered = λ s i. ⊎-elim (λ o. inl (on-piece s o)) (λ g. inr (is-m s .0 (g .0), is-k s .0 (g .1))) (h .states s i);
+        stepped = let c = h .chain in (c .0, c .1, is-m (c .0) .0 (c .2), is-k (c .1) .0 (c .3), chain-iff (c .0) (c .1) .0 (c .4));
+      }),
+      λ h. record {
+        states = λ s i. ⊎-elim (λ o. inl (on-chain s o)) (λ g. inr (is-m s .1 (g .0), is-k s .1 (g .1))) (h .covered s i);
+        chain = let o = h .stepped in (o .0, o .1, is-m (o .0) .1 (o .2), is-k (o .1) .1 (o .3), chain-iff (o .0) (o .1) .1 (o .4));
+      },
     )
+      where
+        on-piece : (s : ℕ) → OnChain Links m k s → OnPiece rows (AtHand (timelines rows) In) p s
+        on-piece s o = let t = between-leg rows In p (o .0) (o .1) s (between-map to-step (o .0) (o .1) s (o .4)) in
+            ((o .0, o .1, is-m (o .0) .0 (o .2), is-k (o .1) .0 (o .3), t .0), t .1)
+
+        on-chain : (s : ℕ) → OnPiece rows (AtHand (timelines rows) In) p s → OnChain Links m k s
+        on-chain s (o, i) =
+            (o .0, o .1, is-m (o .0) .1 (o .2), is-k (o .1) .1 (o .3), between-map of-step (o .0) (o .1) s (leg-between rows In p (o .0) (o .1) s (o .4, i)))

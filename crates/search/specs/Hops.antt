@@ -2,7 +2,7 @@
 use Prim.Native.Nat.{ℕ, _-_, _^_, _<_}
 use mathlib.Core.Path.{_≡_}
 use mathlib.Core.Bool.{_||_}
-use mathlib.Core.Logic.{_⊎_, _↔_, _≢_}
+use mathlib.Core.Logic.{_⊎_, _↔_}
 use mathlib.Core.List.{List}
 use lib.ListN.{getD}
 use Rattle.masks.specs.Graph.{Target}
@@ -78,9 +78,14 @@ Joined E p = (a b : ℕ) → a ∈ p → b ∈ p → Chain E a b
 abbrev pub Between : (ℕ → ℕ → Type 0) → ℕ → ℕ → ℕ → Type 0
 Between E a b s = ((s ≡ a) × Chain E s b) ⊎ (Chain E a s × ((s ≡ b) ⊎ Chain E s b))
 
--- every state of p lies on a chain from one of the states m to one of the states n
-abbrev pub Covered : (ℕ → ℕ → Type 0) → ℕ → ℕ → ℕ → Type 0
-Covered E m n p = (s : ℕ) → s ∈ p → (a : ℕ) × (b : ℕ) × (a ∈ m) × (b ∈ n) × Between E a b s
+-- s lies on a chain from one of the states m to one of the states n
+abbrev pub OnChain : (ℕ → ℕ → Type 0) → ℕ → ℕ → ℕ → Type 0
+OnChain E m n s = (a : ℕ) × (b : ℕ) × (a ∈ m) × (b ∈ n) × Between E a b s
+
+-- every state of p lies on such a chain or is both in m and in n, and there is such a chain
+pub record Covered (E : ℕ → ℕ → Type 0) (m n p : ℕ) : Type 0 where
+  pub states : (s : ℕ) → s ∈ p → OnChain E m n s ⊎ ((s ∈ m) × (s ∈ n))
+  pub chain : (a : ℕ) × (b : ℕ) × (a ∈ m) × (b ∈ n) × Chain E a b
 
 -- r has the end of every step inside p, by a letter or by a claim about a part of p
 pub record Ends (g : Graph) (force : Claims) (p r : ℕ) : Type 0 where
@@ -101,6 +106,9 @@ pub record WithNew (old new force : Claims) : Type 0 where
   pub loops-are : Unites (old .loops) (new .loops) (force .loops)
   pub mixes-are : Unites (old .mixes) (new .mixes) (force .mixes)
 
--- where p has a state, m and n have one; each state of p is in m or a step ends in it, and it is in n or a step starts from it
-abbrev pub Threaded : ℕ → ℕ → ℕ → ℕ → ℕ → Type 0
-Threaded p m n to from = (s : ℕ) → s ∈ p → (m ≢ 0) × (n ≢ 0) × ((s ∈ m) ⊎ (s ∈ to)) × ((s ∈ n) ⊎ (s ∈ from))
+-- a step starts from a state of m, and one ends in a state of n; each state of p is in m or a step ends in it, and it is in n or a step starts
+-- from it
+pub record Threaded (p m n to from : ℕ) : Type 0 where
+  pub leaves : (s : ℕ) × (s ∈ m) × (s ∈ from)
+  pub enters : (s : ℕ) × (s ∈ n) × (s ∈ to)
+  pub states : (s : ℕ) → s ∈ p → ((s ∈ m) ⊎ (s ∈ to)) × ((s ∈ n) ⊎ (s ∈ from))

@@ -7,6 +7,7 @@ use crate::graphs::set_at;
 use crate::moves::claimed;
 use crate::moves::inner;
 use crate::moves::marked;
+use crate::moves::meets;
 use crate::moves::targets;
 use crate::searches::reach;
 use masks::PLACES;
@@ -43,16 +44,20 @@ fn joined(graph: &Masks, back: &Masks, force: Claims, p: Set) -> bool
     reach(back, force, p, s) == p
 }
 
-// Does each state of `p` lie on a walk of one or more steps inside `p` from a state of `m` to one of `n`?
+// Does a walk of one or more steps inside `p` lead from a state of `m` to one of `n`, and does each state of `p` lie on one or in
+// both?
 fn covered(graph: &Masks, back: &Masks, force: Claims, p: Set, m: Set, n: Set) -> bool
     requires { ⌜ BothWays (now graph) (now back) ⌝ }
     ensures { λ r. ⌜ Decides r (Covered (Hop (graph-of (now (graph .entry))) force p) m n p) ⌝ }
 {
     let after = reach(graph, force, p, m);
+    if !meets(after, n) {
+        return false;
+    }
     let before = reach(back, force, p, n);
-    let first = intersection(m, before);
-    let later = intersection(after, union(n, before));
-    is_subset(p, union(first, later))
+    let begun = union(m, after);
+    let ended = union(n, before);
+    is_subset(p, intersection(begun, ended))
 }
 
 // The ends of all steps inside `p`.
@@ -113,18 +118,18 @@ fn may_loop(taken: bool, p: Set, to: Set, from: Set) -> bool
 }
 
 // Is the mix of `p`, with entrances `m` and exits `n`, to be tried? As for a loop, but an entrance needs no step to it, and an
-// exit none from it.
+// exit none from it; yet a step must lead from an entrance, and one to an exit.
 fn may_mix(taken: bool, p: Set, m: Set, n: Set, to: Set, from: Set) -> bool
     ensures { λ r. ⌜ Decides r ((taken ≡ false) × Threaded p m n to from) ⌝ }
 {
     if taken {
         return false;
     }
-    if m == 0 {
-        return p == 0;
+    if !meets(m, from) {
+        return false;
     }
-    if n == 0 {
-        return p == 0;
+    if !meets(n, to) {
+        return false;
     }
     let after = union(m, to);
     let before = union(n, from);

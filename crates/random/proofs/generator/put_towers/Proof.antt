@@ -7,10 +7,10 @@ use Rattle.random.proofs.generator.put_towers.Statement.{statement}
 use Rattle.random.proofs.generator.put_towers.Tie as tie
 
 abbrev Inv-loop : tie.InvT-loop
-Inv-loop batch₀ start states first floors by-left names end₀ word₀ set₀ s₀ left-side₀ left₀ batch end word set s left-side left = length batch ≡ length batch₀
+Inv-loop batch₀ start states first floors by-left names end₀ word₀ set₀ s₀ left-side₀ as-gap₀ left₀ batch end word set s left-side as-gap left = length batch ≡ length batch₀
 
 abbrev μ-loop : tie.MeasureT-loop
-μ-loop batch₀ start states first floors by-left names end₀ word₀ set₀ s₀ left-side₀ left₀ batch end word set s left-side left = left
+μ-loop batch₀ start states first floors by-left names end₀ word₀ set₀ s₀ left-side₀ as-gap₀ left₀ batch end word set s left-side as-gap left = left
 
 loop-holds : tie.Need-loop-holds Inv-loop μ-loop
 loop-holds c = search needs
@@ -32,6 +32,8 @@ put-towers-spec =
     μ-loop
     (λ c κs. tt)
     loop-holds
+    (λ c κs. tt)
+    (λ c κs. tt)
     (λ c κs. tt)
     (λ c κs. tt)
     (λ c κs. tt)
