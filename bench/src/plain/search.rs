@@ -407,8 +407,8 @@ impl<'a> Search<'a> {
         }
     }
 
-    /// Whether a set of which every state lies on a piece has one with a step. A state that is not both entrance and
-    /// exit, a gap, lies on such a piece; among gaps alone any step is one, and by a claim only where there is a letter.
+    /// Whether a set of which every state lies on a piece has one with a step. A state that is no gap (entrance and exit)
+    /// lies on one; among gaps alone every step is one, and claims give steps only where there is a letter.
     fn has_step(&self, at: usize) -> bool {
         let rows = self.rows;
         let set = rows.sets[at];

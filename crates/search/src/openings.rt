@@ -44,8 +44,8 @@ fn joined(graph: &Masks, back: &Masks, force: Claims, p: Set) -> bool
     reach(back, force, p, s) == p
 }
 
-// Does a walk of one or more steps inside `p` lead from a state of `m` to one of `n`, and does each state of `p` lie on one or in
-// both?
+// Does a walk of one or more steps inside `p` lead from a state of `m` to one of `n`, and is each state of `p` on such a walk or both
+// in `m` and in `n`?
 fn covered(graph: &Masks, back: &Masks, force: Claims, p: Set, m: Set, n: Set) -> bool
     requires { ⌜ BothWays (now graph) (now back) ⌝ }
     ensures { λ r. ⌜ Decides r (Covered (Hop (graph-of (now (graph .entry))) force p) m n p) ⌝ }
