@@ -1,4 +1,5 @@
-//! Plain Rust against document 01, amended by request C-16, read word for word: steps as a list, walks by closure, nothing kept between rounds.
+//! Plain Rust against document 01, amended by request C-16, read word for word: steps as a list, walks by closure,
+//! nothing kept between rounds.
 
 #[allow(dead_code)]
 #[path = "../src/batches.rs"]

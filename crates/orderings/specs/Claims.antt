@@ -36,7 +36,7 @@ OnPiece rows W P s = (k : Piece rows W P) × On s (k .0) (k .4 .0)
 abbrev pub Gap : List Row → ℕ → ℕ → Type 0
 Gap rows P s = Entrance rows P s × Exit rows P s
 
--- P mixes: every state of P lies on some piece, of no steps too, and at least one piece has a step
+-- P mixes: every state of P lies on some piece, perhaps one of no steps, and at least one piece has a step
 pub record Mixes (rows : List Row) (W : Walk → Type 0) (P : ℕ) : Type 0 where
   pub covered : (s : ℕ) → s ∈ P → OnPiece rows W P s ⊎ Gap rows P s
   pub stepped : Piece rows W P
