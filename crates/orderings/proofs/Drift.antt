@@ -122,12 +122,13 @@ pub gaps-alone : (opened (LeftLimit 3 0 ∷ RightLimit 0 3 ∷ LeftLimit 3 1 ∷
 unfolding ℕ-discrete member standing-sets same-row members reach holds?
 gaps-alone = (refl, refl, refl)
 
--- a state outside the set with both rows is no gap of it: it covers no state of the set, is no piece, and needs none
+-- a state outside the set with both rows is no gap of it: it covers no state of the set, is no piece, with or without a step, and needs none
 pub gap-outside : (opened (Successor 0 7 0 ∷ LeftLimit 3 0 ∷ RightLimit 0 3 ∷ LeftLimit 3 2 ∷ RightLimit 2 3 ∷ []) 1 ≡ [])
     × (opened (Successor 0 7 0 ∷ LeftLimit 1 2 ∷ RightLimit 2 1 ∷ []) 1 ≡ loops 1 ∷ [])
+    × (opened (LeftLimit 1 0 ∷ RightLimit 0 1 ∷ LeftLimit 1 2 ∷ RightLimit 2 1 ∷ []) 1 ≡ [])
     × (opened (Successor 0 7 0 ∷ LeftLimit 1 0 ∷ RightLimit 0 1 ∷ LeftLimit 1 2 ∷ RightLimit 2 1 ∷ []) 1 ≡ loops 1 ∷ mixes 1 ∷ [])
 unfolding ℕ-discrete member standing-sets same-row members reach holds?
-gap-outside = (refl, refl, refl)
+gap-outside = (refl, refl, refl, refl)
 
 -- beside a gap the piece with a step may have to wait for a claim: 0 leads to 1 once {0} loops
 pub gap-waits : (opened (Successor 0 7 0 ∷ LeftLimit 1 1 ∷ LeftLimit 7 0 ∷ RightLimit 1 7 ∷ LeftLimit 7 2 ∷ RightLimit 2 7 ∷ []) 1 ≡ loops 1 ∷ [])
