@@ -49,6 +49,10 @@ pub fn right(state: u8, set: u64) -> Vec<u8> {
     [&[5, state], &set.to_be_bytes()[..]].concat()
 }
 
+pub fn strike(state: u8) -> Vec<u8> {
+    vec![6, state]
+}
+
 /// An automaton with the given number of states and rows: sets grow from one another, so that limits nest.
 pub fn automaton(random: &mut Random, states: u64, rows: usize, letters: u64) -> Vec<Vec<u8>> {
     let mut sets = vec![1 << random.below(states)];
@@ -179,6 +183,14 @@ pub fn any(random: &mut Random) -> Vec<u8> {
         1..=5 => nested(random),
         _ => automaton(random, states, rows, letters),
     };
+    if random.below(3) == 0 {
+        for _ in 0..1 + random.below(2) {
+            // A state that some row names, mostly.
+            let row = &all[random.below(all.len() as u64) as usize];
+            let state = if row[0] == 4 { row[9] } else { row[1] };
+            all.push(strike(if random.below(8) == 0 { random.state(64) } else { state }));
+        }
+    }
     if random.below(2) == 0 {
         random.shuffle(&mut all);
     }
@@ -196,10 +208,10 @@ fn spoil(random: &mut Random, mut rows: Vec<Vec<u8>>) -> Vec<u8> {
         0 => rows.insert(at, left(random.below(2) * 5, state)),
         1 => rows.insert(at, right(state & 63, random.below(2) << 40)),
         2 => rows.insert(at, letter(random.below(70) as u8, state, random.below(70) as u8)),
-        3 => rows.insert(at, vec![[0, 6, 255, state][random.below(4) as usize]]),
+        3 => rows.insert(at, vec![[0, 7, 255, state][random.below(4) as usize]]),
         4 => rows.extend((0..70).map(|_| left(random.next() | 1, state & 63))),
         5 => rows.extend((0..300).map(|_| letter(random.state(64), random.below(256) as u8, random.state(64)))),
-        6 => rows.insert(at, vec![1 + random.below(2) as u8, 60 + random.below(8) as u8]),
+        6 => rows.insert(at, vec![[1, 2, 6][random.below(3) as usize], 60 + random.below(8) as u8]),
         _ => (),
     }
     let mut batch = rows.concat();

@@ -1,6 +1,6 @@
 //! Cases A to K of document 01 and the limits it names, the vectors and the examples of the repository.
 
-use crate::batches::{initial, last, left, letter, right};
+use crate::batches::{initial, last, left, letter, right, strike};
 use crate::engine;
 use std::path::Path;
 
@@ -110,7 +110,10 @@ fn limits() {
     expect("state 64, set 0", &left(0, 64), b"refused 4 at 0\n");
     expect("set 0", &left(0, 6), b"refused 5 at 0\n");
     expect("kind 0", &[0], b"refused 2 at 0\n");
-    expect("kind 6", &[1, 1, 6], b"refused 2 at 2\n");
+    expect("kind 7", &[1, 1, 7], b"refused 2 at 2\n");
+    expect("a cut strike", &[1, 1, 6], b"refused 3 at 2\n");
+    expect("state 64 struck", &strike(64), b"refused 4 at 0\n");
+    expect("a 257th row that strikes", &[&full[..], &strike(0)].concat(), b"refused 6 at 1024\n");
     expect("a cut row, state above 63", &[3, 99], b"refused 3 at 0\n");
 }
 

@@ -1,4 +1,4 @@
-//! Plain Rust against document 01, amended by request C-16, read word for word: steps as a list, walks by closure,
+//! Plain Rust against document 01, amended by requests C-16 and C-18, read word for word: steps as a list, walks by closure,
 //! nothing kept between rounds.
 
 #[allow(dead_code)]
@@ -14,6 +14,7 @@ enum Row {
     Letter(u8, u8, u8),
     Left(u64, u8),
     Right(u8, u64),
+    Strike(u8),
 }
 use Row::*;
 
@@ -33,7 +34,7 @@ fn set_of(row: &Row) -> Option<u64> {
 
 fn read(rest: &[u8]) -> Result<(Row, usize), u8> {
     let length = match rest[0] {
-        1 | 2 => 2,
+        1 | 2 | 6 => 2,
         3 => 4,
         4 | 5 => 10,
         _ => return Err(2),
@@ -46,10 +47,11 @@ fn read(rest: &[u8]) -> Result<(Row, usize), u8> {
         2 => Final(rest[1]),
         3 => Letter(rest[1], rest[2], rest[3]),
         4 => Left(word(&rest[1..9]), rest[9]),
-        _ => Right(rest[1], word(&rest[2..10])),
+        5 => Right(rest[1], word(&rest[2..10])),
+        _ => Strike(rest[1]),
     };
     let states = match row {
-        Initial(s) | Final(s) | Left(_, s) | Right(s, _) => vec![s],
+        Initial(s) | Final(s) | Left(_, s) | Right(s, _) | Strike(s) => vec![s],
         Letter(p, _, q) => vec![p, q],
     };
     if states.iter().any(|&state| state > 63) {
@@ -80,6 +82,11 @@ fn load(batch: &[u8]) -> Result<BTreeSet<Row>, (u8, usize)> {
     Ok(rows)
 }
 
+/// The struck states.
+fn struck(rows: &BTreeSet<Row>) -> u64 {
+    (0..64).filter(|&s| rows.contains(&Strike(s))).fold(0, |set, s| set | 1 << s)
+}
+
 /// The steps by letters and by the open claims; a claim is its set and whether it is a mix.
 fn steps(rows: &BTreeSet<Row>, open: &BTreeMap<(u64, bool), u8>) -> Vec<Step> {
     let mut all = vec![];
@@ -106,6 +113,8 @@ fn steps(rows: &BTreeSet<Row>, open: &BTreeMap<(u64, bool), u8>) -> Vec<Step> {
             }
         }
     }
+    let struck = struck(rows);
+    all.retain(|(_, _, content)| content & struck == 0);
     all
 }
 
@@ -139,14 +148,16 @@ fn holds(rows: &BTreeSet<Row>, steps: &[Step], set: u64, mix: bool, gaps: bool) 
     let exits: Vec<u8> = members.iter().copied().filter(|&f| rows.contains(&Right(f, set))).collect();
     let between = |s: u8, e: u8, f: u8| leads(e, s) && leads(s, f) || e == s && leads(s, f) || leads(e, s) && s == f;
     let on_piece = |s: u8| entrances.iter().any(|&e| exits.iter().any(|&f| between(s, e, f)));
-    let gap = |s: u8| gaps && entrances.contains(&s) && exits.contains(&s);
+    let struck = struck(rows);
+    let gap = |s: u8| gaps && struck >> s & 1 == 0 && entrances.contains(&s) && exits.contains(&s);
     members.iter().all(|&s| on_piece(s) || gap(s)) && entrances.iter().any(|&e| exits.iter().any(|&f| leads(e, f)))
 }
 
 /// The least number of steps from each state to a final one.
 fn distances(rows: &BTreeSet<Row>, steps: &[Step]) -> [usize; 64] {
     let mut far = [usize::MAX; 64];
-    (0..64).filter(|&s| rows.contains(&Final(s))).for_each(|s| far[s as usize] = 0);
+    let struck = struck(rows);
+    (0..64).filter(|&s| rows.contains(&Final(s)) && struck >> s & 1 == 0).for_each(|s| far[s as usize] = 0);
     for _ in 0..64 {
         for (from, (_, _, to), _) in steps {
             let by = far[*to as usize].saturating_add(1);
@@ -159,11 +170,14 @@ fn distances(rows: &BTreeSet<Row>, steps: &[Step]) -> [usize; 64] {
 fn sheet(rows: &BTreeSet<Row>, gaps: bool) -> String {
     let sets: BTreeSet<u64> = rows.iter().filter_map(set_of).collect();
     let mut open: BTreeMap<(u64, bool), u8> = BTreeMap::new();
+    let struck = struck(rows);
     let mut round = 0;
     loop {
         let all = steps(rows, &open);
         let far = distances(rows, &all);
-        let start = (0..64).filter(|&s| rows.contains(&Initial(s))).min_by_key(|&s| (far[s as usize], s));
+        let start = (0..64)
+            .filter(|&s| rows.contains(&Initial(s)) && struck >> s & 1 == 0)
+            .min_by_key(|&s| (far[s as usize], s));
         if let Some(start) = start.filter(|&s| far[s as usize] < usize::MAX) {
             return format!("verdict nonempty rounds {round}\n{}{}", opened(&open), walk(&all, &far, start));
         }
@@ -204,7 +218,7 @@ fn walk(steps: &[Step], far: &[usize; 64], start: u8) -> String {
 fn plain_is_the_definition() {
     let count = std::env::var("NAIVE").map_or(3000, |n| n.parse().unwrap());
     let mut random = batches::Random(2026);
-    let (mut refused, mut nonempty, mut most, mut by_gaps) = (0, 0, 0, 0);
+    let (mut refused, mut nonempty, mut most, mut by_gaps, mut by_strikes) = (0, 0, 0, 0, 0);
     for _ in 0..count {
         let batch = batches::any(&mut random);
         let mut text = [0; plain::LONGEST_SHEET];
@@ -212,7 +226,9 @@ fn plain_is_the_definition() {
         let rows = load(&batch);
         let want = rows.clone().map(|rows| sheet(&rows, true));
         assert_eq!(got, want, "on {batch:02x?}");
-        by_gaps += (want != rows.map(|rows| sheet(&rows, false))) as usize;
+        by_gaps += (want != rows.clone().map(|rows| sheet(&rows, false))) as usize;
+        let unstruck = |rows: BTreeSet<Row>| rows.into_iter().filter(|row| !matches!(row, Strike(_))).collect();
+        by_strikes += (want != rows.map(|rows| sheet(&unstruck(rows), true))) as usize;
         match want {
             Err(_) => refused += 1,
             Ok(text) => {
@@ -222,5 +238,7 @@ fn plain_is_the_definition() {
             }
         }
     }
-    println!("{count} batches, {refused} refused, {nonempty} non-empty, at most {most} rounds, {by_gaps} by gaps");
+    println!(
+        "{count} batches, {refused} refused, {nonempty} non-empty, at most {most} rounds, {by_gaps} by gaps, {by_strikes} by strikes"
+    );
 }

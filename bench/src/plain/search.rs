@@ -117,7 +117,7 @@ impl<'a> Search<'a> {
 
     /// Close, and rounds until settled.
     pub fn settle(&mut self) -> Verdict {
-        let [initial, last] = self.rows.marks;
+        let [initial, last, _] = self.rows.marks;
         let mut accepted = Reach { inside: !0, reached: initial, used: 0 };
         let walks = initial != 0 && last != 0;
         if walks && initial & last == 0 {

@@ -21,7 +21,7 @@ pub struct Layers {
 /// Layers from the final states; called only where a walk leads to one.
 pub fn layers(search: &Search) -> Layers {
     let rows = search.rows;
-    let [initial, last] = rows.marks;
+    let [initial, last, _] = rows.marks;
     let mut masks = [0; 64];
     masks[0] = last;
     let mut seen = last;

@@ -13,7 +13,7 @@ use Rattle.masks.specs.Mask.{member, _∈_}
 use Rattle.masks.proofs.Member.{with-same, with-cases, lt-or-le}
 use Rattle.sorted_keys.specs.declared.Place.the-variants.{At, Gap}
 use Rattle.sorted_keys.specs.Keys.{SearchesWord}
-use Rattle.automaton.specs.Promise.{Adds, AddsAt, HasSets, Places}
+use Rattle.automaton.specs.Promise.{Adds, AddsAt, HasSets, PlaceOf}
 
 pub added : (m s w : ℕ) → s < 64 → ((t : ℕ) → member t w ≡ (member t m || eqb t s)) → Adds m s w
 added m s w h is t = (
@@ -77,7 +77,7 @@ one-set-more sets r i h now = record {
 
 module _ (sets : List ℕ) (n x : ℕ) where
   -- where the search finds the set, that is its place
-  pub found-place : (i : ℕ) → SearchesWord sets n x (At i) → Places sets n x i
+  pub found-place : (i : ℕ) → SearchesWord sets n x (At i) → PlaceOf sets n x i
   found-place i s rising j l = let f = s .finds rising in ((λ e. ap (λ k. getD sets k 0) e ∙ f .1), λ e. only (f .0) (f .1) e)
     where
       only : i < n → getD sets i 0 ≡ x → getD sets j 0 ≡ x → j ≡ i
@@ -89,6 +89,6 @@ module _ (sets : List ℕ) (n x : ℕ) where
           go (no p) (no q) = omega arith
 
   -- where it finds a gap, no place has the set
-  pub no-place : (i : ℕ) → n ≤ 64 → SearchesWord sets n x (Gap i) → Places sets n x 64
+  pub no-place : (i : ℕ) → n ≤ 64 → SearchesWord sets n x (Gap i) → PlaceOf sets n x 64
   no-place i few s rising j l = let f = s .finds rising in
       ((λ e. absurd (omega arith)), λ e. ⊎-elim (λ k. absurd (omega (arith, f .1 j k))) (λ k. absurd (omega (arith, f .2 j k l))) (lt-or-le j i))

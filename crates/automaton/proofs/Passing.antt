@@ -1,32 +1,25 @@
--- The graph of the rows that were passed (`none-passed`, `pass-initial` to `pass-right`), that with all rows passed it is the one that the
--- promise gives (`passed-all`), and that nothing says yet which sets a state touches (`none-unindexed` to `limit-unindexed`).
+-- The graph of the rows that were passed (`none-passed`, `pass-initial` to `pass-right`), and that nothing says yet which sets a state touches
+-- (`none-unindexed` to `struck-unindexed`).
 use Prim.Native.Nat.{ℕ, _+_, _<_, _≤_}
 use mathlib.Core.Path.{_≡_, refl, ap, ap₂, sym, _∙_, subst}
+use mathlib.Core.Bool.{not}
 use mathlib.Core.Logic.{_⊎_, inl, inr, ⊎-elim, _↔_, _≢_}
-use mathlib.Core.List.{List, [], _∷_, _++_, List·Memᴰ·head, List·Memᴰ·not-nil, List·Memᴰ·append-cases, List·Memᴰ·eq-of-singleton, Memᴰ·cast, Memᴰ·append-left, Memᴰ·append-right}
-use lib.ListN.{length, take, getD, length-take, length-drop, length-append, length-replicate}
-use lib.Seq.{getD-take, ext-getD}
+use mathlib.Core.List.{List, [], _∷_, _++_, List·Memᴰ·head, List·Memᴰ·not-nil, List·Memᴰ·append-cases, List·Memᴰ·eq-of-singleton, Memᴰ·append-left, Memᴰ·append-right}
+use lib.ListN.{length, getD}
 use native.Mathlib.Omega.{arith}
 use Rattle.lists.specs.Tests.{_among_}
-use Rattle.lists.proofs.Deciding.{ltb·, dec·}
 use Rattle.masks.specs.Mask.{_∈_}
-use Rattle.masks.proofs.Member.{in-none, lt-or-le}
+use Rattle.masks.proofs.Member.{in-none}
 use Rattle.sorted_keys.specs.Keys.{Rising}
 use Rattle.rows.specs.declared.Row.{Row}
-use Rattle.rows.specs.declared.Row.the-variants.{Initial, Final, Successor, LeftLimit, RightLimit}
-use Rattle.rows.specs.Rows as Rows
-use Rattle.rows.specs.Rows.{AllFit}
-use Rattle.rows.proofs.Sets.{sets-rise}
-use Rattle.search.specs.Graph.{part, graph-of, Unindexed}
-use Rattle.search.specs.Masked.{Masked}
-use Rattle.search.proofs.Parts.{past-part, letters-at, sets-at, lefts-at, rights-at}
-use Rattle.row_table.specs.Arrays.{SetsIn}
-use Rattle.automaton.specs.declared.Automaton.{Automaton}
-use Rattle.automaton.specs.Promise.{Adds, AddsAt, HasSets, Places, Gives}
-use Rattle.automaton.proofs.Adding.{past-padded, put-iff}
+use Rattle.rows.specs.declared.Row.the-variants.{Initial, Final, Successor, LeftLimit, RightLimit, Strike}
+use Rattle.search.specs.Graph.{Unindexed}
+use Rattle.automaton.specs.Promise.{Adds, AddsAt, HasSets, PlaceOf}
+use Rattle.automaton.specs.Striking.{Strikes}
+use Rattle.automaton.proofs.Adding.{put-iff}
 
 -- some row of the list has P
-abbrev Some : (Row → Type 0) → List Row → Type 0
+abbrev pub Some : (Row → Type 0) → List Row → Type 0
 Some P l = (x : Row) × x among l × P x
 
 -- what puts a state into a mask
@@ -35,6 +28,9 @@ Starts t x = (x ≡ Initial t) × (t < 64)
 
 abbrev Ends : ℕ → Row → Type 0
 Ends t x = (x ≡ Final t) × (t < 64)
+
+abbrev Takes : ℕ → Row → Type 0
+Takes t x = (x ≡ Strike t) × (t < 64)
 
 abbrev Leads : ℕ → ℕ → Row → Type 0
 Leads p q x = (a : ℕ) × (x ≡ Successor p a q) × (p < 64) × (q < 64)
@@ -45,12 +41,17 @@ Enters P t x = (x ≡ LeftLimit P t) × (t < 64)
 abbrev Leaves : ℕ → ℕ → Row → Type 0
 Leaves P t x = (x ≡ RightLimit t P) × (t < 64)
 
--- the graph, as an array of masks, is that of the rows of a list, with these sets
-pub record Passed (sets : List ℕ) (n : ℕ) (l : List Row) (graph : List ℕ) (initials finals : ℕ) : Type 0 where
-  pub size : length graph ≡ 448
-  pub kept : (i : ℕ) → i < n → getD graph (64 + i) 0 ≡ getD sets i 0
+-- the masks of the initial, the final and the struck states of the rows of a list
+pub record Marked (l : List Row) (initials finals struck : ℕ) : Type 0 where
   pub starts : (t : ℕ) → (t ∈ initials) ↔ Some (Starts t) l
   pub ends : (t : ℕ) → (t ∈ finals) ↔ Some (Ends t) l
+  pub takes : (t : ℕ) → (t ∈ struck) ↔ Some (Takes t) l
+
+-- and the graph, as an array of masks, is theirs, with these sets
+pub record Passed (sets : List ℕ) (n : ℕ) (l : List Row) (graph : List ℕ) (initials finals struck : ℕ) : Type 0 where
+  pub size : length graph ≡ 448
+  pub kept : (i : ℕ) → i < n → getD graph (64 + i) 0 ≡ getD sets i 0
+  pub marks : Marked l initials finals struck
   pub leads : (p q : ℕ) → p < 64 → (q ∈ getD graph p 0) ↔ Some (Leads p q) l
   pub enters : Rising sets n → (i t : ℕ) → i < n → (t ∈ getD graph (128 + i) 0) ↔ Some (Enters (getD sets i 0) t) l
   pub leaves : Rising sets n → (i t : ℕ) → i < n → (t ∈ getD graph (192 + i) 0) ↔ Some (Leaves (getD sets i 0) t) l
@@ -60,12 +61,11 @@ pub record Passed (sets : List ℕ) (n : ℕ) (l : List Row) (graph : List ℕ) 
 nobody : (P : Row → Type 0) (t : ℕ) {m : ℕ} → m ≡ 0 → (t ∈ m) ↔ Some P []
 nobody P t e = ((λ i. absurd (in-none t (subst (λ m. t ∈ m) e i))), λ p. absurd (List·Memᴰ·not-nil (p .1)))
 
-pub none-passed : (sets : List ℕ) (n : ℕ) (graph : List ℕ) → n ≤ 64 → HasSets sets n graph → Passed sets n [] graph 0 0
+pub none-passed : (sets : List ℕ) (n : ℕ) (graph : List ℕ) → n ≤ 64 → HasSets sets n graph → Passed sets n [] graph 0 0 0
 none-passed sets n graph few has = record {
   size = has .length-is;
   kept = has .sets-are;
-  starts = λ t. nobody (Starts t) t refl;
-  ends = λ t. nobody (Ends t) t refl;
+  marks = record { starts = λ t. nobody (Starts t) t refl; ends = λ t. nobody (Ends t) t refl; takes = λ t. nobody (Takes t) t refl };
   leads = λ p q h. nobody (Leads p q) q (has .others p (inl h));
   enters = λ o i t l. nobody (Enters (getD sets i 0) t) t (has .others (128 + i) (inr (omega arith)));
   leaves = λ o i t l. nobody (Leaves (getD sets i 0) t) t (has .others (192 + i) (inr (omega arith)));
@@ -110,7 +110,7 @@ step-own graph new {p} {a} {q} e size put i t = let z : 0 + i ≡ i = omega arit
 
 -- a limit row, in the mask at the place of its set, in the part of its kind
 limit-own : (f : ℕ → ℕ → Row) → ((P s Q t : ℕ) → f P s ≡ f Q t → (P ≡ Q) × (s ≡ t)) → (sets : List ℕ) (n base : ℕ) → n ≤ 64 → {x : Row} (graph new : List ℕ) (P q at : ℕ)
-    → x ≡ f P q → Places sets n P at → length graph ≡ 448 → AddsAt graph base at q new
+    → x ≡ f P q → PlaceOf sets n P at → length graph ≡ 448 → AddsAt graph base at q new
     → Rising sets n → (i t : ℕ) → i < n → (t ∈ getD new (base + i) 0) ↔ ((t ∈ getD graph (base + i) 0) ⊎ ((x ≡ f (getD sets i 0) t) × (t < 64)))
 limit-own f only sets n base few graph new P q at e there size put o i t l = let is = put-iff graph base at q new size put i t in (
   (λ k. ⊎-elim inl (λ w. inr (e ∙ ap₂ f (sym (there o i l .0 (w .0))) (sym (w .2)), omega (arith, w .2, w .3))) (is .0 k)),
@@ -118,61 +118,77 @@ limit-own f only sets n base few graph new P q at e there size put o i t l = let
       inr (u, omega arith, sym (g .1), omega (arith, w .1, g .1))) k),
 )
 
-module _ (sets : List ℕ) (n : ℕ) (few : n ≤ 64) {l : List Row} {graph : List ℕ} {initials finals : ℕ} (h : Passed sets n l graph initials finals) (x : Row) where
-  pub pass-initial : {s r : ℕ} → x ≡ Initial s → Adds initials s r → Passed sets n (l ++ (x ∷ [])) graph r finals
-  pass-initial {s} {r} e is = record {
+module _ (sets : List ℕ) (n : ℕ) (few : n ≤ 64) {l : List Row} {graph : List ℕ} {initials finals struck : ℕ} (h : Passed sets n l graph initials finals struck) (x : Row) where
+  -- a row with one state: the graph stays
+  pass-mark : {i f k : ℕ} → ((p q : ℕ) → ¬ Leads p q x) → ((P t : ℕ) → ¬ Enters P t x) → ((P t : ℕ) → ¬ Leaves P t x)
+      → Marked (l ++ (x ∷ [])) i f k → Passed sets n (l ++ (x ∷ [])) graph i f k
+  pass-mark no-step no-left no-right marked = record {
     size = h .size;
     kept = h .kept;
-    starts = λ t. own (Starts t) l x (state-own Initial (λ a b i. cc) initials s r e is t) (h .starts t);
-    ends = λ t. other (Ends t) l x (λ p. never (cc (p .0))) (h .ends t);
-    leads = λ p q j. other (Leads p q) l x (λ w. never (cc (w .1))) (h .leads p q j);
-    enters = λ o i t k. other (Enters (getD sets i 0) t) l x (λ p. never (cc (p .0))) (h .enters o i t k);
-    leaves = λ o i t k. other (Leaves (getD sets i 0) t) l x (λ p. never (cc (p .0))) (h .leaves o i t k);
+    marks = marked;
+    leads = λ p q j. other (Leads p q) l x (no-step p q) (h .leads p q j);
+    enters = λ o i t k. other (Enters (getD sets i 0) t) l x (no-left (getD sets i 0) t) (h .enters o i t k);
+    leaves = λ o i t k. other (Leaves (getD sets i 0) t) l x (no-right (getD sets i 0) t) (h .leaves o i t k);
   }
 
-  pub pass-final : {s r : ℕ} → x ≡ Final s → Adds finals s r → Passed sets n (l ++ (x ∷ [])) graph initials r
-  pass-final {s} {r} e is = record {
-    size = h .size;
-    kept = h .kept;
-    starts = λ t. other (Starts t) l x (λ p. never (cc (p .0))) (h .starts t);
-    ends = λ t. own (Ends t) l x (state-own Final (λ a b i. cc) finals s r e is t) (h .ends t);
-    leads = λ p q j. other (Leads p q) l x (λ w. never (cc (w .1))) (h .leads p q j);
-    enters = λ o i t k. other (Enters (getD sets i 0) t) l x (λ p. never (cc (p .0))) (h .enters o i t k);
-    leaves = λ o i t k. other (Leaves (getD sets i 0) t) l x (λ p. never (cc (p .0))) (h .leaves o i t k);
+  pub pass-initial : {s r : ℕ} → x ≡ Initial s → Adds initials s r → Passed sets n (l ++ (x ∷ [])) graph r finals struck
+  pass-initial {s} {r} e is = pass-mark (λ p q w. never (cc (w .1))) (λ P t p. never (cc (p .0))) (λ P t p. never (cc (p .0))) (record {
+    starts = λ t. own (Starts t) l x (state-own Initial (λ a b i. cc) initials s r e is t) (h .marks .starts t);
+    ends = λ t. other (Ends t) l x (λ p. never (cc (p .0))) (h .marks .ends t);
+    takes = λ t. other (Takes t) l x (λ p. never (cc (p .0))) (h .marks .takes t);
+  })
+
+  pub pass-final : {s r : ℕ} → x ≡ Final s → Adds finals s r → Passed sets n (l ++ (x ∷ [])) graph initials r struck
+  pass-final {s} {r} e is = pass-mark (λ p q w. never (cc (w .1))) (λ P t p. never (cc (p .0))) (λ P t p. never (cc (p .0))) (record {
+    starts = λ t. other (Starts t) l x (λ p. never (cc (p .0))) (h .marks .starts t);
+    ends = λ t. own (Ends t) l x (state-own Final (λ a b i. cc) finals s r e is t) (h .marks .ends t);
+    takes = λ t. other (Takes t) l x (λ p. never (cc (p .0))) (h .marks .takes t);
+  })
+
+  pub pass-strike : {s r : ℕ} → x ≡ Strike s → Adds struck s r → Passed sets n (l ++ (x ∷ [])) graph initials finals r
+  pass-strike {s} {r} e is = pass-mark (λ p q w. never (cc (w .1))) (λ P t p. never (cc (p .0))) (λ P t p. never (cc (p .0))) (record {
+    starts = λ t. other (Starts t) l x (λ p. never (cc (p .0))) (h .marks .starts t);
+    ends = λ t. other (Ends t) l x (λ p. never (cc (p .0))) (h .marks .ends t);
+    takes = λ t. own (Takes t) l x (state-own Strike (λ a b i. cc) struck s r e is t) (h .marks .takes t);
+  })
+
+  -- a transition: the masks of states stay
+  marks-stay : ((t : ℕ) → ¬ Starts t x) → ((t : ℕ) → ¬ Ends t x) → ((t : ℕ) → ¬ Takes t x) → Marked (l ++ (x ∷ [])) initials finals struck
+  marks-stay no-start no-end no-strike = record {
+    starts = λ t. other (Starts t) l x (no-start t) (h .marks .starts t);
+    ends = λ t. other (Ends t) l x (no-end t) (h .marks .ends t);
+    takes = λ t. other (Takes t) l x (no-strike t) (h .marks .takes t);
   }
 
   -- the masks of the other parts
   stays : {base at s : ℕ} {new : List ℕ} → AddsAt graph base at s new → (j : ℕ) → (at < 64 → j ≢ base + at) → {S : Type 0} (t : ℕ) → (t ∈ getD graph j 0) ↔ S → (t ∈ getD new j 0) ↔ S
   stays is j apart t f = rw (is .others j apart) f
 
-  pub pass-step : {p a q : ℕ} {new : List ℕ} → x ≡ Successor p a q → AddsAt graph 0 p q new → Passed sets n (l ++ (x ∷ [])) new initials finals
+  pub pass-step : {p a q : ℕ} {new : List ℕ} → x ≡ Successor p a q → AddsAt graph 0 p q new → Passed sets n (l ++ (x ∷ [])) new initials finals struck
   pass-step {new = new} e is = record {
     size = is .length-is ∙ h .size;
     kept = λ i j. is .others (64 + i) (λ a b. omega (arith, few)) ∙ h .kept i j;
-    starts = λ t. other (Starts t) l x (λ p. never (cc (p .0))) (h .starts t);
-    ends = λ t. other (Ends t) l x (λ p. never (cc (p .0))) (h .ends t);
+    marks = marks-stay (λ t p. never (cc (p .0))) (λ t p. never (cc (p .0))) (λ t p. never (cc (p .0)));
     leads = λ p q j. own (Leads p q) l x (step-own graph new e (h .size) is p q) (h .leads p q j);
     enters = λ o i t k. stays is (128 + i) (λ a b. omega arith) t (other (Enters (getD sets i 0) t) l x (λ p. never (cc (p .0))) (h .enters o i t k));
     leaves = λ o i t k. stays is (192 + i) (λ a b. omega arith) t (other (Leaves (getD sets i 0) t) l x (λ p. never (cc (p .0))) (h .leaves o i t k));
   }
 
-  pub pass-left : {P q : ℕ} (at : ℕ) {new : List ℕ} → x ≡ LeftLimit P q → Places sets n P at → AddsAt graph 128 at q new → Passed sets n (l ++ (x ∷ [])) new initials finals
+  pub pass-left : {P q : ℕ} (at : ℕ) {new : List ℕ} → x ≡ LeftLimit P q → PlaceOf sets n P at → AddsAt graph 128 at q new → Passed sets n (l ++ (x ∷ [])) new initials finals struck
   pass-left {P} {q} at {new} e there is = record {
     size = is .length-is ∙ h .size;
     kept = λ i j. is .others (64 + i) (λ a b. omega (arith, few)) ∙ h .kept i j;
-    starts = λ t. other (Starts t) l x (λ p. never (cc (p .0))) (h .starts t);
-    ends = λ t. other (Ends t) l x (λ p. never (cc (p .0))) (h .ends t);
+    marks = marks-stay (λ t p. never (cc (p .0))) (λ t p. never (cc (p .0))) (λ t p. never (cc (p .0)));
     leads = λ p q j. stays is p (λ a b. omega arith) q (other (Leads p q) l x (λ w. never (cc (w .1))) (h .leads p q j));
     enters = λ o i t k. own (Enters (getD sets i 0) t) l x (limit-own LeftLimit (λ a b c d i. (cc, cc)) sets n 128 few graph new P q at e there (h .size) is o i t k) (h .enters o i t k);
     leaves = λ o i t k. stays is (192 + i) (λ a b. omega arith) t (other (Leaves (getD sets i 0) t) l x (λ p. never (cc (p .0))) (h .leaves o i t k));
   }
 
-  pub pass-right : {P q : ℕ} (at : ℕ) {new : List ℕ} → x ≡ RightLimit q P → Places sets n P at → AddsAt graph 192 at q new → Passed sets n (l ++ (x ∷ [])) new initials finals
+  pub pass-right : {P q : ℕ} (at : ℕ) {new : List ℕ} → x ≡ RightLimit q P → PlaceOf sets n P at → AddsAt graph 192 at q new → Passed sets n (l ++ (x ∷ [])) new initials finals struck
   pass-right {P} {q} at {new} e there is = record {
     size = is .length-is ∙ h .size;
     kept = λ i j. is .others (64 + i) (λ a b. omega (arith, few)) ∙ h .kept i j;
-    starts = λ t. other (Starts t) l x (λ p. never (cc (p .0))) (h .starts t);
-    ends = λ t. other (Ends t) l x (λ p. never (cc (p .0))) (h .ends t);
+    marks = marks-stay (λ t p. never (cc (p .0))) (λ t p. never (cc (p .0))) (λ t p. never (cc (p .0)));
     leads = λ p q j. stays is p (λ a b. omega arith) q (other (Leads p q) l x (λ w. never (cc (w .1))) (h .leads p q j));
     enters = λ o i t k. stays is (128 + i) (λ a b. omega arith) t (other (Enters (getD sets i 0) t) l x (λ p. never (cc (p .0))) (h .enters o i t k));
     leaves = λ o i t k. own (Leaves (getD sets i 0) t) l x (limit-own (λ P q. RightLimit q P) (λ a b c d i. (cc, cc)) sets n 192 few graph new P q at e there (h .size) is o i t k) (h .leaves o i t k);
@@ -210,75 +226,11 @@ module _ {n : ℕ} {graph : List ℕ} (h : Unindexed graph n) where
       apart : (k : ℕ) → (k ≡ 128) ⊎ (k ≡ 192) → (i : ℕ) → n ≤ i → i < 64 → at < 64 → k + i ≢ base + at
       apart k v i a b c e = ⊎-elim (λ u. ⊎-elim (λ x. ⊎-elim (λ y. omega arith) (λ y. omega arith) v) (λ x. ⊎-elim (λ y. omega arith) (λ y. omega arith) v) q) (λ u. ⊎-elim (λ x. ⊎-elim (λ y. omega arith) (λ y. omega arith) v) (λ x. ⊎-elim (λ y. omega arith) (λ y. omega arith) v) q) w
 
--- ---- all rows
-
-module _ (rows : List Row) (fit : AllFit rows) (sets : List ℕ) (k : ℕ) (count : k ≡ length (Rows.standing-sets rows)) (are : take k sets ≡ Rows.standing-sets rows) (few : k ≤ 64) where
-  -- a row whose state is below 64 where it stands
-  one-row : (x : Row) (t : ℕ) → (x among rows → t < 64) → {X : Type 0} → X ↔ Some (λ y. (y ≡ x) × (t < 64)) rows → X ↔ x among rows
-  one-row x t f h = ((λ i. let s = h .0 i in Memᴰ·cast (sym (s .2 .0)) (s .1)), λ m. h .1 (x, m, (refl, f m)))
-
-  module _ (a : Automaton) (bare : Unindexed (a .graph) k) (h : Passed sets k rows (a .graph) (a .initials) (a .finals)) where
-    set-is : (i : ℕ) → i < k → getD (graph-of (a .graph) .sets) i 0 ≡ getD sets i 0
-    set-is i l = sets-at (a .graph) i (omega arith) ∙ h .kept i l
-
-    sets-length : length (graph-of (a .graph) .sets) ≡ 64
-    unfolding graph-of part
-    sets-length = simp (length-take, length-drop) (omega (arith, h .size))
-
-    letters-past : (p : ℕ) → 64 ≤ p → getD (graph-of (a .graph) .letters) p 0 ≡ 0
-    unfolding graph-of
-    letters-past p l = past-part (a .graph) 0 p l
-
-    letter-iff : (p q : ℕ) → Dec (p < 64) → (q ∈ getD (graph-of (a .graph) .letters) p 0) ↔ ((x : ℕ) × Successor p x q among rows)
-    letter-iff p q (yes l) = rw (letters-at (a .graph) p l) (
-      (λ i. let s = h .leads p q l .0 i in (s .2 .0, Memᴰ·cast (sym (s .2 .1)) (s .1))),
-      λ i. let f = fit (Successor p (i .0) q) (i .1) in h .leads p q l .1 (Successor p (i .0) q, i .1, (i .0, refl, f .0, f .2)),
-    )
-    letter-iff p q (no n) =
-        ((λ i. absurd (in-none q (subst (λ m. q ∈ m) (letters-past p (omega arith)) i))), λ i. absurd (n (fit (Successor p (i .0) q) (i .1) .0)))
-
-    sized : SetsIn rows sets k → length sets ≡ 64
-    sized w = ap length (w .sets-are) ∙ simp (length-append, length-replicate) (omega (arith, few, w .count))
-
-    -- no set stands behind the first k
-    alike : SetsIn rows sets k → (i : ℕ) → i < 64 → getD (graph-of (a .graph) .sets) i 0 ≡ getD sets i 0
-    alike w i l = ⊎-elim (set-is i)
-        (λ g. sets-at (a .graph) i l ∙ bare .no-sets i g l ∙ sym (ap (λ (s : List ℕ). getD s i 0) (w .sets-are) ∙ past-padded 64 (Rows.standing-sets rows) i (omega (arith, w .count))))
-        (lt-or-le i k)
-
-    -- the graph of all the rows
-    pub passed-all : Gives rows sets k a
-    passed-all = record {
-      masked = record {
-        few = few;
-        sets-are = ext-getD 0 (take k (graph-of (a .graph) .sets)) (take k sets)
-            (omega (arith, length-take k (graph-of (a .graph) .sets), sets-length, ap length are, count))
-            (λ i l. let g : i < k = omega (arith, length-take k (graph-of (a .graph) .sets)) in
-            getD-take k (graph-of (a .graph) .sets) i 0 g ∙ set-is i g ∙ sym (getD-take k sets i 0 g)) ∙ are;
-        letter-iff = λ p q. letter-iff p q (dec· (ltb· p 64));
-        left-iff = λ i r l. rw (lefts-at (a .graph) i (omega arith), set-is i l)
-            (let x = LeftLimit (getD sets i 0) r in one-row x r (λ m. fit x m .2) (h .enters (sets-rise rows sets k are count) i r l));
-        right-iff = λ i r l. rw (rights-at (a .graph) i (omega arith), set-is i l)
-            (let x = RightLimit r (getD sets i 0) in one-row x r (λ m. fit x m .2) (h .leaves (sets-rise rows sets k are count) i r l));
-      };
-      sets-in = λ w. record {
-        count = w .count;
-        sets-are = ext-getD 0 (graph-of (a .graph) .sets) sets (sets-length ∙ sym (sized w)) (λ i l. alike w i (omega (arith, sets-length))) ∙ w .sets-are;
-      };
-      initial-iff = λ t. one-row (Initial t) t (fit (Initial t)) (h .starts t);
-      final-iff = λ t. one-row (Final t) t (fit (Final t)) (h .ends t);
-    }
-
--- the same of another array with the same graph
-pub gives-as : {rows : List Row} {sets : List ℕ} {k : ℕ} (graph new : List ℕ) (initials finals : ℕ) → graph-of new ≡ graph-of graph
-    → Gives rows sets k (record { graph = graph; initials = initials; finals = finals }) → Gives rows sets k (record { graph = new; initials = initials; finals = finals })
-gives-as {rows} {sets} {k} graph new initials finals e g = record {
-  masked = subst (λ x. Masked rows x k) (sym e) (g .masked);
-  sets-in = λ w. subst (λ x. SetsIn rows (x .sets) k) (sym e) (g .sets-in w);
-  initial-iff = g .initial-iff;
-  final-iff = g .final-iff;
+pub struck-unindexed : {sets : List ℕ} {n struck : ℕ} {old new : List ℕ} → n ≤ 64 → Strikes sets n struck old new → Unindexed old n → Unindexed new n
+struck-unindexed few out h = record {
+  size = out .length-is ∙ h .size;
+  no-sets = λ i a b. out .others (64 + i) (inl (omega arith, omega arith)) ∙ h .no-sets i a b;
+  no-lefts = λ i a b. out .others (128 + i) (inr (inl (omega arith, omega arith))) ∙ h .no-lefts i a b;
+  no-rights = λ i a b. out .others (192 + i) (inr (inr (omega arith))) ∙ h .no-rights i a b;
+  blank = λ j a. out .others j (inr (inr (omega arith))) ∙ h .blank j a;
 }
-
--- the graph holds the sets as the array did that they came from
-pub graph-sets-in : (rows : List Row) (sets : List ℕ) (k : ℕ) (a : Automaton) → Gives rows sets k a → SetsIn rows sets k → SetsIn rows (graph-of (a .graph) .sets) k
-graph-sets-in rows sets k a gives w = gives .sets-in w

@@ -31,8 +31,8 @@ pub record HasSets (sets : List ℕ) (i : ℕ) (r : List ℕ) : Type 0 where
   pub others : (j : ℕ) → (j < 64) ⊎ (64 + i ≤ j) → getD r j 0 ≡ 0
 
 -- of n sets that stand in order, x is the one at the place r and no other
-abbrev pub Places : List ℕ → ℕ → ℕ → ℕ → Type 0
-Places sets n x r = Rising sets n → (i : ℕ) → i < n → (i ≡ r) ↔ (getD sets i 0 ≡ x)
+abbrev pub PlaceOf : List ℕ → ℕ → ℕ → ℕ → Type 0
+PlaceOf sets n x r = Rising sets n → (i : ℕ) → i < n → (i ≡ r) ↔ (getD sets i 0 ≡ x)
 
 -- an automaton by its parts
 abbrev pub automaton-of : List ℕ → ℕ → ℕ → Automaton

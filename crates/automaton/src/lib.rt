@@ -3,6 +3,7 @@ use machine::MOST_ROWS;
 use machine::MOST_SETS;
 use masks::NO_STATE;
 use masks::PLACES;
+use masks::Places;
 use masks::Set;
 use rows::Row;
 use search::graphs;
@@ -17,7 +18,8 @@ ghost use mathlib.Core.Logic.{_⊎_};
 ghost use Prim.Native.Nat.{_≤_, _<_};
 ghost use lib.ListN.{replicate};
 ghost use Rattle.search.specs.Graph.{Indexed};
-ghost use Rattle.automaton.specs.Promise.{Adds, AddsAt, HasSets, Places, GivesKeyed, automaton-of};
+ghost use Rattle.automaton.specs.Promise.{Adds, AddsAt, HasSets, PlaceOf, GivesKeyed, automaton-of};
+ghost use Rattle.automaton.specs.Striking.{Remains, StruckSets, LeavesOut, Strikes};
 
 // The graph of some rows as one array of masks; their initial and their final states.
 pub struct Automaton {
@@ -56,7 +58,7 @@ fn put(graph: &mut Masks, base: usize, at: usize, s: u8)
 // The place of `x` among the first `n` sets, or 64, which is none.
 fn place(sets: &[Set; MOST_SETS], set_count: usize, x: Set) -> usize
     requires { ⌜ «set_count» ≤ 64 ⌝ }
-    ensures is { λ r. ⌜ Places (now (sets .entry)) «set_count» x r ⌝ }
+    ensures is { λ r. ⌜ PlaceOf (now (sets .entry)) «set_count» x r ⌝ }
     ensures within { λ r. ⌜ (r < «set_count») ⊎ (64 ≤ r) ⌝ }
 {
     match sorted_keys::find_word(sets, set_count, x) {
@@ -78,8 +80,61 @@ fn put_sets(graph: &mut Masks, sets: &[Set; MOST_SETS], set_count: usize)
     }
 }
 
+// The states of `m` that are not struck, none if the mask goes.
+fn remaining(m: Set, goes: bool, struck: Set) -> Set
+    ensures { λ r. ⌜ Remains m goes struck r ⌝ }
+{
+    if goes {
+        return 0;
+    }
+    masks::difference(m, struck)
+}
+
+// The places of the first `n` sets that have a struck state.
+fn struck_sets(sets: &[Set; MOST_SETS], set_count: usize, struck: Set) -> Places
+    requires { ⌜ «set_count» ≤ 64 ⌝ }
+    ensures { λ r. ⌜ StruckSets (now (sets .entry)) «set_count» struck r ⌝ }
+{
+    let mut places: Places = 0;
+    let mut i = 0;
+    while i < set_count {
+        if masks::meets(sets[i], struck) {
+            places = masks::with(places, i as u8);
+        }
+        i += 1;
+    }
+    places
+}
+
+// Leaves the struck states out of the first `count` masks of the part that begins at `base`, and all states out of those at the places `gone`.
+fn leave_out(graph: &mut Masks, base: usize, count: usize, gone: Places, struck: Set)
+    requires { ⌜ (base ≤ 192) × (count ≤ 64) ⌝ }
+    ensures { λ _. ⌜ LeavesOut (now (graph .entry)) base count gone struck (now (graph .exit)) ⌝ }
+{
+    let mut i = 0;
+    while i < count {
+        let at = base + i;
+        graph[at] = remaining(graph[at], masks::has(gone, i as u8), struck);
+        i += 1;
+    }
+}
+
+// Request C-18: letter steps at struck states go, limits at them, and all limits of the sets that have one.
+fn strike(graph: &mut Masks, sets: &[Set; MOST_SETS], set_count: usize, struck: Set)
+    requires { ⌜ «set_count» ≤ 64 ⌝ }
+    ensures { λ _. ⌜ Strikes (now (sets .entry)) «set_count» struck (now (graph .entry)) (now (graph .exit)) ⌝ }
+{
+    if struck == 0 {
+        return;
+    }
+    let gone = struck_sets(sets, set_count, struck);
+    leave_out(graph, 0, PLACES, struck, struck);
+    leave_out(graph, LEFTS, set_count, gone, struck);
+    leave_out(graph, RIGHTS, set_count, gone, struck);
+}
+
 // Fills a graph that has nothing yet from the rows that have the first `n` keys, whose sets are the first `k`: each row adds one state to
-// one mask. What says which sets a state touches is written once, at the end.
+// one mask. Then what struck states take away goes, and what says which sets a state touches is written once.
 pub fn fill(
     graph: &mut Masks,
     high: &[u64; MOST_ROWS],
@@ -97,6 +152,7 @@ pub fn fill(
     put_sets(graph, sets, set_count);
     let mut initials: Set = 0;
     let mut finals: Set = 0;
+    let mut struck: Set = 0;
     let mut i = 0;
     while i < row_count {
         let row = rows::row_of(high[i], low[i]);
@@ -106,11 +162,16 @@ pub fn fill(
             Row::Successor(p, _, q) => put(graph, 0, p as usize, q),
             Row::LeftLimit(set, q) => put(graph, LEFTS, place(sets, set_count, set), q),
             Row::RightLimit(q, set) => put(graph, RIGHTS, place(sets, set_count, set), q),
+            Row::Strike(s) => struck = add(struck, s),
         }
         i += 1;
     }
+    strike(graph, sets, set_count, struck);
     graphs::index(graph, set_count);
-    Endpoints { initials, finals }
+    Endpoints {
+        initials: masks::difference(initials, struck),
+        finals: masks::difference(finals, struck),
+    }
 }
 
 // The same as one value, for those who hold no graph.

@@ -13,7 +13,7 @@ use Rattle.lists.proofs.Deciding.{yes·, no·, ltb·}
 use Rattle.rows.specs.declared.Row.{Row}
 use Rattle.rows.specs.Batch.{Fed, fed, failed, feed}
 use Rattle.orderings.specs.Decide.{accepts?}
-use Rattle.orderings.specs.MoreRows.{Grows}
+use Rattle.orderings.specs.MoreRows.{Grows, StrikesNothing}
 use Rattle.machine.specs.declared.Answer.{Answer}
 use Rattle.machine.specs.declared.Answer.the-variants.{Done, Wrote, Refused}
 use Rattle.machine.specs.declared.Phase.{Phase}
@@ -25,7 +25,7 @@ use Rattle.machine.proofs.Answers.{done-by, answer-by, tells-as}
 use Rattle.machine.proofs.Phases.{open-closes, settled-refuses}
 use Rattle.machine.proofs.Outcomes.{Done as RoundDone, round-done, comes, writing}
 use Rattle.machine.proofs.Ending.{rounds-done}
-use Rattle.machine.proofs.MoreRows.{NoneWithdraw, run-grows}
+use Rattle.machine.proofs.MoreRows.{EachOnlyAdds, run-grows}
 use Rattle.session.specs.declared.Session.{Session}
 use Rattle.session.specs.declared.Reply.{Reply}
 use Rattle.session.specs.Record.{record-of, Represents}
@@ -215,7 +215,7 @@ run-append m (c ∷ cs) ds = run-append (call m c .machine) cs ds
 further : (cs ds : List Call) (s : Session) → HandedBack (cs ++ ds) s → (e : Exchange Call Reply) → Served s e → HandedBack (cs ++ (ds ++ (e .asked ∷ []))) (e .reply .session)
 further cs ds s h e k = subst (λ (x : List Call). HandedBack x (e .reply .session)) (append-assoc cs ds (e .asked ∷ [])) (one-more (cs ++ ds) s h e k)
 
-rounds-keep : (k : ℕ) → NoneWithdraw (replicate k round)
+rounds-keep : (k : ℕ) → EachOnlyAdds (replicate k round)
 rounds-keep zero = tt
 rounds-keep (suc k) = (tt, rounds-keep k)
 
@@ -254,18 +254,18 @@ adds-late cs batch old new old′ new′ p r s t w x k =
     let h : HandedBack (cs ++ ds) t = subst (λ (y : List Call). HandedBack y t) i (x .handed) in
     let e = exchange (print (length old)) old new p in
     let e′ = exchange (print (length old′)) old′ new′ r in
-    let up : Grows (run fresh cs .rows) (run fresh (cs ++ ds) .rows) =
-    subst (λ (y : Machine). Grows (run fresh cs .rows) (y .rows)) (sym (run-append fresh cs ds)) (run-grows (run fresh cs) ds (tt, (tt, (w .brings, (tt, rounds-keep (x .count)))))) in
+    let up : StrikesNothing batch → Grows (run fresh cs .rows) (run fresh (cs ++ ds) .rows) = λ none.
+    subst (λ (y : Machine). Grows (run fresh cs .rows) (y .rows)) (sym (run-append fresh cs ds)) (run-grows (run fresh cs) ds (tt, (tt, ((w .brings, none), (tt, rounds-keep (x .count)))))) in
     record {
       count = x .count;
       few = x .few;
       handed = further cs ds t h e′ k;
       verdict = x .verdict;
       settled = subst (λ (y : List Call). run fresh y .phase ≡ Settled (x .verdict)) i (x .settled);
-      sheets = λ n n′ a a′.
+      sheets = λ none n n′ a a′.
           at-call (cs ++ ds) t h e′ k (λ m′ s′ f. Grows (run fresh cs .rows) (m′ .rows) → (l l′ : List ℕ) → Printed e l → Printed f l′ → SheetsGrow l l′)
           (at-call cs (w .before) (w .handed-before) e (w .printed) (λ m s d. EveryCall (λ m′ s′ f. Grows (m .rows) (m′ .rows) → (l l′ : List ℕ) → Printed d l → Printed f l′ → SheetsGrow l l′)) (request-15 .sheets))
-          up (take n new) (take n′ new′)
+          (up none) (take n new) (take n′ new′)
           (record { size = length old; asked-is = refl; count = n; answer-is = a; bytes-are = refl })
           (record { size = length old′; asked-is = refl; count = n′; answer-is = a′; bytes-are = refl });
     }

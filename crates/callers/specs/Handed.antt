@@ -3,6 +3,7 @@ use Prim.Native.Nat.{ℕ, _≤_, _<_}
 use mathlib.Core.Path.{_≡_}
 use mathlib.Core.List.{List, [], _∷_, _++_, map}
 use lib.ListN.{length, take, replicate}
+use Rattle.orderings.specs.MoreRows.{StrikesNothing}
 use Rattle.machine.specs.declared.Answer.the-variants.{Done, Wrote, Refused}
 use Rattle.machine.specs.declared.Verdict.{Verdict}
 use Rattle.machine.specs.declared.Phase.the-variants.{Settled}
@@ -63,14 +64,14 @@ pub record PrintedAfter (batch old new : List ℕ) (r : Reply) : Type 0 where
 abbrev pub reworked : ℕ → List ℕ → ℕ → List Call
 reworked size batch k = print size ∷ reopen ∷ load batch ∷ close ∷ replicate k round
 
--- a print after any calls, rows added late, and a print again: request C-15 at the two prints
+-- a print after any calls, rows added late, and a print again: request C-15 at the two prints, where the rows are of kinds 1 to 5
 pub record AddedLate (cs : List Call) (batch old new old′ new′ : List ℕ) (r : Added) : Type 0 where
   pub count : ℕ
   pub few : count ≤ 129
   pub handed : HandedBack (cs ++ (reworked (length old) batch count ++ (print (length old′) ∷ []))) (r .again .session)
   pub verdict : Verdict
   pub settled : run fresh (cs ++ reworked (length old) batch count) .phase ≡ Settled verdict
-  pub sheets : (n n′ : ℕ) → r .printed ≡ Wrote n → r .again .answer ≡ Wrote n′ → SheetsGrow (take n new) (take n′ new′)
+  pub sheets : StrikesNothing batch → (n n′ : ℕ) → r .printed ≡ Wrote n → r .again .answer ≡ Wrote n′ → SheetsGrow (take n new) (take n′ new′)
 
 abbrev pub AddsLate : Session → List ℕ → List ℕ → List ℕ → List ℕ → List ℕ → Added → Type 0
 AddsLate s batch old new old′ new′ r = (cs : List Call) → HandedBack cs s → AddedLate cs batch old new old′ new′ r

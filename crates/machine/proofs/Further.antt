@@ -1,12 +1,12 @@
 -- Further sheets, computed: the order of openings (`openings`), each place of the order of walks (`kinds-first`, `values-first`, `targets`,
--- `starts-first`), and refusals (`refused-lines`, `phases`).
+-- `starts-first`), struck states (`struck-walks`), and refusals (`refused-lines`, `phases`).
 use Prim.Native.Nat.{ℕ}
 use mathlib.Core.Path.{_≡_, refl}
 use mathlib.Core.List.{List, [], _∷_}
 use native.Mathlib.Decide.{ℕ-discrete}
 use Rattle.masks.specs.Mask.{member}
 use Rattle.rows.specs.declared.Row.{Row}
-use Rattle.rows.specs.declared.Row.the-variants.{Initial, Final, Successor, LeftLimit, RightLimit}
+use Rattle.rows.specs.declared.Row.the-variants.{Initial, Final, Successor, LeftLimit, RightLimit, Strike}
 use Rattle.rows.specs.Rows.{row-bytes, batch-of, standing-sets, same-row}
 use Rattle.rows.specs.Reading.{set-at, row-at, row-cause, read-row}
 use Rattle.rows.specs.Batch.{on-turn, on-read, feed-from, feed}
@@ -130,14 +130,23 @@ pub back-from-inside : on-rows (Initial 0 ∷ Final 6 ∷ Successor 0 7 1 ∷ Su
 unfolding ℕ-discrete member row-bytes standing-sets same-row set-at row-at row-cause read-row on-turn on-read feed-from feed members reach holds? accepts? load-row closed opened-next next-round walk-of least shortest hex decimal sheet call-in outcome program
 back-from-inside = refl
 
+-- request C-18: a walk passes no struck state, though its letter comes first and its set is listed
+pub struck-walks : (on-rows (Initial 0 ∷ Final 1 ∷ Final 2 ∷ Successor 0 3 1 ∷ Successor 0 7 2 ∷ Strike 1 ∷ []) ≡ text "verdict nonempty rounds 0\nstart 0\nstep letter 7 to 2\n")
+    × (on-rows (Initial 0 ∷ Final 1 ∷ Final 2 ∷ Successor 0 7 0 ∷ LeftLimit 1 1 ∷ LeftLimit 1 2 ∷ Strike 1 ∷ [])
+    ≡ text "verdict nonempty rounds 1\nopen 1 loop 0000000000000001\nstart 0\nstep omega 0000000000000001 to 2\n")
+    × (on-rows (Initial 0 ∷ Final 1 ∷ Successor 0 7 0 ∷ LeftLimit 1 1 ∷ Strike 1 ∷ []) ≡ text "verdict empty rounds 2\nopen 1 loop 0000000000000001\n")
+unfolding ℕ-discrete member row-bytes standing-sets same-row set-at row-at row-cause read-row on-turn on-read feed-from feed members reach holds? accepts? load-row closed opened-next next-round walk-of least shortest hex decimal sheet call-in outcome program
+struck-walks = (refl, refl, refl)
+
 -- causes 2 to 5 at the place of the row, the lowest number of the first row that fails
-pub refused-lines : (program (1 ∷ 0 ∷ 6 ∷ 0 ∷ []) ≡ text "refused 2 at 2\n")
+pub refused-lines : (program (1 ∷ 0 ∷ 7 ∷ 0 ∷ []) ≡ text "refused 2 at 2\n")
+    × (program (1 ∷ 0 ∷ 6 ∷ []) ≡ text "refused 3 at 2\n")
     × (program (1 ∷ 0 ∷ 3 ∷ 64 ∷ 7 ∷ []) ≡ text "refused 3 at 2\n")
     × (program (1 ∷ 64 ∷ 0 ∷ []) ≡ text "refused 4 at 0\n")
     × (program (4 ∷ 0 ∷ 0 ∷ 0 ∷ 0 ∷ 0 ∷ 0 ∷ 0 ∷ 0 ∷ 64 ∷ []) ≡ text "refused 4 at 0\n")
     × (program (5 ∷ 63 ∷ 0 ∷ 0 ∷ 0 ∷ 0 ∷ 0 ∷ 0 ∷ 0 ∷ 0 ∷ []) ≡ text "refused 5 at 0\n")
 unfolding ℕ-discrete member row-bytes standing-sets same-row set-at row-at row-cause read-row on-turn on-read feed-from feed members reach holds? accepts? load-row closed opened-next next-round walk-of least shortest hex decimal sheet call-in outcome program
-refused-lines = (refl, refl, refl, refl, refl)
+refused-lines = (refl, refl, refl, refl, refl, refl)
 
 abbrev answer-after : List Call → Call → Outcome
 answer-after cs c = call (run fresh cs) c .answer
@@ -152,8 +161,10 @@ pub calls : (answer-after (close ∷ []) (load (6 ∷ [])) ≡ refused 1 0)
     × (answer-after (close ∷ round ∷ []) (print 23) ≡ wrote (text "verdict empty rounds 1\n"))
     × (answer-after (load (2 ∷ 5 ∷ 1 ∷ 3 ∷ []) ∷ []) (save 4) ≡ wrote (1 ∷ 3 ∷ 2 ∷ 5 ∷ []))
     × (answer-after (load (2 ∷ 5 ∷ 1 ∷ 3 ∷ []) ∷ withdraw (2 ∷ 5 ∷ []) ∷ close ∷ reopen ∷ []) (save 9) ≡ wrote (1 ∷ 3 ∷ []))
+    × (answer-after (load (6 ∷ 0 ∷ 5 ∷ 1 ∷ 0 ∷ 0 ∷ 0 ∷ 0 ∷ 0 ∷ 0 ∷ 0 ∷ 1 ∷ 6 ∷ 0 ∷ []) ∷ []) (save 12) ≡ wrote (5 ∷ 1 ∷ 0 ∷ 0 ∷ 0 ∷ 0 ∷ 0 ∷ 0 ∷ 0 ∷ 1 ∷ 6 ∷ 0 ∷ []))
+    × (answer-after (load (6 ∷ 0 ∷ []) ∷ withdraw (6 ∷ 0 ∷ []) ∷ []) (withdraw (6 ∷ 0 ∷ [])) ≡ refused 8 0)
 unfolding ℕ-discrete member row-bytes standing-sets same-row set-at row-at row-cause read-row on-turn on-read feed-from feed members reach holds? accepts? load-row withdraw-row closed opened-next next-round walk-of least shortest hex decimal sheet call-in
-calls = (refl, refl, refl, refl, refl, refl, refl, refl, refl)
+calls = (refl, refl, refl, refl, refl, refl, refl, refl, refl, refl, refl)
 
 -- each call in each phase: open, running, settled
 pub phases : (answer-after [] (load []) ≡ done)

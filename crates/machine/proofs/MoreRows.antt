@@ -1,17 +1,19 @@
--- Request C-15, of the machines that calls make: more rows, never less (`never-less`, `more-rows`); no less both ways is
--- the same (`no-less-both`). Only a withdraw takes rows away (`run-grows`).
+-- Request C-15, of the machines that calls make: more rows, never less (`never-less`, `more-rows`); no less both ways is the same
+-- (`no-less-both`). Where nothing is withdrawn and no state
+-- struck, rows grow (`run-grows`).
 use Prim.Native.Nat.{ℕ, _≤_}
 use mathlib.Core.Path.{_≡_, refl, sym, subst}
-use mathlib.Core.Logic.{inl}
+use mathlib.Core.Logic.{inl, ⊎-elim}
 use mathlib.Core.List.{List, [], _∷_}
 use native.Mathlib.Omega.{arith}
 use Rattle.lists.specs.Tests.{_among_}
 use Rattle.rows.specs.declared.Row.{Row}
+use Rattle.rows.specs.declared.Row.the-variants.{Strike}
 use Rattle.rows.specs.Rows.{Bytes}
 use Rattle.rows.specs.Batch.{fed, feed}
 use Rattle.rows.proofs.Batch.{feed-runs}
 use Rattle.orderings.specs.Timelines.{timelines}
-use Rattle.orderings.specs.MoreRows.{Grows}
+use Rattle.orderings.specs.MoreRows.{Grows, StrikesNothing}
 use Rattle.orderings.proofs.Timelines.{lawful}
 use Rattle.orderings.proofs.Claims.{open-dec}
 use Rattle.orderings.proofs.Verdicts.{least-depth, least-depth-unique}
@@ -85,40 +87,45 @@ module _ (m m′ : Machine) (l : Listed m) (v v′ : Verdict) (n : SaysNoLess (s
 
 -- ---- what grows
 
-fed-grows : (rows rows′ : List Row) (l : List ℕ) → Bytes l → feed load-row rows l ≡ fed rows′ → Grows rows rows′
-fed-grows rows rows′ l b f r i = let o = feed-runs load-row rows rows′ l b .0 f in load-sets rows rows′ (o .rows) (o .ran) r .1 (inl i)
+same-grows : (rows : List Row) → Grows rows rows
+same-grows rows = ((λ r i. i), λ s i. i)
 
--- calls that withdraw nothing, with batches of bytes
-abbrev NoWithdraw : Call → Type 0
-NoWithdraw (load l) = Bytes l
-NoWithdraw (withdraw l) = ⊥
-NoWithdraw close = Unit {0}
-NoWithdraw round = Unit {0}
-NoWithdraw reopen = Unit {0}
-NoWithdraw (print size) = Unit {0}
-NoWithdraw (save size) = Unit {0}
+fed-grows : (rows rows′ : List Row) (l : List ℕ) → Bytes l → StrikesNothing l → feed load-row rows l ≡ fed rows′ → Grows rows rows′
+fed-grows rows rows′ l b n f = let o = feed-runs load-row rows rows′ l b .0 f in let is = load-sets rows rows′ (o .rows) (o .ran) in
+    ((λ r i. is r .1 (inl i)), λ s i. ⊎-elim (λ j. j) (λ j. absurd (n (o .rows) (o .fit) (o .whole) s j)) (is (Strike s) .0 i))
 
-abbrev pub NoneWithdraw : List Call → Type 0
-NoneWithdraw [] = Unit {0}
-NoneWithdraw (c ∷ cs) = NoWithdraw c × NoneWithdraw cs
+-- calls that withdraw nothing and strike nothing, with batches of bytes
+abbrev OnlyAdds : Call → Type 0
+OnlyAdds (load l) = Bytes l × StrikesNothing l
+OnlyAdds (withdraw l) = ⊥
+OnlyAdds close = Unit {0}
+OnlyAdds round = Unit {0}
+OnlyAdds reopen = Unit {0}
+OnlyAdds (print size) = Unit {0}
+OnlyAdds (save size) = Unit {0}
 
-call-grows : (m : Machine) (c : Call) → NoWithdraw c → Grows (m .rows) (call m c .machine .rows)
+abbrev pub EachOnlyAdds : List Call → Type 0
+EachOnlyAdds [] = Unit {0}
+EachOnlyAdds (c ∷ cs) = OnlyAdds c × EachOnlyAdds cs
+
+call-grows : (m : Machine) (c : Call) → OnlyAdds c → Grows (m .rows) (call m c .machine .rows)
 unfolding closed next-round
 call-grows m c n = by (call m c .answer) (call m c .machine) (comes m c (call m c .answer) refl)
   where
-    done-grows : {c : Call} {m′ : Machine} → Done m c m′ → NoWithdraw c → Grows (m .rows) (m′ .rows)
-    done-grows (load-done l rows e f) b = fed-grows (m .rows) rows l b f
+    done-grows : {c : Call} {m′ : Machine} → Done m c m′ → OnlyAdds c → Grows (m .rows) (m′ .rows)
+    done-grows (load-done l rows e f) b = fed-grows (m .rows) rows l (b .0) (b .1) f
     done-grows (withdraw-done l rows e f) b = absurd b
-    done-grows (close-done e) b = λ r i. i
-    done-grows (round-done e) b = λ r i. i
-    done-grows (reopen-done e) b = λ r i. i
+    done-grows (close-done e) b = same-grows (m .rows)
+    done-grows (round-done e) b = same-grows (m .rows)
+    done-grows (reopen-done e) b = same-grows (m .rows)
 
     by : (a : Outcome) (m′ : Machine) → Comes m c m′ a → Grows (m .rows) (m′ .rows)
     by done m′ d = done-grows d n
-    by (wrote l) m′ k = λ r i. rw (k .0) i
-    by (refused p place) m′ k = λ r i. rw (k .0) i
+    by (wrote l) m′ k = rw (k .0) (same-grows (m .rows))
+    by (refused p place) m′ k = rw (k .0) (same-grows (m .rows))
 
--- they take no row away
-pub run-grows : (m : Machine) (cs : List Call) → NoneWithdraw cs → Grows (m .rows) (run m cs .rows)
-run-grows m [] n = λ r i. i
-run-grows m (c ∷ cs) n = λ r i. run-grows (call m c .machine) cs (n .1) r (call-grows m c (n .0) r i)
+-- they take no row away and strike no state
+pub run-grows : (m : Machine) (cs : List Call) → EachOnlyAdds cs → Grows (m .rows) (run m cs .rows)
+run-grows m [] n = same-grows (m .rows)
+run-grows m (c ∷ cs) n = let a = call-grows m c (n .0) in let b = run-grows (call m c .machine) cs (n .1) in
+    ((λ r i. b .0 r (a .0 r i)), λ s i. a .1 s (b .1 s i))

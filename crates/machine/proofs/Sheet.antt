@@ -55,7 +55,7 @@ module _ (rows : List Row) (l : List Claim) (fit : AllFit rows) where
   walk-length none e = omega arith
   walk-length (some f) e = let b = shortest-some rows l f e in rw length-append (omega (
     arith,
-    start-length (f .start) (fit _ (b .is .0)),
+    start-length (f .start) (fit _ (b .is .0 .0)),
     best-short rows l f fit b,
     gather-length step-line 34 (f .walk) (λ t m. step-length t (walk-values rows l (f .walk) fit (b .is .2) t m) (walk-states rows l (f .walk) fit (b .is .2) t m .1)),
   ))

@@ -12,7 +12,7 @@ use Rattle.lists.proofs.Sorting.{≺-connex}
 use Rattle.masks.proofs.Member.{member-lt}
 use Rattle.rows.specs.declared.Row.{Row}
 use Rattle.rows.specs.Rows.{AllFit}
-use Rattle.orderings.specs.Steps.{Claim, Label, letter, ω, back, mix, Step, Possible, Walk, Leads}
+use Rattle.orderings.specs.Steps.{Claim, Label, letter, ω, back, mix, Step, HasRows, Walk, Leads}
 use Rattle.orderings.specs.Systems.{Allowed}
 use Rattle.orderings.specs.Timelines.{timelines}
 use Rattle.orderings.specs.Decide.{step, steps, targets}
@@ -77,7 +77,7 @@ ValueFits (ω P) = P < 256 ^ 8
 ValueFits (back P) = P < 256 ^ 8
 ValueFits (mix P) = P < 256 ^ 8
 
-step-fits : (rows : List Row) → AllFit rows → (p : ℕ) (x : Label) (q : ℕ) → Possible rows p x q → ((p < 64) × (q < 64)) × ValueFits x
+step-fits : (rows : List Row) → AllFit rows → (p : ℕ) (x : Label) (q : ℕ) → HasRows rows p x q → ((p < 64) × (q < 64)) × ValueFits x
 step-fits rows fit p (letter a) q h = let f = fit _ h in ((f .0, f .2), f .1)
 step-fits rows fit p (ω P) q h = let f = fit _ (h .0) in ((member-lt p P (h .1), f .2), f .1)
 step-fits rows fit p (back P) q h = let f = fit _ (h .0) in ((f .2, member-lt q P (h .1)), f .1)
@@ -85,7 +85,7 @@ step-fits rows fit p (mix P) q h = let f = fit _ (h .0) in ((f .2, fit _ (h .1) 
 
 walk-fits : (rows : List Row) (l : List Claim) (w : Walk) → AllFit rows → Allowed (timelines rows) (λ c. c among l) w → (t : Step) → t among w → ((t .from < 64) × (t .to < 64)) × ValueFits (t .label)
 walk-fits rows l [] fit h t m = absurd (List·Memᴰ·not-nil m)
-walk-fits rows l (s ∷ w) fit h t m = ⊎-elim (λ e. rw e (step-fits rows fit (s .from) (s .label) (s .to) (h .0))) (walk-fits rows l w fit (h .2) t) (List·Memᴰ·cases-cons m)
+walk-fits rows l (s ∷ w) fit h t m = ⊎-elim (λ e. rw e (step-fits rows fit (s .from) (s .label) (s .to) (h .0 .0))) (walk-fits rows l w fit (h .2) t) (List·Memᴰ·cases-cons m)
 
 -- the states of a walk, and its letters and sets
 pub walk-states : (rows : List Row) (l : List Claim) (w : Walk) → AllFit rows → Allowed (timelines rows) (λ c. c among l) w → (t : Step) → t among w → (t .from < 64) × (t .to < 64)
@@ -99,6 +99,6 @@ pub best-short : (rows : List Row) (l : List Claim) (f : Found) → AllFit rows 
 best-short rows l f fit d = let c = d .is in
     let once : Once (f .start ∷ targets (f .walk)) = once-walk (steps rows l) (f .start) (c .1 .0) (f .walk) (c .1 .2) (steps-allowed rows l (f .walk) .1 (c .2))
     (λ v k q. d .short (record { start = f .start; walk = v }) (c .0, (c .1 .0, c .1 .1, k), steps-allowed rows l v .0 q)) in
-    let below : (s : ℕ) → s among (f .start ∷ targets (f .walk)) → s < 64 = λ s m. ⊎-elim (λ e. rw e (fit _ (c .0)))
+    let below : (s : ℕ) → s among (f .start ∷ targets (f .walk)) → s < 64 = λ s m. ⊎-elim (λ e. rw e (fit _ (c .0 .0)))
     (λ i. let r = map-out _ s (f .walk) i in rw (r .2) (walk-states rows l (f .walk) fit (c .2) (r .0) (r .1) .1)) (List·Memᴰ·cases-cons m) in
     omega (arith, once-length (f .start ∷ targets (f .walk)) (range 0 64) once (λ s m. range-in 0 64 s (omega arith) (below s m)), range-length 0 64, length-map (f .walk) (λ (t : Step). t .to))

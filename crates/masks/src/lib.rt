@@ -66,6 +66,13 @@ pub fn is_subset(a: Set, b: Set) -> bool
     difference(a, b) == 0
 }
 
+// Do `a` and `b` have a state in common?
+pub fn meets(a: Set, b: Set) -> bool
+    ensures { λ r. ⌜ Decides r ((t : ℕ) × (t ∈ a) × (t ∈ b)) ⌝ }
+{
+    intersection(a, b) != 0
+}
+
 // The lowest state of `m`, which is not empty.
 pub fn lowest(m: Set) -> u8
     requires { ⌜ 0 < m ⌝ }

@@ -9,18 +9,18 @@ use mathlib.Core.List.{List, [], _∷_, _++_, map, List·Memᴰ·head, List·Mem
 use lib.Dec.{eqb}
 use native.Mathlib.Omega.{arith}
 use Rattle.lists.specs.Tests.{Decides, _among_, _part-of_, any, all, put, keep, gather}
-use Rattle.lists.proofs.Deciding.{iff·, and·, or·, eqb·, any·, all·, keep·, has·, test·, yes·, no·, gather-in, gather-out, map-in, map-out}
+use Rattle.lists.proofs.Deciding.{iff·, and·, or·, not·, eqb·, any·, all·, keep·, has·, test·, yes·, no·, gather-in, gather-out, map-in, map-out}
 use Rattle.masks.specs.Mask.{member, _∈_}
 use Rattle.rows.specs.declared.Row.{Row}
-use Rattle.rows.specs.declared.Row.the-variants.{Initial, Final, Successor, LeftLimit, RightLimit}
+use Rattle.rows.specs.declared.Row.the-variants.{Initial, Final, Successor, LeftLimit, RightLimit, Strike}
 use Rattle.rows.specs.Rows.{SetOf, standing-sets}
 use Rattle.rows.proofs.Same.{stands·}
 use Rattle.rows.proofs.Sets.{sets-iff}
-use Rattle.orderings.specs.Steps.{Claim, loops, mixes, set-of, Label, letter, ω, back, mix, Step, Possible, needs, members, content, Walk, Leads, Inside, On}
+use Rattle.orderings.specs.Steps.{Claim, loops, mixes, set-of, Label, letter, ω, back, mix, Step, HasRows, Struck, Possible, needs, members, content, Walk, Leads, Inside, On}
 use Rattle.orderings.specs.Claims.{Through, Piece, OnPiece, Gap, Says}
 use Rattle.orderings.specs.Systems.{InForce, Allowed, AtHand, Holds}
 use Rattle.orderings.specs.Timelines.{same, IsInitial, IsFinal, Accepting, timelines}
-use Rattle.orderings.specs.Decide.{yes?, same-claim, claim-in?, step, mix-steps, steps-of, in-force?, steps, steps-in, reaches?, between?, on-piece?, gap?, says?, holds?, initial-of, final-of, initials, finals, accepts?}
+use Rattle.orderings.specs.Decide.{yes?, same-claim, claim-in?, step, mix-steps, steps-of, unstruck?, in-force?, steps, steps-in, reaches?, between?, on-piece?, gap?, says?, holds?, initial-of, final-of, initials, finals, accepts?}
 use Rattle.orderings.proofs.Timelines.{members-iff}
 use Rattle.orderings.proofs.Walks.{allowed-append}
 use Rattle.orderings.proofs.Steps.{leads-append, inside-append, on-start, on-middle, on-end}
@@ -50,7 +50,7 @@ some-in· {g = g} P e d = iff·
 
 module _ (rows : List Row) where
   abbrev Can : Step → Type 0
-  Can t = Possible rows (t .from) (t .label) (t .to)
+  Can t = HasRows rows (t .from) (t .label) (t .to)
 
   mix-out : (P q : ℕ) → LeftLimit P q among rows → (r : Row) → r among rows → (t : Step) → t among mix-steps P q r → Can t
   mix-out P q l (Initial s) m t i = absurd (List·Memᴰ·not-nil i)
@@ -62,6 +62,7 @@ module _ (rows : List Row) where
       go : (b : Bool) → Decides b (P ≡ Q) → t among put b (step p (mix P) q) [] → Can t
       go true d i = rw (List·Memᴰ·eq-of-singleton i) (subst (λ x. RightLimit p x among rows) (sym (yes· d)) m, l)
       go false d i = absurd (List·Memᴰ·not-nil i)
+  mix-out P q l (Strike s) m t i = absurd (List·Memᴰ·not-nil i)
 
   mix-in : (P p q : ℕ) → step p (mix P) q among mix-steps P q (RightLimit p P)
   mix-in P p q = go (eqb P P) (eqb· P P)
@@ -79,16 +80,20 @@ module _ (rows : List Row) where
       (λ j. let k = gather-out (mix-steps P q) t rows j in mix-out P q m (k .0) (k .1) t (k .2))
       (List·Memᴰ·append-cases (map _ (members P)) i)
   steps-out (RightLimit p P) m t i = let k = map-out _ t (members P) i in rw (k .2) (m, members-iff P (k .0) .0 (k .1))
+  steps-out (Strike s) m t i = absurd (List·Memᴰ·not-nil i)
 
-  steps-from : (p : ℕ) (l : Label) (q : ℕ) → Possible rows p l q → step p l q among gather (steps-of rows) rows
+  steps-from : (p : ℕ) (l : Label) (q : ℕ) → HasRows rows p l q → step p l q among gather (steps-of rows) rows
   steps-from p (letter a) q h = gather-in (steps-of rows) h (List·Memᴰ·head refl)
   steps-from p (ω P) q h = gather-in (steps-of rows) (h .0) (Memᴰ·append-left _ (map-in _ (members-iff P p .1 (h .1))))
   steps-from p (back P) q h = gather-in (steps-of rows) (h .0) (map-in _ (members-iff P q .1 (h .1)))
   steps-from p (mix P) q h = gather-in (steps-of rows) (h .1) (Memᴰ·append-right (map _ (members P)) (gather-in (mix-steps P q) (h .0) (mix-in P p q)))
 
-  -- the steps that are computed are those that are possible
-  possible-iff : (t : Step) → t among gather (steps-of rows) rows ↔ Can t
-  possible-iff t = ((λ m. let r = gather-out (steps-of rows) t rows m in steps-out (r .0) (r .1) t (r .2)), λ h. steps-from (t .from) (t .label) (t .to) h)
+  -- the steps that are computed are those whose rows stand
+  rows-iff : (t : Step) → t among gather (steps-of rows) rows ↔ Can t
+  rows-iff t = ((λ m. let r = gather-out (steps-of rows) t rows m in steps-out (r .0) (r .1) t (r .2)), λ h. steps-from (t .from) (t .label) (t .to) h)
+
+  unstruck· : (s : ℕ) → Decides (unstruck? rows s) (¬ Struck rows s)
+  unstruck· s = not· (stands· (Strike s) rows)
 
   module _ (l : List Claim) where
     abbrev Open : Claim → Type 0
@@ -98,9 +103,10 @@ module _ (rows : List Row) where
     in-force· none = record { to = λ t. tt; of = λ u. refl }
     in-force· (some c) = claim-in· l c
 
-    steps-iff : (t : Step) → t among steps rows l ↔ (Can t × InForce Open (needs (t .label)))
-    steps-iff t = let k = keep· (λ (t : Step). in-force· (needs (t .label))) (gather (steps-of rows) rows) t in
-        ((λ m. let r = k .0 m in (possible-iff t .0 (r .0), r .1)), λ h. k .1 (possible-iff t .1 (h .0), h .1))
+    steps-iff : (t : Step) → t among steps rows l ↔ (Possible rows (t .from) (t .label) (t .to) × InForce Open (needs (t .label)))
+    steps-iff t =
+        let k = keep· (λ (t : Step). and· (in-force· (needs (t .label))) (all· unstruck· (content (t .from) (t .label) (t .to)))) (gather (steps-of rows) rows) t in
+        ((λ m. let r = k .0 m in ((rows-iff t .0 (r .0), r .1 .1), r .1 .0)), λ h. k .1 (rows-iff t .1 (h .0 .0), (h .1, h .0 .1)))
 
     -- the walks of these steps are those that the claims allow
     pub steps-allowed : (w : Walk) → w part-of steps rows l ↔ Allowed (timelines rows) Open w
@@ -182,7 +188,8 @@ module _ (rows : List Row) where
     piece· P = iff· (λ p. p .2 .0) (λ k. (k .0, members-iff P (k .0) .1 (k .2 .0), (k, on-start (k .0) (k .0) (k .4 .0) refl))) (any· (on-piece· P) (members P))
 
     gap· : (P s : ℕ) → s ∈ P → Decides (gap? rows P s) (Gap rows P s)
-    gap· P s i = iff· (λ p. ((i, p .0), (i, p .1))) (λ g. (g .0 .1, g .1 .1)) (and· (stands· (LeftLimit P s) rows) (stands· (RightLimit s P) rows))
+    gap· P s i = iff· (λ p. ((i, p .0 .0), (i, p .0 .1), p .1)) (λ g. ((g .0 .1, g .1 .1), g .2))
+        (and· (and· (stands· (LeftLimit P s) rows) (stands· (RightLimit s P) rows)) (unstruck· s))
 
     -- P loops, P mixes
     says· : (c : Claim) → Decides (says? rows (steps-in rows l (set-of c)) c) (Says rows Hand c)
@@ -207,9 +214,13 @@ module _ (rows : List Row) where
         some-or-none [] h p = inl h
         some-or-none (t ∷ w) h p = inr (t ∷ w, h, p, cons≢nil)
 
--- the states that rows name, as lists
-only-one : (f : Row → List ℕ) (make : ℕ → Row) (rows : List Row) → ((s : ℕ) → s among f (make s)) → ((r : Row) (s : ℕ) → s among f r → r ≡ make s) → (a : ℕ) → a among gather f rows ↔ make a among rows
-only-one f make rows in-it is-it a = ((λ m. let r = gather-out f a rows m in subst (λ x. x among rows) (is-it (r .0) a (r .2)) (r .1)), λ m. gather-in f m (in-it a))
+-- the states that rows of one kind name and that are not struck, as lists
+only-one : (f : Row → List ℕ) (make : ℕ → Row) (rows : List Row) → ((s : ℕ) → s among f (make s)) → ((r : Row) (s : ℕ) → s among f r → r ≡ make s)
+    → (a : ℕ) → a among keep (unstruck? rows) (gather f rows) ↔ (make a among rows × ¬ Struck rows a)
+only-one f make rows in-it is-it a = let k = keep· (unstruck· rows) (gather f rows) a in (
+  (λ m. let r = gather-out f a rows (k .0 m .0) in (subst (λ x. x among rows) (is-it (r .0) a (r .2)) (r .1), k .0 m .1)),
+  λ h. k .1 (gather-in f (h .0) (in-it a), h .1),
+)
 
 pub initials-iff : (rows : List Row) (a : ℕ) → a among initials rows ↔ IsInitial rows a
 initials-iff rows = only-one initial-of Initial rows (λ s. List·Memᴰ·head refl) is-it
@@ -220,6 +231,7 @@ initials-iff rows = only-one initial-of Initial rows (λ s. List·Memᴰ·head r
     is-it (Successor p x q) s m = absurd (List·Memᴰ·not-nil m)
     is-it (LeftLimit P q) s m = absurd (List·Memᴰ·not-nil m)
     is-it (RightLimit q P) s m = absurd (List·Memᴰ·not-nil m)
+    is-it (Strike x) s m = absurd (List·Memᴰ·not-nil m)
 
 pub finals-iff : (rows : List Row) (a : ℕ) → a among finals rows ↔ IsFinal rows a
 finals-iff rows = only-one final-of Final rows (λ s. List·Memᴰ·head refl) is-it
@@ -230,6 +242,7 @@ finals-iff rows = only-one final-of Final rows (λ s. List·Memᴰ·head refl) i
     is-it (Successor p x q) s m = absurd (List·Memᴰ·not-nil m)
     is-it (LeftLimit P q) s m = absurd (List·Memᴰ·not-nil m)
     is-it (RightLimit q P) s m = absurd (List·Memᴰ·not-nil m)
+    is-it (Strike x) s m = absurd (List·Memᴰ·not-nil m)
 
 -- a walk from an initial to a final state with the claims of the list
 pub accepts· : (rows : List Row) (l : List Claim) → Decides (accepts? rows l) ((w : Walk) × Accepting rows w × Allowed (timelines rows) (λ c. c among l) w)

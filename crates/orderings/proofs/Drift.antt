@@ -1,5 +1,5 @@
 -- Document 01, "Where implementations drift": small tables on which each drift would show, computed from the
--- definitions, one law each (`two-rounds`, `whole-content`, `mix-outside`, `one-set`, `gaps` and others).
+-- definitions, one law each (`two-rounds`, `whole-content`, `mix-outside`, `one-set`, `gaps`, `struck-steps` and others).
 use Prim.Native.Nat.{ℕ}
 use mathlib.Core.Path.{_≡_, refl}
 use mathlib.Core.Bool.{true, false}
@@ -8,7 +8,7 @@ use native.Mathlib.Decide.{ℕ-discrete}
 use Rattle.lists.specs.Growing.{grown}
 use Rattle.masks.specs.Mask.{member}
 use Rattle.rows.specs.declared.Row.{Row}
-use Rattle.rows.specs.declared.Row.the-variants.{Initial, Final, Successor, LeftLimit, RightLimit}
+use Rattle.rows.specs.declared.Row.the-variants.{Initial, Final, Successor, LeftLimit, RightLimit, Strike}
 use Rattle.rows.specs.Rows.{standing-sets, same-row}
 use Rattle.orderings.specs.Steps.{Claim, loops, mixes, members}
 use Rattle.orderings.specs.Decide.{same-claim, claims, reach, holds?, accepts?}
@@ -135,6 +135,59 @@ pub gap-waits : (opened (Successor 0 7 0 ∷ LeftLimit 1 1 ∷ LeftLimit 7 0 ∷
     × (opened (Successor 0 7 0 ∷ LeftLimit 1 1 ∷ LeftLimit 7 0 ∷ RightLimit 1 7 ∷ LeftLimit 7 2 ∷ RightLimit 2 7 ∷ []) 2 ≡ loops 1 ∷ mixes 7 ∷ [])
 unfolding ℕ-discrete member standing-sets same-row members reach holds?
 gap-waits = (refl, refl)
+
+-- request C-18: a step exists if no state of its content is struck, whatever other states are, and wherever the rows stand that strike them
+pub struck-steps : (accepts? (Initial 0 ∷ Final 2 ∷ Successor 0 7 1 ∷ Successor 1 7 2 ∷ Strike 1 ∷ []) [] ≡ false)
+    × (accepts? (Initial 0 ∷ Final 2 ∷ Successor 0 7 1 ∷ Successor 1 7 2 ∷ Strike 1 ∷ Strike 3 ∷ []) [] ≡ false)
+    × (accepts? (Strike 3 ∷ Strike 1 ∷ Initial 0 ∷ Final 2 ∷ Successor 0 7 1 ∷ Successor 1 7 2 ∷ []) [] ≡ false)
+    × (accepts? (Initial 0 ∷ Final 2 ∷ Successor 0 7 1 ∷ Successor 1 7 2 ∷ Strike 3 ∷ []) [] ≡ true)
+    × (accepts? (Initial 0 ∷ Final 2 ∷ LeftLimit 3 2 ∷ Strike 1 ∷ []) (loops 3 ∷ []) ≡ false)
+    × (accepts? (Initial 0 ∷ Final 2 ∷ LeftLimit 3 2 ∷ Strike 3 ∷ []) (loops 3 ∷ []) ≡ true)
+    × (accepts? (Initial 2 ∷ Final 0 ∷ RightLimit 2 3 ∷ Strike 1 ∷ []) (loops 3 ∷ []) ≡ false)
+    × (accepts? (Initial 2 ∷ Final 0 ∷ RightLimit 2 3 ∷ Strike 3 ∷ []) (loops 3 ∷ []) ≡ true)
+    × (accepts? (Initial 2 ∷ Final 4 ∷ RightLimit 2 3 ∷ LeftLimit 3 4 ∷ Strike 1 ∷ []) (mixes 3 ∷ []) ≡ false)
+    × (accepts? (Initial 2 ∷ Final 4 ∷ RightLimit 2 3 ∷ LeftLimit 3 4 ∷ Strike 3 ∷ []) (mixes 3 ∷ []) ≡ true)
+unfolding ℕ-discrete member standing-sets same-row members reach accepts?
+struck-steps = (refl, refl, refl, refl, refl, refl, refl, refl, refl, refl)
+
+-- both ends of a step are in its content: a piece of one step, by a letter, from 0 to 1
+pub struck-ends : (opened (Successor 0 7 1 ∷ LeftLimit 3 0 ∷ RightLimit 1 3 ∷ []) 1 ≡ mixes 3 ∷ [])
+    × (opened (Successor 0 7 1 ∷ LeftLimit 3 0 ∷ RightLimit 1 3 ∷ Strike 0 ∷ []) 1 ≡ [])
+    × (opened (Successor 0 7 1 ∷ LeftLimit 3 0 ∷ RightLimit 1 3 ∷ Strike 1 ∷ []) 1 ≡ [])
+unfolding ℕ-discrete member standing-sets same-row members reach holds?
+struck-ends = (refl, refl, refl)
+
+-- and by a set: to the end of an omega step, from the start of a back step, between both of a mix step
+pub struck-limits : (opened (Successor 0 7 0 ∷ LeftLimit 1 1 ∷ LeftLimit 3 0 ∷ RightLimit 1 3 ∷ []) 2 ≡ loops 1 ∷ mixes 3 ∷ [])
+    × (opened (Successor 0 7 0 ∷ LeftLimit 1 1 ∷ LeftLimit 3 0 ∷ RightLimit 1 3 ∷ Strike 1 ∷ []) 2 ≡ loops 1 ∷ [])
+    × (opened (Successor 1 7 1 ∷ RightLimit 0 2 ∷ LeftLimit 3 0 ∷ RightLimit 1 3 ∷ []) 2 ≡ loops 2 ∷ mixes 3 ∷ [])
+    × (opened (Successor 1 7 1 ∷ RightLimit 0 2 ∷ LeftLimit 3 0 ∷ RightLimit 1 3 ∷ Strike 0 ∷ []) 2 ≡ loops 2 ∷ [])
+    × (opened (Successor 2 7 2 ∷ RightLimit 2 4 ∷ LeftLimit 4 2 ∷ RightLimit 0 4 ∷ LeftLimit 4 1 ∷ LeftLimit 7 0 ∷ RightLimit 1 7 ∷ []) 2 ≡ loops 4 ∷ mixes 4 ∷ mixes 7 ∷ [])
+    × (opened (Successor 2 7 2 ∷ RightLimit 2 4 ∷ LeftLimit 4 2 ∷ RightLimit 0 4 ∷ LeftLimit 4 1 ∷ LeftLimit 7 0 ∷ RightLimit 1 7 ∷ Strike 0 ∷ []) 2 ≡ loops 4 ∷ mixes 4 ∷ [])
+    × (opened (Successor 2 7 2 ∷ RightLimit 2 4 ∷ LeftLimit 4 2 ∷ RightLimit 0 4 ∷ LeftLimit 4 1 ∷ LeftLimit 7 0 ∷ RightLimit 1 7 ∷ Strike 1 ∷ []) 2 ≡ loops 4 ∷ mixes 4 ∷ [])
+unfolding ℕ-discrete member standing-sets same-row members reach holds?
+struck-limits = (refl, refl, refl, refl, refl, refl, refl)
+
+-- nor is there a walk of no steps at a struck state: no gap
+pub struck-gap : (opened (Successor 0 7 0 ∷ LeftLimit 5 0 ∷ RightLimit 0 5 ∷ LeftLimit 5 2 ∷ RightLimit 2 5 ∷ Strike 2 ∷ []) 1 ≡ [])
+    × (opened (Successor 0 7 0 ∷ LeftLimit 5 0 ∷ RightLimit 0 5 ∷ LeftLimit 5 2 ∷ RightLimit 2 5 ∷ Strike 1 ∷ []) 1 ≡ mixes 5 ∷ [])
+unfolding ℕ-discrete member standing-sets same-row members reach holds?
+struck-gap = (refl, refl)
+
+-- and no empty word
+pub struck-word : (accepts? (Initial 0 ∷ Final 0 ∷ Strike 0 ∷ []) [] ≡ false)
+    × (accepts? (Initial 0 ∷ Final 0 ∷ Strike 1 ∷ []) [] ≡ true)
+unfolding ℕ-discrete member standing-sets same-row members reach accepts?
+struck-word = (refl, refl)
+
+-- striking deletes no row: a set whose rows all lead to struck states, or from them, opens and is listed; one that has a struck state does not
+pub struck-sets : (opened (Successor 0 7 0 ∷ LeftLimit 1 1 ∷ Strike 1 ∷ []) 2 ≡ loops 1 ∷ [])
+    × (opened (Successor 0 7 0 ∷ RightLimit 1 1 ∷ Strike 1 ∷ []) 2 ≡ loops 1 ∷ [])
+    × (opened (Successor 0 7 0 ∷ LeftLimit 1 1 ∷ Strike 0 ∷ []) 1 ≡ [])
+    × (opened (Successor 0 7 0 ∷ Successor 0 7 1 ∷ Successor 1 7 0 ∷ LeftLimit 3 2 ∷ Strike 1 ∷ []) 1 ≡ [])
+    × (opened (Successor 63 7 63 ∷ LeftLimit 9223372036854775808 0 ∷ Strike 63 ∷ []) 1 ≡ [])
+unfolding ℕ-discrete member standing-sets same-row members reach holds?
+struck-sets = (refl, refl, refl, refl, refl)
 
 -- entrances and exits are states of the set
 pub ends-of-the-set : opened (Successor 5 7 0 ∷ Successor 0 7 0 ∷ LeftLimit 1 5 ∷ RightLimit 0 1 ∷ []) 1 ≡ loops 1 ∷ []

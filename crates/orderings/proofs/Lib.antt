@@ -10,3 +10,4 @@ pub mod Deciding
 pub mod Claims
 pub mod MoreRows
 pub mod Gaps
+pub mod Struck

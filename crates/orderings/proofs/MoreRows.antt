@@ -1,19 +1,21 @@
 -- Request C-15: a derivation over some rows is one over more rows, line by line, with every claim at the same depth. First for any system
--- (`keeps-depth`, `accepts-more`, `least-more`), then for rows (`depths-grow`, `accepts-grows`, `least-grows`, `same-depths`).
+-- (`keeps-depth`, `accepts-more`, `least-more`), then for rows (`depths-grow`, `accepts-grows`, `least-grows`, `same-depths`);
+-- batches that strike nothing (`strikes-nothing`).
 use Prim.Native.Nat.{ℕ, _≤_}
-use mathlib.Core.Path.{_≡_, refl, _∙_}
+use mathlib.Core.Path.{_≡_, refl, subst, _∙_}
 use mathlib.Core.Logic.{inl, inr, ⊎-elim, _↔_}
 use mathlib.Core.Option.{Option, none, some}
 use mathlib.Core.List.{List, [], _∷_, map, List·Memᴰ·head, List·Memᴰ·tail, List·Memᴰ·not-nil, List·Memᴰ·cases-cons}
 use native.Mathlib.Omega.{arith}
 use Rattle.lists.specs.Tests.{_among_}
 use Rattle.rows.specs.declared.Row.{Row}
-use Rattle.rows.specs.Rows.{SetOf}
-use Rattle.orderings.specs.Steps.{Claim, loops, mixes, set-of, Label, letter, ω, back, mix, Step, Possible, Walk}
+use Rattle.rows.specs.Rows.{SetOf, batch-of, AllFit}
+use Rattle.rows.proofs.Batch.{batch-apart}
+use Rattle.orderings.specs.Steps.{Claim, loops, mixes, set-of, Label, letter, ω, back, mix, Step, HasRows, Struck, Possible, Walk}
 use Rattle.orderings.specs.Claims.{Entrance, Exit, Piece, Says}
 use Rattle.orderings.specs.Systems.{System, Allowed, Line, Derivation, Has, need-depth, walk-depth, greatest, depth, Valid, HoldsAt, AcceptedIn, Accepts, LeastAccepted}
 use Rattle.orderings.specs.Timelines.{Accepting, timelines}
-use Rattle.orderings.specs.MoreRows.{Grows, KeepsDepths}
+use Rattle.orderings.specs.MoreRows.{Grows, StrikesNothing, KeepsDepths}
 use Rattle.orderings.proofs.Walks.{allowed-more}
 
 -- ---- any system
@@ -100,20 +102,26 @@ module _ (S : System) (M : Larger S) where
 -- ---- more rows
 
 module _ (rows rows′ : List Row) (up : Grows rows rows′) where
+  rows-grow : (p : ℕ) (l : Label) (q : ℕ) → HasRows rows p l q → HasRows rows′ p l q
+  rows-grow p (letter a) q h = up .0 _ h
+  rows-grow p (ω P) q h = (up .0 _ (h .0), h .1)
+  rows-grow p (back P) q h = (up .0 _ (h .0), h .1)
+  rows-grow p (mix P) q h = (up .0 _ (h .0), up .0 _ (h .1))
+
+  unstruck-still : (s : ℕ) → ¬ Struck rows s → ¬ Struck rows′ s
+  unstruck-still s n h = n (up .1 s h)
+
   steps-grow : (p : ℕ) (l : Label) (q : ℕ) → Possible rows p l q → Possible rows′ p l q
-  steps-grow p (letter a) q h = up _ h
-  steps-grow p (ω P) q h = (up _ (h .0), h .1)
-  steps-grow p (back P) q h = (up _ (h .0), h .1)
-  steps-grow p (mix P) q h = (up _ (h .0), up _ (h .1))
+  steps-grow p l q h = (rows-grow p l q (h .0), λ s m. unstruck-still s (h .1 s m))
 
   sets-grow : (P : ℕ) → SetOf rows P → SetOf rows′ P
-  sets-grow P h = (h .0, up _ (h .1), h .2)
+  sets-grow P h = (h .0, up .0 _ (h .1), h .2)
 
   entrances-grow : (P e : ℕ) → Entrance rows P e → Entrance rows′ P e
-  entrances-grow P e h = (h .0, up _ (h .1))
+  entrances-grow P e h = (h .0, up .0 _ (h .1))
 
   exits-grow : (P f : ℕ) → Exit rows P f → Exit rows′ P f
-  exits-grow P f h = (h .0, up _ (h .1))
+  exits-grow P f h = (h .0, up .0 _ (h .1))
 
   abbrev pieces-grow : (W : Walk → Type 0) (P : ℕ) → Piece rows W P → Piece rows′ W P
   pieces-grow W P k = (k .0, k .1, entrances-grow P (k .0) (k .2), exits-grow P (k .1) (k .3), k .4)
@@ -121,12 +129,13 @@ module _ (rows rows′ : List Row) (up : Grows rows rows′) where
   says-grow : (W : Walk → Type 0) (c : Claim) → Says rows W c → Says rows′ W c
   says-grow W (loops P) h = h
   says-grow W (mixes P) h = record {
-    covered = λ s i. ⊎-elim (λ o. inl (pieces-grow W P (o .0), o .1)) (λ g. inr (entrances-grow P s (g .0), exits-grow P s (g .1))) (h .covered s i);
+    covered = λ s i. ⊎-elim (λ o. inl (pieces-grow W P (o .0), o .1)) (λ g. inr (entrances-grow P s (g .0), exits-grow P s (g .1), unstruck-still s (g .2))) (h .covered s i);
     stepped = pieces-grow W P (h .stepped);
   }
 
   accepting-grows : (w : Walk) → Accepting rows w → Accepting rows′ w
-  accepting-grows w h = (h .0, h .1, up _ (h .2), up _ (h .3), h .4)
+  accepting-grows w h =
+      (h .0, h .1, (up .0 _ (h .2 .0), unstruck-still (h .0) (h .2 .1)), (up .0 _ (h .3 .0), unstruck-still (h .1) (h .3 .1)), h .4)
 
   abbrev more : Larger (timelines rows)
   more = record {
@@ -154,3 +163,7 @@ module _ (rows rows′ : List Row) (up : Grows rows rows′) where
 -- the same rows, in whatever order and however often, have the same depths
 pub same-depths : (rows rows′ : List Row) → Grows rows rows′ → Grows rows′ rows → (c : Claim) (k : ℕ) → HoldsAt (timelines rows) c k ↔ HoldsAt (timelines rows′) c k
 same-depths rows rows′ up down c k = (depths-grow rows rows′ up c k, depths-grow rows′ rows down c k)
+
+-- a batch of rows of which none strikes
+pub strikes-nothing : (rows : List Row) → AllFit rows → ((s : ℕ) → ¬ Struck rows s) → StrikesNothing (batch-of rows)
+strikes-nothing rows f n rows′ g e s = subst (λ x. ¬ Struck x s) (batch-apart rows rows′ f g e) (n s)

@@ -6,7 +6,7 @@ use Rattle.lists.specs.Tests.{_among_}
 use Rattle.masks.specs.Mask.{_∈_}
 use Rattle.rows.specs.declared.Row.{Row}
 use Rattle.rows.specs.declared.Row.the-variants.{LeftLimit, RightLimit}
-use Rattle.orderings.specs.Steps.{Claim, loops, mixes, Walk, Leads, Inside, On}
+use Rattle.orderings.specs.Steps.{Claim, loops, mixes, Struck, Walk, Leads, Inside, On}
 
 -- a walk of one or more steps inside P leads from a to b
 abbrev pub Through : (Walk → Type 0) → ℕ → ℕ → ℕ → Type 0
@@ -32,9 +32,9 @@ Piece rows W P = (e : ℕ) × (f : ℕ) × Entrance rows P e × Exit rows P f ×
 abbrev pub OnPiece : List Row → (Walk → Type 0) → ℕ → ℕ → Type 0
 OnPiece rows W P s = (k : Piece rows W P) × On s (k .0) (k .4 .0)
 
--- request C-16: a gap, a state s of P with both rows s → P and P → s, is a piece of no steps
+-- request C-16: a gap, a state s of P with both rows s → P and P → s, is a piece of no steps; request C-18: at a struck state there is none
 abbrev pub Gap : List Row → ℕ → ℕ → Type 0
-Gap rows P s = Entrance rows P s × Exit rows P s
+Gap rows P s = Entrance rows P s × Exit rows P s × ¬ Struck rows s
 
 -- P mixes: every state of P lies on some piece, perhaps one of no steps, and at least one piece has a step
 pub record Mixes (rows : List Row) (W : Walk → Type 0) (P : ℕ) : Type 0 where

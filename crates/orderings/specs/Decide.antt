@@ -1,7 +1,7 @@
 -- Whether a claim holds (`holds?`), and whether a walk leads from an initial to a final state (`accepts?`), computed from the steps that
 -- rows and claims allow (`steps`) and the states that these reach (`reach`). Nothing here has to be believed: proofs/Deciding.
 use Prim.Native.Nat.{ℕ}
-use mathlib.Core.Bool.{Bool, true, false, _&&_, _||_}
+use mathlib.Core.Bool.{Bool, true, false, not, _&&_, _||_}
 use mathlib.Core.Option.{Option, none, some}
 use mathlib.Core.List.{List, [], _∷_, _++_, map}
 use lib.Dec.{eqb}
@@ -10,7 +10,7 @@ use Rattle.lists.specs.Tests.{any, all, put, keep, gather}
 use Rattle.lists.specs.Growing.{grown}
 use Rattle.masks.specs.Mask.{member}
 use Rattle.rows.specs.declared.Row.{Row}
-use Rattle.rows.specs.declared.Row.the-variants.{Initial, Final, Successor, LeftLimit, RightLimit}
+use Rattle.rows.specs.declared.Row.the-variants.{Initial, Final, Successor, LeftLimit, RightLimit, Strike}
 use Rattle.rows.specs.Rows.{standing-sets, stands?}
 use Rattle.orderings.specs.Steps.{Claim, loops, mixes, set-of, Label, letter, ω, back, mix, Step, needs, members, content}
 use Rattle.orderings.specs.Timelines.{same}
@@ -36,14 +36,19 @@ mix-steps P q (Final s) = []
 mix-steps P q (Successor p a r) = []
 mix-steps P q (LeftLimit Q r) = []
 mix-steps P q (RightLimit p Q) = put (eqb P Q) (step p (mix P) q) []
+mix-steps P q (Strike s) = []
 
--- the steps that one row makes possible, a mix step with its row P → q
+-- the steps that one row gives, a mix step with its row P → q
 abbrev pub steps-of : List Row → Row → List Step
 steps-of rows (Initial s) = []
 steps-of rows (Final s) = []
 steps-of rows (Successor p a q) = step p (letter a) q ∷ []
 steps-of rows (LeftLimit P q) = map (λ p. step p (ω P) q) (members P) ++ gather (mix-steps P q) rows
 steps-of rows (RightLimit p P) = map (λ q. step p (back P) q) (members P)
+steps-of rows (Strike s) = []
+
+abbrev pub unstruck? : List Row → ℕ → Bool
+unstruck? rows s = not (stands? (Strike s) rows)
 
 abbrev pub in-force? : List Claim → Option Claim → Bool
 in-force? l none = true
@@ -51,7 +56,7 @@ in-force? l (some c) = claim-in? l c
 
 -- the steps that the rows and the claims of a list allow
 abbrev pub steps : List Row → List Claim → List Step
-steps rows l = keep (λ t. in-force? l (needs (t .label))) (gather (steps-of rows) rows)
+steps rows l = keep (λ t. in-force? l (needs (t .label)) && all (unstruck? rows) (content (t .from) (t .label) (t .to))) (gather (steps-of rows) rows)
 
 -- those inside P
 abbrev pub steps-in : List Row → List Claim → ℕ → List Step
@@ -89,7 +94,7 @@ abbrev pub on-piece? : List Row → List Step → ℕ → ℕ → Bool
 on-piece? rows G P s = any (λ e. any (λ f. between? G e f s) (exits rows P)) (entrances rows P)
 
 abbrev pub gap? : List Row → ℕ → ℕ → Bool
-gap? rows P s = stands? (LeftLimit P s) rows && stands? (RightLimit s P) rows
+gap? rows P s = stands? (LeftLimit P s) rows && stands? (RightLimit s P) rows && unstruck? rows s
 
 abbrev pub mixes? : List Row → List Step → ℕ → Bool
 mixes? rows G P = all (λ s. on-piece? rows G P s || gap? rows P s) (members P) && any (on-piece? rows G P) (members P)
@@ -116,6 +121,7 @@ initial-of (Final s) = []
 initial-of (Successor p a q) = []
 initial-of (LeftLimit P q) = []
 initial-of (RightLimit q P) = []
+initial-of (Strike s) = []
 
 abbrev pub final-of : Row → List ℕ
 final-of (Initial s) = []
@@ -123,12 +129,13 @@ final-of (Final s) = s ∷ []
 final-of (Successor p a q) = []
 final-of (LeftLimit P q) = []
 final-of (RightLimit q P) = []
+final-of (Strike s) = []
 
 abbrev pub initials : List Row → List ℕ
-initials rows = gather initial-of rows
+initials rows = keep (unstruck? rows) (gather initial-of rows)
 
 abbrev pub finals : List Row → List ℕ
-finals rows = gather final-of rows
+finals rows = keep (unstruck? rows) (gather final-of rows)
 
 -- a walk of zero or more steps, with the claims of the list, leads from an initial to a final state
 unfoldable pub accepts? : List Row → List Claim → Bool

@@ -1,4 +1,4 @@
--- Document 01, "Steps and claims": claims, steps with their contents, and walks.
+-- Document 01, "Steps and claims", with request C-18 of struck states: claims, steps with their contents, and walks.
 use Prim.Native.Nat.{ℕ}
 use mathlib.Core.Path.{_≡_}
 use mathlib.Core.Logic.{_⊎_}
@@ -7,7 +7,7 @@ use mathlib.Core.List.{List, [], _∷_}
 use Rattle.lists.specs.Tests.{_among_, keep, range}
 use Rattle.masks.specs.Mask.{member, _∈_}
 use Rattle.rows.specs.declared.Row.{Row}
-use Rattle.rows.specs.declared.Row.the-variants.{Successor, LeftLimit, RightLimit}
+use Rattle.rows.specs.declared.Row.the-variants.{Successor, LeftLimit, RightLimit, Strike}
 
 -- "P loops", "P mixes"
 pub data Claim : Type 0 where
@@ -30,11 +30,11 @@ pub record Step : Type 0 where
   pub to : ℕ
 
 -- what a step from p to q asks of the standing rows
-abbrev pub Possible : List Row → ℕ → Label → ℕ → Type 0
-Possible rows p (letter a) q = Successor p a q among rows
-Possible rows p (ω P) q = LeftLimit P q among rows × (p ∈ P)
-Possible rows p (back P) q = RightLimit p P among rows × (q ∈ P)
-Possible rows p (mix P) q = RightLimit p P among rows × LeftLimit P q among rows
+abbrev pub HasRows : List Row → ℕ → Label → ℕ → Type 0
+HasRows rows p (letter a) q = Successor p a q among rows
+HasRows rows p (ω P) q = LeftLimit P q among rows × (p ∈ P)
+HasRows rows p (back P) q = RightLimit p P among rows × (q ∈ P)
+HasRows rows p (mix P) q = RightLimit p P among rows × LeftLimit P q among rows
 
 -- the claim that a step needs
 abbrev pub needs : Label → Option Claim
@@ -53,6 +53,18 @@ content p (letter a) q = p ∷ q ∷ []
 content p (ω P) q = q ∷ members P
 content p (back P) q = p ∷ members P
 content p (mix P) q = q ∷ p ∷ members P
+
+-- request C-18: a row of kind 6 with a state strikes it
+abbrev pub Struck : List Row → ℕ → Type 0
+Struck rows s = Strike s among rows
+
+-- none of the states is struck
+abbrev pub Unstruck : List Row → List ℕ → Type 0
+Unstruck rows l = (s : ℕ) → s among l → ¬ Struck rows s
+
+-- the step exists: a step whose content holds a struck state doesn't
+abbrev pub Possible : List Row → ℕ → Label → ℕ → Type 0
+Possible rows p l q = HasRows rows p l q × Unstruck rows (content p l q)
 
 -- a walk is a list of steps
 abbrev pub Walk : Type 0

@@ -11,19 +11,24 @@ pub const LABEL: u64 = 2;
 pub const TO: u64 = 3;
 
 // The rows stand on the first lines, the steps on those after them.
-pub const ROWS: u64 = 80;
+pub const ROWS: u64 = 82;
 
-pub const LINES: u64 = 1100;
+pub const LINES: u64 = 1102;
 
 // Where the sets stand, and the rounds of their loops and of their mixes.
-pub const SETS: u64 = 4400;
+pub const SETS: u64 = 4408;
 
-pub const LOOPS: u64 = 4432;
+pub const LOOPS: u64 = 4440;
 
-pub const MIXES: u64 = 4464;
+pub const MIXES: u64 = 4472;
 
 // Where 1 stands once a set mixed only with its gaps.
-pub const BY_GAP: u64 = 4496;
+pub const BY_GAP: u64 = 4504;
+
+// The struck states, and where 1 stands once they took a step away.
+pub const STRUCK: u64 = 4505;
+
+pub const BY_STRIKE: u64 = 4506;
 
 // What stands at `base` and `i` more.
 pub fn at(cells: &[u64], base: u64, i: u64) -> u64 {
@@ -54,6 +59,16 @@ pub struct Line {
     pub from: u64,
     pub label: u64,
     pub to: u64,
+}
+
+// Reads a line.
+pub fn get_line(table: &[u64], n: u64) -> Line {
+    Line {
+        kind: cell(table, n, KIND),
+        from: cell(table, n, FROM),
+        label: cell(table, n, LABEL),
+        to: cell(table, n, TO),
+    }
 }
 
 // Writes a line.

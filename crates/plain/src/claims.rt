@@ -1,24 +1,14 @@
 // Does a set loop, does it mix, by the steps of the table? Walks inside the set are 64 cells, a set of targets for each state.
 use crate::cells;
 use crate::reader::row_set;
-
-// The content of a step: its ends and, unless it is a letter step, its set.
-fn content(table: &[u64], n: u64) -> u64 {
-    let from = cells::cell(table, n, cells::FROM);
-    let to = cells::cell(table, n, cells::TO);
-    let ends = cells::with(cells::with(0, from), to);
-    if cells::cell(table, n, cells::KIND) == 1 {
-        return ends;
-    }
-    cells::cell(table, n, cells::LABEL) | ends
-}
+use crate::steps::content;
 
 // The steps inside `p`.
 fn link_steps(table: &[u64], p: u64, links: &mut [u64]) {
     let mut n = cells::ROWS;
     while n < cells::LINES && cells::cell(table, n, cells::KIND) != 0 {
         let s = cells::cell(table, n, cells::FROM);
-        let to = if cells::is_inside(content(table, n), p) {
+        let to = if cells::is_inside(content(cells::get_line(table, n)), p) {
             cells::with(0, cells::cell(table, n, cells::TO))
         } else {
             0
@@ -114,6 +104,11 @@ pub struct Claims {
     pub by_gap: bool,
 }
 
+// The gaps of P: entrances that are exits too, and are not struck.
+fn gaps(table: &[u64], entrances: u64, exits: u64) -> u64 {
+    entrances & exits & !cells::at(table, cells::STRUCK, 0)
+}
+
 // P loops: walks inside P lead from each state of P to each. P mixes: every state of P lies on some piece, those of no steps among them,
 // and some piece has a step.
 pub fn of_set(table: &[u64], p: u64) -> Claims {
@@ -123,7 +118,7 @@ pub fn of_set(table: &[u64], p: u64) -> Claims {
     let entrances = gates(table, 4, p);
     let exits = gates(table, 5, p);
     let on = on_pieces(&links, p, entrances, exits);
-    let mixes = on != 0 && cells::is_inside(p, on | (entrances & exits));
+    let mixes = on != 0 && cells::is_inside(p, on | gaps(table, entrances, exits));
     Claims {
         loops: is_linked(&links, p),
         mixes,

@@ -1,10 +1,11 @@
 // A second search, written plainly from document 01 so that the engine can be run against it. It shares no code with the engine.
 // Nothing is promised of what it writes: each function is proved to stay in bounds and to end, and the sheets are compared.
-// Its limits: 80 rows, 32 sets, of refusals those of single rows.
+// Its limits: 82 rows, 32 sets, of refusals those of single rows.
 //
-// One table of cells holds all. Lines of four cells, kind, from, label and to: the rows on lines 0 to 79, with the set of a limit as
-// label; the steps on lines 80 to 1,099, kind 1 letter, 2 omega, 3 back, 4 mix. Then 32 cells for the sets, 32 for the rounds in which
-// their loops opened and 32 for those of their mixes, 0 for not open; and one that says whether a set mixed only with its gaps.
+// One table of cells holds all. Lines of four cells, kind, from, label and to: the rows on lines 0 to 81, with the set of a limit as
+// label; the steps on lines 82 to 1,101, kind 1 letter, 2 omega, 3 back, 4 mix. Then 32 cells for the sets, 32 for the rounds in which
+// their loops opened and 32 for those of their mixes, 0 for not open; one that says whether a set mixed only with its gaps; the set of the
+// struck states, and one that says whether they took a step away.
 mod cells;
 mod claims;
 mod reader;
@@ -13,10 +14,11 @@ mod steps;
 mod text;
 mod walk;
 
-// The length of what was written, and whether a set mixed only with its gaps.
+// The length of what was written, whether a set mixed only with its gaps, and whether struck states took a step away.
 pub struct Written {
     pub length: usize,
     pub by_gap: bool,
+    pub by_strike: bool,
 }
 
 // Writes the sheet of the batch's rows into `out`, or the line of its refusal.
@@ -27,19 +29,22 @@ pub fn sheet(batch: &[u8], out: &mut [u8]) -> Written {
         return Written {
             length,
             by_gap: false,
+            by_strike: false,
         };
     }
     settled(batch, out)
 }
 
 fn settled(batch: &[u8], out: &mut [u8]) -> Written {
-    let mut table = [0u64; 4497];
+    let mut table = [0u64; 4507];
     reader::read_rows(batch, &mut table);
     reader::collect_sets(&mut table);
+    reader::collect_strikes(&mut table);
     let verdict = settling::settle(&mut table);
     Written {
         length: report(&table, verdict, out),
         by_gap: cells::at(&table, cells::BY_GAP, 0) == 1,
+        by_strike: cells::at(&table, cells::BY_STRIKE, 0) == 1,
     }
 }
 

@@ -31,6 +31,7 @@ fn row_length(kind: u64) -> usize {
         3 => 4,
         4 => 10,
         5 => 10,
+        6 => 2,
         _ => 0,
     }
 }
@@ -86,7 +87,7 @@ fn content_cause(batch: &[u8], place: usize, kind: u64) -> u64 {
     if states_of(batch, place, kind) > 63 {
         return 4;
     }
-    if kind > 3 {
+    if kind == 4 || kind == 5 {
         if label_of(batch, place, kind) == 0 {
             return 5;
         }
@@ -163,6 +164,25 @@ fn keep_set(table: &mut [u64], set: u64) {
         carried = keep_at(table, i, carried);
         i += 1;
     }
+}
+
+// The states that rows of this kind name: 1 initial, 2 final, 6 struck.
+pub fn named(table: &[u64], kind: u64) -> u64 {
+    let mut found = 0;
+    let mut n = 0;
+    while n < cells::ROWS {
+        if cells::cell(table, n, cells::KIND) == kind {
+            found = cells::with(found, cells::cell(table, n, cells::FROM));
+        }
+        n += 1;
+    }
+    found
+}
+
+// The struck states.
+pub fn collect_strikes(table: &mut [u64]) {
+    let struck = named(table, 6);
+    cells::put(table, cells::STRUCK, 0, struck);
 }
 
 // The sets of the rows, rising, and zeros after them.

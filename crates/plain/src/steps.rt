@@ -2,6 +2,7 @@
 use crate::cells;
 use crate::cells::Line;
 use crate::reader::row_set;
+use std::num::wrapping_add_u64;
 
 // No step.
 fn none() -> Line {
@@ -84,15 +85,42 @@ fn mix_of(table: &[u64], label: u64, right: u64, left: u64) -> Line {
     }
 }
 
-// Puts a step on line `n`, and answers the next line; no step is not put.
+// The content of a step: its ends and, unless it is a letter step, its set.
+pub fn content(step: Line) -> u64 {
+    let ends = cells::with(cells::with(0, step.from), step.to);
+    if step.kind == 1 {
+        return ends;
+    }
+    step.label | ends
+}
+
+// Does the step's content hold a struck state?
+fn is_struck(table: &[u64], step: Line) -> bool {
+    content(step) & cells::at(table, cells::STRUCK, 0) != 0
+}
+
+// Keeps that a step was struck.
+fn keep_strike(table: &mut [u64]) {
+    cells::put(table, cells::BY_STRIKE, 0, 1);
+}
+
+// Puts a step on line `n`, and answers the next line; no step is not put, nor is one that is struck.
 fn add_step(table: &mut [u64], n: u64, step: Line) -> u64 {
     if n < cells::LINES {
         if step.kind != 0 {
-            cells::put_line(table, n, step);
-            return n + 1;
+            return add_unstruck(table, n, step);
         }
     }
     n
+}
+
+fn add_unstruck(table: &mut [u64], n: u64, step: Line) -> u64 {
+    if is_struck(table, step) {
+        keep_strike(table);
+        return n;
+    }
+    cells::put_line(table, n, step);
+    wrapping_add_u64(n, 1)
 }
 
 // The omega or back steps of a row, one for each state of its set, where that loops.

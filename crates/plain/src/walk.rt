@@ -1,18 +1,11 @@
 // The states from which so many steps lead to a final state, and the walk of a sheet.
 use crate::cells;
+use crate::reader;
 use crate::text;
 
-// The states with a row of this kind: 1 initial, 2 final.
+// The states with a row of this kind, 1 initial, 2 final, that are not struck.
 fn marked(table: &[u64], kind: u64) -> u64 {
-    let mut found = 0;
-    let mut n = 0;
-    while n < cells::ROWS {
-        if cells::cell(table, n, cells::KIND) == kind {
-            found = cells::with(found, cells::cell(table, n, cells::FROM));
-        }
-        n += 1;
-    }
-    found
+    reader::named(table, kind) & !cells::at(table, cells::STRUCK, 0)
 }
 
 // The states of `near`, and those from which a step leads into it.

@@ -59,7 +59,7 @@ fn put_set(batch: &mut [u8], place: usize, set: u64) -> usize {
     end
 }
 
-// A row of kind 1 or 2.
+// A row of kind 1, 2 or 6.
 fn put_mark(batch: &mut [u8], place: usize, kind: u64, s: u64, names: u64) -> usize {
     let state = put(batch, place, kind);
     put_state(batch, state, s, names)
@@ -310,7 +310,28 @@ fn put_marks(
     put_mark(batch, other, 2, choice(word, 2, states), names)
 }
 
-// A path of fewer than `room` steps from `middle` to a final state, and the marks.
+// How many states are struck: in a third of the automata one to three.
+fn strikes(word: u64) -> u64 {
+    if choice(word, 0, 3) == 0 {
+        return wrapping_add_u64(1, choice(word, 1, 3));
+    }
+    0
+}
+
+// The rows that strike states.
+fn put_strikes(batch: &mut [u8], place: usize, start: u64, states: u64, names: u64) -> usize {
+    let mut end = place;
+    let mut word = start;
+    let mut left = strikes(start);
+    while left > 0 {
+        end = put_mark(batch, end, 6, choice(word, 2, states), names);
+        word = next(word);
+        left -= 1;
+    }
+    end
+}
+
+// A path of fewer than `room` steps from `middle` to a final state, the marks, and what is struck.
 fn put_end(
     batch: &mut [u8],
     place: usize,
@@ -332,7 +353,7 @@ fn put_end(
         choice(word, 4, room),
         names,
     );
-    put_marks(
+    let end = put_marks(
         batch,
         path.end,
         next(word ^ 2),
@@ -340,10 +361,11 @@ fn put_end(
         from,
         path.last,
         names,
-    )
+    );
+    put_strikes(batch, end, next(word ^ 4), states, names)
 }
 
-// Writes the batch of an automaton and answers its length: 3 to 16 states, fewer floors, at most 30 sets and 60 + 15 + 4 rows.
+// Writes the batch of an automaton and answers its length: 3 to 16 states, fewer floors, at most 30 sets and 60 + 15 + 4 + 3 rows.
 pub fn automaton(word: u64, batch: &mut [u8]) -> usize {
     let names = next(word ^ 3);
     let states = wrapping_add_u64(3, choice(word, 0, 14));

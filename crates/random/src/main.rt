@@ -7,8 +7,8 @@ mod tally;
 
 use program_output::first;
 
-// What the engine makes of one batch against what the plain search makes of the other; says whether that met a gap.
-fn try_pair(batch: &[u8], other: &[u8], told: usize, counts: &mut [u64]) -> bool {
+// What the engine makes of one batch against what the plain search makes of the other, and what that met.
+fn try_pair(batch: &[u8], other: &[u8], told: usize, counts: &mut [u64]) -> plain::Written {
     let shown = checker::shown(batch);
     let ours = shown.text;
     let mut theirs = [0u8; 6400];
@@ -20,13 +20,14 @@ fn try_pair(batch: &[u8], other: &[u8], told: usize, counts: &mut [u64]) -> bool
         told,
         counts,
     );
-    sheet.by_gap
+    sheet
 }
 
 // Tries one batch; and of some also that it is told from the same batch without its last row.
 fn try_batch(batch: &[u8], turn: u64, counts: &mut [u64]) {
-    let by_gap = try_pair(batch, batch, tally::DIFFERENT, counts);
-    tally::count_gap(counts, by_gap);
+    let sheet = try_pair(batch, batch, tally::DIFFERENT, counts);
+    tally::count_gap(counts, sheet.by_gap);
+    tally::count_strike(counts, sheet.by_strike);
     if turn % 64 == 0 {
         let n = std::num::wrapping_sub_usize(batch.len(), 2);
         try_pair(batch, first(batch, n), tally::TOLD, counts);

@@ -1,5 +1,6 @@
 // Comparing sheets, and counting what they say. The counts: from 0 on the non-empty by rounds, from 40 on the empty, from 80 on the
-// refused by number; then those repeated, different, pairs of different batches, those of them that were told different, and those with a gap.
+// refused by number; then those repeated, different, pairs of different batches, those of them that were told different, those with a gap, and those
+// with a strike.
 use program_output::say;
 use program_output::say_count;
 
@@ -19,6 +20,8 @@ const PAIRS: usize = 92;
 pub const TOLD: usize = 93;
 
 const GAPS: usize = 94;
+
+const STRIKES: usize = 95;
 
 // The byte at `i`, 0 past the end.
 pub fn byte(text: &[u8], i: usize) -> u8 {
@@ -86,6 +89,13 @@ pub fn count_gap(counts: &mut [u64], by_gap: bool) {
     }
 }
 
+// Counts a batch in which struck states took a step away.
+pub fn count_strike(counts: &mut [u64], by_strike: bool) {
+    if by_strike {
+        add(counts, STRIKES);
+    }
+}
+
 fn report_line(counts: &[u64], word: &[u8], k: usize, at: usize) {
     let n = get(counts, at);
     if n > 0 {
@@ -127,6 +137,10 @@ pub fn report(counts: &[u64]) {
     say_count(
         b"with a set that mixes only with its gaps: ",
         get(counts, GAPS),
+    );
+    say_count(
+        b"with a step that struck states take away: ",
+        get(counts, STRIKES),
     );
     say_count(b"different: ", get(counts, DIFFERENT));
     say_count(b"pairs of different batches: ", get(counts, PAIRS));

@@ -1,5 +1,5 @@
 -- A batch does what its rows do one after another; in the terms of a loop that keeps the place `at` and the state too.
--- Main laws `feed-batch`, `feed-runs`, `feed-fails`; for the loop `feed-end`, `feed-bad`, `feed-stop`, `feed-go`.
+-- Main laws `feed-batch`, `feed-runs`, `feed-fails`, `batch-apart`; for the loop `feed-end`, `feed-bad`, `feed-stop`, `feed-go`.
 use Prim.Native.Nat.{ℕ, zero, suc, _+_, _-_, _<_, _≤_}
 use mathlib.Core.Path.{_≡_, refl, ap, sym, _∙_, subst}
 use mathlib.Core.Logic.{_⊎_, inl, inr, ⊎-elim, _↔_}
@@ -191,3 +191,20 @@ module _ {S : Type 0} (rule : Row → S → Turn S) where
         ∙ (feed-cause (0 + length (batch-of (o .rows))) (o .state) (o .rest) n (o .more) (o .cause)
         ∙ ap (failed n) (omega (arith, o .first-byte)))),
   )
+
+-- ---- a batch has its rows alone
+
+abbrev collect : Row → List Row → Turn (List Row)
+collect r s = go (s ++ (r ∷ []))
+
+collected : (s rows : List Row) → run-rows collect s rows ≡ go (s ++ rows)
+collected s [] = ap go (sym (append-nil s))
+collected s (r ∷ rows) = collected (s ++ (r ∷ [])) rows ∙ ap go (append-assoc s (r ∷ []) rows)
+
+-- rows that fit have their bytes, and no other rows have them
+pub batch-apart : (rows rows′ : List Row) → AllFit rows → AllFit rows′ → batch-of rows ≡ batch-of rows′ → rows ≡ rows′
+batch-apart rows rows′ f g e =
+    let a = feed-batch collect [] rows f rows (collected [] rows) in
+    let b = feed-batch collect [] rows′ g rows′ (collected [] rows′) in
+    let c : fed rows ≡ fed rows′ = sym a ∙ ap (feed collect []) e ∙ b in
+    cc c

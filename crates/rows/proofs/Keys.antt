@@ -10,7 +10,7 @@ use native.Mathlib.Decide.{decLt, ℕ-discrete}
 use borrow.Author.Tests.{ne-eqb}
 use Rattle.lists.specs.Order.{before}
 use Rattle.rows.specs.declared.Row.{Row}
-use Rattle.rows.specs.declared.Row.the-variants.{Initial, Final, Successor, LeftLimit, RightLimit}
+use Rattle.rows.specs.declared.Row.the-variants.{Initial, Final, Successor, LeftLimit, RightLimit, Strike}
 use Rattle.rows.specs.Rows.{row-bytes, Fits, Bytes}
 use Rattle.rows.specs.Reading.{number, width}
 use Rattle.sorted_keys.specs.Keys.{key-less}
@@ -45,6 +45,10 @@ key-back (RightLimit q P) f =
     let e : (5 * 256 ^ 7 + q * 256 ^ 6 + P / 65536) / 256 ^ 6 % 256 ≡ q = omega arith in
     let e′ : (5 * 256 ^ 7 + q * 256 ^ 6 + P / 65536) % 256 ^ 6 * 65536 + P % 65536 % 65536 ≡ P = omega arith in
     rw (k, e, e′)
+key-back (Strike s) f =
+    let k : (6 * 256 ^ 7 + s * 256 ^ 6) / 256 ^ 7 ≡ 6 = omega arith in
+    let e : (6 * 256 ^ 7 + s * 256 ^ 6) / 256 ^ 6 % 256 ≡ s = omega arith in
+    rw (k, e)
 
 -- rows that fit and have one key are one row
 pub key-apart : (r s : Row) → Fits r → Fits s → high r ≡ high s → low r ≡ low s → r ≡ s
@@ -66,6 +70,7 @@ length-of (Final s) = refl
 length-of (Successor p a q) = refl
 length-of (LeftLimit P q) = refl
 length-of (RightLimit q P) = refl
+length-of (Strike s) = refl
 
 -- rows of one kind are filled alike
 fill-alike : (r s : Row) → getD (row-bytes r) 0 0 ≡ getD (row-bytes s) 0 0 → (length (row-bytes r) ≡ length (row-bytes s)) × (fill r ≡ fill s)
@@ -105,6 +110,7 @@ ten (LeftLimit P q) f = let w = left-words _ _ _ _ _ _ _ (P / 256 ^ 0 % 256) P q
     record { first = refl; last = refl; first-is = w .0; last-is = w .1 }
 ten (RightLimit q P) f = let w = right-words _ _ _ _ _ _ (P / 256 ^ 1 % 256) (P / 256 ^ 0 % 256) P q (omega arith) (omega arith) (eight P (f .1)) in
     record { first = refl; last = refl; first-is = w .0; last-is = w .1 }
+ten (Strike s) f = record { first = refl; last = refl; first-is = omega arith; last-is = omega arith }
 
 -- rows come in the order of their keys
 pub key-order : (r s : Row) → Fits r → Fits s → before (row-bytes r) (row-bytes s) ≡ key-less (high r) (low r) (high s) (low s)
@@ -122,15 +128,16 @@ letter-from h k l = rw k
 
 letter-kind : (h : ℕ) {p x t : ℕ} → row-from h 0 ≡ Successor p x t → h / 256 ^ 7 ≡ 3
 unfolding row-from
-letter-kind h e = by (ℕ-discrete (h / 256 ^ 7) 1) (ℕ-discrete (h / 256 ^ 7) 2) (ℕ-discrete (h / 256 ^ 7) 3) (ℕ-discrete (h / 256 ^ 7) 4)
+letter-kind h e = by (ℕ-discrete (h / 256 ^ 7) 1) (ℕ-discrete (h / 256 ^ 7) 2) (ℕ-discrete (h / 256 ^ 7) 3) (ℕ-discrete (h / 256 ^ 7) 4) (ℕ-discrete (h / 256 ^ 7) 5)
   where
-    by : Dec (h / 256 ^ 7 ≡ 1) → Dec (h / 256 ^ 7 ≡ 2) → Dec (h / 256 ^ 7 ≡ 3) → Dec (h / 256 ^ 7 ≡ 4) → h / 256 ^ 7 ≡ 3
-    by a b (yes k) d = k
-    by (yes k) b (no c) d = let f = rw k at e in let z : _≡_ {A = ℕ} 0 1 = cc in absurd (omega arith)
-    by (no a) (yes k) (no c) d = let f = rw k at e in let z : _≡_ {A = ℕ} 0 1 = cc in absurd (omega arith)
-    by (no a) (no b) (no c) (yes k) = let f = rw k at e in let z : _≡_ {A = ℕ} 0 1 = cc in absurd (omega arith)
-    by (no a) (no b) (no c) (no d) =
-        let f = rw (ne-eqb _ _ a, ne-eqb _ _ b, ne-eqb _ _ c, ne-eqb _ _ d) at e in let z : _≡_ {A = ℕ} 0 1 = cc in absurd (omega arith)
+    by : Dec (h / 256 ^ 7 ≡ 1) → Dec (h / 256 ^ 7 ≡ 2) → Dec (h / 256 ^ 7 ≡ 3) → Dec (h / 256 ^ 7 ≡ 4) → Dec (h / 256 ^ 7 ≡ 5) → h / 256 ^ 7 ≡ 3
+    by a b (yes k) d g = k
+    by (yes k) b (no c) d g = let f = rw k at e in let z : _≡_ {A = ℕ} 0 1 = cc in absurd (omega arith)
+    by (no a) (yes k) (no c) d g = let f = rw k at e in let z : _≡_ {A = ℕ} 0 1 = cc in absurd (omega arith)
+    by (no a) (no b) (no c) (yes k) g = let f = rw k at e in let z : _≡_ {A = ℕ} 0 1 = cc in absurd (omega arith)
+    by (no a) (no b) (no c) (no d) (yes k) = let f = rw k at e in let z : _≡_ {A = ℕ} 0 1 = cc in absurd (omega arith)
+    by (no a) (no b) (no c) (no d) (no g) =
+        let f = rw (ne-eqb _ _ a, ne-eqb _ _ b, ne-eqb _ _ c, ne-eqb _ _ d, ne-eqb _ _ g) at e in let z : _≡_ {A = ℕ} 0 1 = cc in absurd (omega arith)
 
 -- the first four bytes
 letter-words : (h : ℕ) {p x t : ℕ} → row-from h 0 ≡ Successor p x t

@@ -14,11 +14,11 @@ use native.Mathlib.Numerals.{add-one}
 use Rattle.lists.specs.Tests.{Decides, _among_, any}
 use Rattle.lists.proofs.Deciding.{so, eqb·, ltb·, leb·, and·, any·, yes·, no·}
 use Rattle.rows.specs.declared.Row.{Row}
-use Rattle.rows.specs.declared.Row.the-variants.{Initial, Final, Successor, LeftLimit, RightLimit}
+use Rattle.rows.specs.declared.Row.the-variants.{Initial, Final, Successor, LeftLimit, RightLimit, Strike}
 use Rattle.rows.specs.declared.ReadRow.{ReadRow}
 use Rattle.rows.specs.declared.ReadRow.the-variants.{Read, Refused}
 use Rattle.rows.specs.Rows.{big, row-bytes, Fits, Bytes}
-use Rattle.rows.specs.Reading.{number, set-at, row-at, row-cause, read-row, Known, width, state-places, set-places, Malformed, unknown-kind, cut-short, high-state, zero-set, Headed}
+use Rattle.rows.specs.Reading.{number, set-at, row-at, row-cause, read-row, last-kind, Known, width, state-places, set-places, Malformed, unknown-kind, cut-short, high-state, zero-set, Headed}
 
 -- without one byte more
 high : (x n : ℕ) → x / 256 ^ suc n ≡ x / 256 ^ n / 256
@@ -117,6 +117,7 @@ some-bytes (Final s) = omega arith
 some-bytes (Successor p a q) = omega arith
 some-bytes (LeftLimit P q) = omega arith
 some-bytes (RightLimit q P) = omega arith
+some-bytes (Strike s) = omega arith
 
 pub row-short : (r : Row) → length (row-bytes r) ≤ 10
 unfolding row-bytes
@@ -125,6 +126,7 @@ row-short (Final s) = omega arith
 row-short (Successor p a q) = omega arith
 row-short (LeftLimit P q) = omega arith
 row-short (RightLimit q P) = omega arith
+row-short (Strike s) = omega arith
 
 -- what holds of both branches, each with its test, holds of the cond
 cond-ok : {A : Type 0} (Q : A → Type 0) {b : Bool} {B : Type 0} {x y : A} → Decides b B → (B → Q x) → (¬ B → Q y) → Q (cond b x y)
@@ -141,17 +143,18 @@ cond-no : {A : Type 0} {b : Bool} {B : Type 0} (x : A) {y z : A} → Decides b B
 cond-no x {z = z} d n e = cond-ok (λ a. a ≡ z) d (λ h. absurd (n h)) (λ n. e)
 
 -- what holds of each kind holds of a known kind
-pub by-kind : (Q : ℕ → Type 0) → Q 1 → Q 2 → Q 3 → Q 4 → Q 5 → (k : ℕ) → Known k → Q k
-by-kind Q a b c d e zero h = absurd (omega arith)
-by-kind Q a b c d e (suc zero) h = a
-by-kind Q a b c d e (suc (suc zero)) h = b
-by-kind Q a b c d e (suc (suc (suc zero))) h = c
-by-kind Q a b c d e (suc (suc (suc (suc zero)))) h = d
-by-kind Q a b c d e (suc (suc (suc (suc (suc zero))))) h = e
-by-kind Q a b c d e (suc (suc (suc (suc (suc (suc k)))))) h = absurd (omega arith)
+pub by-kind : (Q : ℕ → Type 0) → Q 1 → Q 2 → Q 3 → Q 4 → Q 5 → Q 6 → (k : ℕ) → Known k → Q k
+by-kind Q a b c d e f zero h = absurd (omega arith)
+by-kind Q a b c d e f (suc zero) h = a
+by-kind Q a b c d e f (suc (suc zero)) h = b
+by-kind Q a b c d e f (suc (suc (suc zero))) h = c
+by-kind Q a b c d e f (suc (suc (suc (suc zero)))) h = d
+by-kind Q a b c d e f (suc (suc (suc (suc (suc zero))))) h = e
+by-kind Q a b c d e f (suc (suc (suc (suc (suc (suc zero)))))) h = f
+by-kind Q a b c d e f (suc (suc (suc (suc (suc (suc (suc k))))))) h = absurd (omega arith)
 
-known· : (k : ℕ) → Decides (ltb 0 k && leb k 5) (Known k)
-known· k = and· (ltb· 0 k) (leb· k 5)
+known· : (k : ℕ) → Decides (ltb 0 k && leb k last-kind) (Known k)
+known· k = and· (ltb· 0 k) (leb· k last-kind)
 
 high· : (k : ℕ) (l : List ℕ) → Decides (any (λ i. ltb 63 (getD l i 0)) (state-places k)) ((i : ℕ) × i among state-places k × (63 < getD l i 0))
 high· k l = any· (λ i. ltb· 63 (getD l i 0)) (state-places k)
@@ -258,6 +261,8 @@ read-back (RightLimit q P) tail f =
       some = only (λ j. ¬ (set-at (5 ∷ l) j ≡ 0)) 2 (λ z. omega (arith, e, z));
     })
     ∙ ap (λ (Q : ℕ). Read (RightLimit q Q) 10) e
+read-back (Strike s) tail f =
+    read-sound 6 (s ∷ tail) (omega arith) (record { whole = omega arith; low = only (λ i. getD (6 ∷ s ∷ tail) i 0 ≤ 63) 1 (omega arith); some = λ j m. absurd (List·Memᴰ·not-nil m) })
 
 -- what was read, or why not
 abbrev Right : List ℕ → ReadRow → Type 0
@@ -337,10 +342,11 @@ fits-at l h = by-kind (λ k. Sound k l → Fits (row-at k l))
     (λ s. omega (arith, s .low 1 (List·Memᴰ·head refl), byte-at l 2 h, s .low 3 (List·Memᴰ·tail (List·Memᴰ·head refl))))
     (λ s. omega (arith, s .some 1 (List·Memᴰ·head refl), set-below l 1 h (omega (arith, s .whole)), s .low 9 (List·Memᴰ·head refl)))
     (λ s. omega (arith, s .some 2 (List·Memᴰ·head refl), set-below l 2 h (omega (arith, s .whole)), s .low 1 (List·Memᴰ·head refl)))
+    (λ s. omega (arith, s .low 1 (List·Memᴰ·head refl)))
 
 pub size-at : (l : List ℕ) (k : ℕ) → Known k → length (row-bytes (row-at k l)) ≡ width k
 unfolding row-bytes row-at
-size-at l = by-kind (λ k. length (row-bytes (row-at k l)) ≡ width k) refl refl refl refl refl
+size-at l = by-kind (λ k. length (row-bytes (row-at k l)) ≡ width k) refl refl refl refl refl refl
 
 split-at : (l : List ℕ) → Bytes l → (k : ℕ) → Known k → getD l 0 0 ≡ k → width k ≤ length l → l ≡ row-bytes (row-at k l) ++ drop (width k) l
 unfolding row-bytes row-at
@@ -350,6 +356,7 @@ split-at l h = by-kind (λ k. getD l 0 0 ≡ k → width k ≤ length l → l �
     (λ e w. cc (byte 0 (omega arith), byte 1 (omega arith), byte 2 (omega arith), byte 3 (omega arith)))
     (λ e w. cc (byte 0 (omega arith), set-split l 1 h (omega arith), byte 9 (omega arith)))
     (λ e w. cc (byte 0 (omega arith), byte 1 (omega arith), set-split l 2 h (omega arith)))
+    (λ e w. cc (byte 0 (omega arith), byte 1 (omega arith)))
   where
     byte : (i : ℕ) → i < length l → drop i l ≡ getD l i 0 ∷ drop (suc i) l
     byte i w = drop-cons l i 0 w
@@ -392,6 +399,7 @@ row-bytes-are-bytes (Final s) f = byte-and (omega arith) (byte-and (omega arith)
 row-bytes-are-bytes (Successor p a q) f = byte-and (omega arith) (byte-and (omega arith) (byte-and (f .1) (byte-and (omega arith) no-bytes)))
 row-bytes-are-bytes (LeftLimit P q) f = byte-and (omega arith) (bytes-append (big 8 P) (q ∷ []) (big-bytes 8 P) (byte-and (omega arith) no-bytes))
 row-bytes-are-bytes (RightLimit q P) f = byte-and (omega arith) (byte-and (omega arith) (big-bytes 8 P))
+row-bytes-are-bytes (Strike s) f = byte-and (omega arith) (byte-and (omega arith) no-bytes)
 
 -- rows that fit and have the same bytes are one row
 pub bytes-apart : (r s : Row) → Fits r → Fits s → row-bytes r ≡ row-bytes s → r ≡ s

@@ -8,7 +8,7 @@ use lib.ListN.{getD}
 use Rattle.lists.specs.Tests.{Decides, _among_}
 use Rattle.lists.proofs.Deciding.{iff·, and·, eqb·, has·}
 use Rattle.rows.specs.declared.Row.{Row}
-use Rattle.rows.specs.declared.Row.the-variants.{Initial, Final, Successor, LeftLimit, RightLimit}
+use Rattle.rows.specs.declared.Row.the-variants.{Initial, Final, Successor, LeftLimit, RightLimit, Strike}
 use Rattle.rows.specs.Rows.{numbers, same-numbers, same-row, stands?}
 
 same-numbers· : (l m : List ℕ) → Decides (same-numbers l m) (l ≡ m)
@@ -23,7 +23,8 @@ row-of k l = cond (eqb k 1) (Initial (getD l 1 0))
     (cond (eqb k 2) (Final (getD l 1 0))
     (cond (eqb k 3) (Successor (getD l 1 0) (getD l 2 0) (getD l 3 0))
     (cond (eqb k 4) (LeftLimit (getD l 1 0) (getD l 2 0))
-    (RightLimit (getD l 1 0) (getD l 2 0)))))
+    (cond (eqb k 5) (RightLimit (getD l 1 0) (getD l 2 0))
+    (Strike (getD l 1 0))))))
 
 abbrev back : List ℕ → Row
 back l = row-of (getD l 0 0) l
@@ -34,6 +35,7 @@ numbers-back (Final s) = refl
 numbers-back (Successor p a q) = refl
 numbers-back (LeftLimit P q) = refl
 numbers-back (RightLimit q P) = refl
+numbers-back (Strike s) = refl
 
 pub same-row· : (r s : Row) → Decides (same-row r s) (r ≡ s)
 unfolding same-row

@@ -16,7 +16,7 @@ use Rattle.lists.proofs.Places.{held-at, held-place, rising}
 use Rattle.lists.proofs.Sorting.{insert-iff, insert-sorted, insert-once, sorted-same}
 use Rattle.sorted_keys.specs.Keys.{Rising}
 use Rattle.rows.specs.declared.Row.{Row}
-use Rattle.rows.specs.declared.Row.the-variants.{Initial, Final, Successor, LeftLimit, RightLimit}
+use Rattle.rows.specs.declared.Row.the-variants.{Initial, Final, Successor, LeftLimit, RightLimit, Strike}
 use Rattle.rows.specs.Rows.{Fits, AllFit, sets-of, SetOf, add-new, distinct, standing-sets}
 
 abbrev key : ℕ → List ℕ
@@ -81,6 +81,7 @@ set-fits rows f P h = by (h .0) (f (h .0) (h .1)) (h .2)
     by (Successor p a q) g m = absurd (List·Memᴰ·not-nil m)
     by (LeftLimit Q q) g m = rw (List·Memᴰ·eq-of-singleton m) (g .1)
     by (RightLimit q Q) g m = rw (List·Memᴰ·eq-of-singleton m) (g .1)
+    by (Strike s) g m = absurd (List·Memᴰ·not-nil m)
 
 sets-part : (rows rows′ : List Row) → rows part-of rows′ → standing-sets rows part-of standing-sets rows′
 sets-part rows rows′ h P m = let s = sets-iff rows P .0 m in sets-iff rows′ P .1 (s .0, h (s .0) (s .1), s .2)
@@ -105,6 +106,7 @@ one-set (Final s) = inl refl
 one-set (Successor p a q) = inl refl
 one-set (LeftLimit P q) = inr (P, refl)
 one-set (RightLimit q P) = inr (P, refl)
+one-set (Strike s) = inl refl
 
 -- one row more: the sets stay, or there is one more, the row's own
 pub sets-new : (rows rows′ : List Row) (r : Row) → ((x : Row) → x among rows′ ↔ ((x ≡ r) ⊎ x among rows))

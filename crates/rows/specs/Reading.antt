@@ -1,4 +1,4 @@
--- Document 01, "Rows and the batch" and causes 2 to 5 of "Causes and numbers": the row at the head of some bytes.
+-- Document 01, "Rows and the batch" and causes 2 to 5 of "Causes and numbers", with request C-18's kind 6: the row at the head of some bytes.
 use Prim.Native.Nat.{ℕ, _+_, _*_, _≤_, _<_}
 use mathlib.Core.Path.{_≡_}
 use mathlib.Core.Bool.{cond, _&&_}
@@ -7,7 +7,7 @@ use lib.Dec.{eqb, ltb, leb}
 use lib.ListN.{length, take, drop, getD}
 use Rattle.lists.specs.Tests.{_among_, any}
 use Rattle.rows.specs.declared.Row.{Row}
-use Rattle.rows.specs.declared.Row.the-variants.{Initial, Final, Successor, LeftLimit, RightLimit}
+use Rattle.rows.specs.declared.Row.the-variants.{Initial, Final, Successor, LeftLimit, RightLimit, Strike}
 use Rattle.rows.specs.declared.ReadRow.{ReadRow}
 use Rattle.rows.specs.declared.ReadRow.the-variants.{Read, Refused}
 
@@ -20,19 +20,22 @@ number (b ∷ l) x = number l (x * 256 + b)
 unfoldable pub set-at : List ℕ → ℕ → ℕ
 set-at l i = number (take 8 (drop i l)) 0
 
--- kind 1 to 5
+-- kinds are 1 to this
+abbrev pub last-kind : ℕ
+last-kind = 6
+
 abbrev pub Known : ℕ → Type 0
-Known k = (1 ≤ k) × (k ≤ 5)
+Known k = (1 ≤ k) × (k ≤ last-kind)
 
 -- by the kind: the bytes of a row, the places of its states, and that of its set
 abbrev pub width : ℕ → ℕ
-width k = getD (0 ∷ 2 ∷ 2 ∷ 4 ∷ 10 ∷ 10 ∷ []) k 0
+width k = getD (0 ∷ 2 ∷ 2 ∷ 4 ∷ 10 ∷ 10 ∷ 2 ∷ []) k 0
 
 abbrev pub state-places : ℕ → List ℕ
-state-places k = getD ([] ∷ (1 ∷ []) ∷ (1 ∷ []) ∷ (1 ∷ 3 ∷ []) ∷ (9 ∷ []) ∷ (1 ∷ []) ∷ []) k []
+state-places k = getD ([] ∷ (1 ∷ []) ∷ (1 ∷ []) ∷ (1 ∷ 3 ∷ []) ∷ (9 ∷ []) ∷ (1 ∷ []) ∷ (1 ∷ []) ∷ []) k []
 
 abbrev pub set-places : ℕ → List ℕ
-set-places k = getD ([] ∷ [] ∷ [] ∷ [] ∷ (1 ∷ []) ∷ (2 ∷ []) ∷ []) k []
+set-places k = getD ([] ∷ [] ∷ [] ∷ [] ∷ (1 ∷ []) ∷ (2 ∷ []) ∷ [] ∷ []) k []
 
 -- the row of a known kind
 unfoldable pub row-at : ℕ → List ℕ → Row
@@ -41,7 +44,8 @@ row-at k l =
     (cond (eqb k 2) (Final (getD l 1 0))
     (cond (eqb k 3) (Successor (getD l 1 0) (getD l 2 0) (getD l 3 0))
     (cond (eqb k 4) (LeftLimit (set-at l 1) (getD l 9 0))
-    (RightLimit (getD l 1 0) (set-at l 2)))))
+    (cond (eqb k 5) (RightLimit (getD l 1 0) (set-at l 2))
+    (Strike (getD l 1 0))))))
 
 -- 3 where there are fewer bytes than a width, 4 where one of the states at some places is above 63, else n
 abbrev pub cut-or-high : ℕ → List ℕ → List ℕ → ℕ → ℕ
@@ -50,7 +54,7 @@ cut-or-high w places l n = cond (ltb (length l) w) 3 (cond (any (λ i. ltb 63 (g
 -- the lowest number that refuses a row of a kind, 0 if none does: 2 for no such kind, 5 for the set 0
 unfoldable pub row-cause : ℕ → List ℕ → ℕ
 row-cause k l =
-    cond (ltb 0 k && leb k 5)
+    cond (ltb 0 k && leb k last-kind)
     (cut-or-high (width k) (state-places k) l (cond (any (λ j. eqb (set-at l j) 0) (set-places k)) 5 0))
     2
 

@@ -1,4 +1,4 @@
--- Document 01, "Rows and the batch": the bytes of a row, and the sets of rows.
+-- Document 01, "Rows and the batch", with request C-18's kind 6: the bytes of a row, and the sets of rows.
 use Prim.Native.Nat.{ℕ, zero, suc, _/_, _%_, _^_, _<_}
 use mathlib.Core.Bool.{Bool, true, false, _&&_}
 use mathlib.Core.List.{List, [], _∷_, _++_}
@@ -6,7 +6,7 @@ use lib.Dec.{eqb}
 use Rattle.lists.specs.Tests.{_among_, any, gather}
 use Rattle.lists.specs.Order.{insert-by}
 use Rattle.rows.specs.declared.Row.{Row}
-use Rattle.rows.specs.declared.Row.the-variants.{Initial, Final, Successor, LeftLimit, RightLimit}
+use Rattle.rows.specs.declared.Row.the-variants.{Initial, Final, Successor, LeftLimit, RightLimit, Strike}
 
 -- the n low bytes of x, most significant first
 abbrev pub big : ℕ → ℕ → List ℕ
@@ -20,6 +20,7 @@ row-bytes (Final s) = 2 ∷ s ∷ []
 row-bytes (Successor p a q) = 3 ∷ p ∷ a ∷ q ∷ []
 row-bytes (LeftLimit P q) = 4 ∷ (big 8 P ++ (q ∷ []))
 row-bytes (RightLimit q P) = 5 ∷ q ∷ big 8 P
+row-bytes (Strike s) = 6 ∷ s ∷ []
 
 -- in a batch rows follow one another without a gap or a count
 abbrev pub batch-of : List Row → List ℕ
@@ -32,6 +33,7 @@ Fits (Final s) = s < 64
 Fits (Successor p a q) = (p < 64) × (a < 256) × (q < 64)
 Fits (LeftLimit P q) = (0 < P) × (P < 256 ^ 8) × (q < 64)
 Fits (RightLimit q P) = (0 < P) × (P < 256 ^ 8) × (q < 64)
+Fits (Strike s) = s < 64
 
 -- every row of the list does
 abbrev pub AllFit : List Row → Type 0
@@ -48,6 +50,7 @@ sets-of (Final s) = []
 sets-of (Successor p a q) = []
 sets-of (LeftLimit P q) = P ∷ []
 sets-of (RightLimit q P) = P ∷ []
+sets-of (Strike s) = []
 
 -- P is a set of a standing row
 abbrev pub SetOf : List Row → ℕ → Type 0
@@ -72,6 +75,7 @@ numbers (Final s) = 2 ∷ s ∷ []
 numbers (Successor p a q) = 3 ∷ p ∷ a ∷ q ∷ []
 numbers (LeftLimit P q) = 4 ∷ P ∷ q ∷ []
 numbers (RightLimit q P) = 5 ∷ q ∷ P ∷ []
+numbers (Strike s) = 6 ∷ s ∷ []
 
 abbrev pub same-numbers : List ℕ → List ℕ → Bool
 same-numbers [] [] = true

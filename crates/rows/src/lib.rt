@@ -6,7 +6,7 @@ ghost use Prim.Native.Nat.{_+_, _≤_};
 ghost use lib.ListN.{length};
 ghost use Rattle.lists.specs.Writing.{Wrote};
 ghost use Rattle.rows.specs.Rows.{row-bytes};
-ghost use Rattle.rows.specs.Reading.{set-at, state-places, set-places, read-row, Headed};
+ghost use Rattle.rows.specs.Reading.{set-at, width, state-places, set-places, read-row, Known, Headed};
 ghost use Rattle.rows.specs.Keys.{high, low, row-from, set-or-none};
 ghost use Rattle.rows.specs.Storing.{stored};
 
@@ -48,13 +48,16 @@ const LEFT_LIMIT: u64 = 4 * BYTE_7;
 
 const RIGHT_LIMIT: u64 = 5 * BYTE_7;
 
-// Document 01, "Rows and the batch": the five kinds.
+const STRIKE: u64 = 6 * BYTE_7;
+
+// Document 01, "Rows and the batch": the five kinds; request C-18: a sixth.
 pub enum Row {
     Initial(u8),
     Final(u8),
     Successor(u8, u8, u8),
     LeftLimit(u64, u8),
     RightLimit(u8, u64),
+    Strike(u8),
 }
 
 // A row with the count of its bytes, or the number of the cause that refuses it.
@@ -77,9 +80,9 @@ fn set_at(s: &[u8], at: usize) -> u64
     set
 }
 
-// A row of kind 1 or 2: its state.
+// A row of kind 1, 2 or 6: its state.
 fn read_state(rest: &[u8], kind: u8) -> ReadRow
-    requires { ⌜ Headed kind (now rest) × (1 ≤ kind) × (kind ≤ 2) ⌝ }
+    requires { ⌜ Headed kind (now rest) × Known kind × (width kind ≡ 2) ⌝ }
     ensures { λ r. ⌜ r ≡ read-row (now (rest .entry)) ⌝ }
 {
     if rest.len() < 2 {
@@ -91,7 +94,8 @@ fn read_state(rest: &[u8], kind: u8) -> ReadRow
     }
     match kind {
         1 => ReadRow::Read(Row::Initial(state), 2),
-        _ => ReadRow::Read(Row::Final(state), 2),
+        2 => ReadRow::Read(Row::Final(state), 2),
+        _ => ReadRow::Read(Row::Strike(state), 2),
     }
 }
 
@@ -151,7 +155,8 @@ pub fn read_row(rest: &[u8]) -> ReadRow
         3 => read_step(rest),
         4 => read_limit(rest, 4, 9, 1),
         5 => read_limit(rest, 5, 1, 2),
-        0 | 6..=255 => ReadRow::Refused(UNKNOWN_KIND),
+        6 => read_state(rest, 6),
+        0 | 7..=255 => ReadRow::Refused(UNKNOWN_KIND),
     }
 }
 
@@ -165,6 +170,7 @@ pub fn row_len(row: Row) -> usize
         Row::Successor(_, _, _) => 4,
         Row::LeftLimit(_, _) => 10,
         Row::RightLimit(_, _) => 10,
+        Row::Strike(_) => 2,
     }
 }
 
@@ -218,6 +224,11 @@ pub fn write_row(buf: &mut [u8], row: Row) -> usize
             put_set(buf, 2, set);
             10
         }
+        Row::Strike(s) => {
+            buf[0] = 6;
+            buf[1] = s;
+            2
+        }
     }
 }
 
@@ -234,6 +245,7 @@ pub fn high_of(row: Row) -> u64
             + (q as u64) * BYTE_4,
         Row::LeftLimit(set, _) => LEFT_LIMIT + set / BYTE_1,
         Row::RightLimit(q, set) => RIGHT_LIMIT + (q as u64) * BYTE_6 + set / BYTE_2,
+        Row::Strike(s) => STRIKE + (s as u64) * BYTE_6,
     }
 }
 
@@ -247,6 +259,7 @@ pub fn low_of(row: Row) -> u64
         Row::Successor(_, _, _) => 0,
         Row::LeftLimit(set, q) => set % BYTE_1 * BYTE_1 + (q as u64),
         Row::RightLimit(_, set) => set % BYTE_2,
+        Row::Strike(_) => 0,
     }
 }
 
@@ -267,7 +280,8 @@ pub fn row_of(high: u64, low: u64) -> Row
             high % BYTE_7 * BYTE_1 + low / BYTE_1 % BYTE_1,
             (low % BYTE_1) as u8,
         ),
-        _ => Row::RightLimit(first, high % BYTE_6 * BYTE_2 + low % BYTE_2),
+        5 => Row::RightLimit(first, high % BYTE_6 * BYTE_2 + low % BYTE_2),
+        _ => Row::Strike(first),
     }
 }
 
@@ -281,5 +295,6 @@ pub fn set_of(row: Row) -> u64
         Row::Successor(_, _, _) => 0,
         Row::LeftLimit(set, _) => set,
         Row::RightLimit(_, set) => set,
+        Row::Strike(_) => 0,
     }
 }

@@ -13,7 +13,7 @@ use Rattle.masks.proofs.Member.{member-lt, member-digit, union-left, union-righ
 use Rattle.rows.specs.declared.Row.{Row}
 use Rattle.rows.specs.declared.Row.the-variants.{Successor, LeftLimit, RightLimit}
 use Rattle.rows.specs.Rows.{AllFit}
-use Rattle.orderings.specs.Steps.{Claim, Label, letter, ω, back, mix, Possible, members, content, Walk, Inside}
+use Rattle.orderings.specs.Steps.{Claim, Label, letter, ω, back, mix, HasRows, members, content, Walk, Inside}
 use Rattle.orderings.specs.Systems.{Allowed}
 use Rattle.orderings.specs.Timelines.{timelines, Accepting}
 use Rattle.orderings.proofs.Timelines.{members-iff}
@@ -44,8 +44,8 @@ module _ {rows : List Row} (fit : AllFit rows) where
   and-all : (x : ℕ) (l : List ℕ) → x < 64 → ((s : ℕ) → s among l → s ∈ all-mask) → (s : ℕ) → s among (x ∷ l) → s ∈ all-mask
   and-all x l h f s m = ⊎-elim (λ e. subst (λ (y : ℕ). y ∈ all-mask) (sym e) (has-all x h)) (f s) (List·Memᴰ·cases-cons m)
 
-  -- every possible step is inside it
-  step-all : (a : ℕ) (l : Label) (b : ℕ) → Possible rows a l b → (s : ℕ) → s among content a l b → s ∈ all-mask
+  -- every step whose rows stand is inside it
+  step-all : (a : ℕ) (l : Label) (b : ℕ) → HasRows rows a l b → (s : ℕ) → s among content a l b → s ∈ all-mask
   step-all a (letter x) b h =
       let f = fit (Successor a x b) h in and-all a (b ∷ []) (f .0) (and-all b [] (f .2) (λ s m. absurd (List·Memᴰ·not-nil m)))
   step-all a (ω Q) b h = and-all b (members Q) (fit (LeftLimit Q b) (h .0) .2) (in-members Q)
@@ -55,7 +55,7 @@ module _ {rows : List Row} (fit : AllFit rows) where
 
   walk-all : (In : Claim → Type 0) (w : Walk) → Allowed (timelines rows) In w → Inside all-mask w
   walk-all In [] h = tt
-  walk-all In (t ∷ w) h = (step-all (t .from) (t .label) (t .to) (h .0), walk-all In w (h .2))
+  walk-all In (t ∷ w) h = (step-all (t .from) (t .label) (t .to) (h .0 .0), walk-all In w (h .2))
 
   module _ {g : Graph} {n : ℕ} (is-rows : Masked rows g n) {In : Claim → Type 0} {force : Claims} (forced : Forced In g n force)
       (initials finals : ℕ) (is-initials : Initials rows initials) (is-finals : Finals rows finals) where

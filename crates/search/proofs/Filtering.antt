@@ -9,7 +9,7 @@ use Rattle.lists.proofs.Deciding.{iff·}
 use Rattle.masks.specs.Mask.{member, _∈_, _⊆_}
 use Rattle.masks.proofs.Member.{union-left, union-right, union-cases, intersection-left, intersection-right, intersection-both}
 use Rattle.rows.specs.declared.Row.{Row}
-use Rattle.orderings.specs.Steps.{Claim}
+use Rattle.orderings.specs.Steps.{Claim, members, Unstruck}
 use Rattle.orderings.specs.Claims.{Loops, Entrance, Exit, OnPiece, Mixes}
 use Rattle.orderings.specs.Systems.{AtHand}
 use Rattle.orderings.specs.Timelines.{timelines}
@@ -21,6 +21,7 @@ use Rattle.search.proofs.Chains.{chain-first, chain-last}
 use Rattle.search.proofs.Hops.{hop-turn, inner-back}
 use Rattle.search.proofs.Parts.{turn-back}
 use Rattle.search.proofs.Steps.{step-hop}
+use Rattle.search.proofs.Saying.{mixes-unstruck}
 use Rattle.search.proofs.Walks.{leg-chain, leg-between}
 
 -- a test against two unions
@@ -56,21 +57,25 @@ module _ {rows : List Row} {g back : Graph} {n : ℕ} (is : Masked rows g n) (tu
   pub looping-passes : Loops (AtHand (timelines rows) In) p → (p ⊆ to) × (p ⊆ from)
   looping-passes f = ((λ s h. follows (leg-chain rows In p s s (f s s h h))), λ s h. precedes (leg-chain rows In p s s (f s s h h)))
 
-  pub mixing-passes : (m k : ℕ) → ((e : ℕ) → (e ∈ m) ↔ Entrance rows p e) → ((e : ℕ) → (e ∈ k) ↔ Exit rows p e)
+  pub mixing-passes : (m k : ℕ) → ((e : ℕ) → (e ∈ m) ↔ (Entrance rows p e × Unstruck rows (members p)))
+      → ((e : ℕ) → (e ∈ k) ↔ (Exit rows p e × Unstruck rows (members p)))
       → Mixes rows (AtHand (timelines rows) In) p → Threaded p m k to from
   mixing-passes m k is-m is-k h =
       let o = h .stepped in
       let c = leg-chain rows In p (o .0) (o .1) (o .4) in
       record {
-        leaves = (o .0, is-m (o .0) .1 (o .2), precedes c);
-        enters = (o .1, is-k (o .1) .1 (o .3), follows c);
-        states = λ s i. ⊎-elim (on-piece s) (λ g. (inl (is-m s .1 (g .0)), inl (is-k s .1 (g .1)))) (h .covered s i);
+        leaves = (o .0, is-m (o .0) .1 (o .2, u), precedes c);
+        enters = (o .1, is-k (o .1) .1 (o .3, u), follows c);
+        states = λ s i. ⊎-elim (on-piece s) (λ g. (inl (is-m s .1 (g .0, u)), inl (is-k s .1 (g .1, u)))) (h .covered s i);
       }
     where
+      u : Unstruck rows (members p)
+      u = mixes-unstruck rows In p h
+
       cut : (a b s : ℕ) → a ∈ m → b ∈ k → Between Step a b s → ((s ∈ m) ⊎ (s ∈ to)) × ((s ∈ k) ⊎ (s ∈ from))
       cut a b s ha hb = ⊎-elim
           (λ x. (inl (subst (λ (y : ℕ). y ∈ m) (sym (x .0)) ha), inr (precedes (x .1))))
           (λ x. (inr (follows (x .0)), ⊎-elim (λ e. inl (subst (λ (y : ℕ). y ∈ k) (sym e) hb)) (λ d. inr (precedes d)) (x .1)))
 
       on-piece : (s : ℕ) → OnPiece rows (AtHand (timelines rows) In) p s → ((s ∈ m) ⊎ (s ∈ to)) × ((s ∈ k) ⊎ (s ∈ from))
-      on-piece s (o, i) = cut (o .0) (o .1) s (is-m (o .0) .1 (o .2)) (is-k (o .1) .1 (o .3)) (leg-between rows In p (o .0) (o .1) s (o .4, i))
+      on-piece s (o, i) = cut (o .0) (o .1) s (is-m (o .0) .1 (o .2, u)) (is-k (o .1) .1 (o .3, u)) (leg-between rows In p (o .0) (o .1) s (o .4, i))

@@ -14,7 +14,7 @@ use Rattle.orderings.specs.Steps.{Claim, loops, mixes, letter, ω, back, mix, m
 use Rattle.orderings.proofs.Timelines.{members-iff}
 use Rattle.search.specs.declared.Claims.{Claims}
 use Rattle.search.specs.Graph.{Graph}
-use Rattle.search.specs.Masked.{Masked, Forced, StepInside}
+use Rattle.search.specs.Masked.{LeftRow, RightRow, Masked, Forced, StepInside}
 use Rattle.search.specs.Hops.{Hop, InnerClaims}
 
 module _ {rows : List Row} {g : Graph} {n : ℕ} (is : Masked rows g n) where
@@ -46,12 +46,15 @@ module _ {rows : List Row} {g : Graph} {n : ℕ} (is : Masked rows g n) where
         (⊎-elim
         (⊎-elim
         (λ e. let i = e .0 in let j = is-inner .loops-are i .0 (e .1) in let f = forced .loop-iff i .0 (j .0) in
-        (ω (getD (g .sets) i 0), (is .left-iff i b (f .0) .0 (e .3), e .2), f .1, and-in b _ (h .end) (set-in _ (j .1))))
+        let r = is .left-iff i b (f .0) .0 (e .3) in
+        (ω (getD (g .sets) i 0), ((r .0, e .2), r .1), f .1, and-in b _ (h .end) (set-in _ (j .1))))
         (λ e. let i = e .0 in let j = is-inner .loops-are i .0 (e .1) in let f = forced .loop-iff i .0 (j .0) in
-        (back (getD (g .sets) i 0), (is .right-iff i a (f .0) .0 (e .2), e .3), f .1, and-in a _ (h .start) (set-in _ (j .1)))))
-        (λ e. let i = e .0 in let j = is-inner .mixes-are i .0 (e .1) in let f = forced .mix-iff i .0 (j .0) in (
+        let r = is .right-iff i a (f .0) .0 (e .2) in
+        (back (getD (g .sets) i 0), ((r .0, e .3), r .1), f .1, and-in a _ (h .start) (set-in _ (j .1)))))
+        (λ e. let i = e .0 in let j = is-inner .mixes-are i .0 (e .1) in let f = forced .mix-iff i .0 (j .0) in
+        let r = is .right-iff i a (f .0) .0 (e .2) in let l = is .left-iff i b (f .0) .0 (e .3) in (
           mix (getD (g .sets) i 0),
-          (is .right-iff i a (f .0) .0 (e .2), is .left-iff i b (f .0) .0 (e .3)),
+          ((r .0, l .0), λ s m. ⊎-elim (λ q. l .1 s (List·Memᴰ·head q)) (r .1 s) (List·Memᴰ·cases-cons m)),
           f .1,
           and-in b _ (h .end) (and-in a _ (h .start) (set-in _ (j .1))),
         )))
@@ -64,11 +67,11 @@ module _ {rows : List Row} {g : Graph} {n : ℕ} (is : Masked rows g n) where
     mix-inner : (Q i : ℕ) → i < n → Q ≡ getD (g .sets) i 0 → In (mixes Q) → Q ⊆ p → i ∈ inner .mixes
     mix-inner Q i l e f h = is-inner .mixes-are i .1 (forced .mix-iff i .1 (l, subst (λ (x : ℕ). In (mixes x)) e f), subst (λ (x : ℕ). x ⊆ p) e h)
 
-    in-left : (Q q i : ℕ) → i < n → Q ≡ getD (g .sets) i 0 → LeftLimit Q q among rows → q ∈ getD (g .lefts) i 0
-    in-left Q q i l e m = is .left-iff i q l .1 (subst (λ (x : ℕ). LeftLimit x q among rows) e m)
+    in-left : (Q q i : ℕ) → i < n → Q ≡ getD (g .sets) i 0 → LeftRow rows Q q → q ∈ getD (g .lefts) i 0
+    in-left Q q i l e m = is .left-iff i q l .1 (subst (λ (x : ℕ). LeftRow rows x q) e m)
 
-    in-right : (Q q i : ℕ) → i < n → Q ≡ getD (g .sets) i 0 → RightLimit q Q among rows → q ∈ getD (g .rights) i 0
-    in-right Q q i l e m = is .right-iff i q l .1 (subst (λ (x : ℕ). RightLimit q x among rows) e m)
+    in-right : (Q q i : ℕ) → i < n → Q ≡ getD (g .sets) i 0 → RightRow rows q Q → q ∈ getD (g .rights) i 0
+    in-right Q q i l e m = is .right-iff i q l .1 (subst (λ (x : ℕ). RightRow rows q x) e m)
 
     in-set : (Q s i : ℕ) → Q ≡ getD (g .sets) i 0 → s ∈ Q → s ∈ getD (g .sets) i 0
     in-set Q s i e h = subst (λ (x : ℕ). s ∈ x) e h
@@ -80,26 +83,29 @@ module _ {rows : List Row} {g : Graph} {n : ℕ} (is : Masked rows g n) where
       kind = inl (is .letter-iff a b .1 (x, can));
     }
     step-hop a b (ω Q, can, f, c) =
-        let i = left-place Q b (can .0) in
+        let i = left-place Q b (can .0 .0) in
         let h : Q ⊆ p = λ s m. c s (List·Memᴰ·tail (members-iff Q s .1 m)) in
         record {
-          start = h a (can .1);
+          start = h a (can .0 .1);
           end = c b (List·Memᴰ·head refl);
-          kind = inr (inl (inl (i .0, loop-inner Q _ (i .1) (i .2) f h, in-set Q a _ (i .2) (can .1), in-left Q b _ (i .1) (i .2) (can .0))));
+          kind = inr (inl (inl (i .0, loop-inner Q _ (i .1) (i .2) f h, in-set Q a _ (i .2) (can .0 .1), in-left Q b _ (i .1) (i .2) (can .0 .0, can .1))));
         }
     step-hop a b (back Q, can, f, c) =
-        let i = right-place Q a (can .0) in
+        let i = right-place Q a (can .0 .0) in
         let h : Q ⊆ p = λ s m. c s (List·Memᴰ·tail (members-iff Q s .1 m)) in
         record {
           start = c a (List·Memᴰ·head refl);
-          end = h b (can .1);
-          kind = inr (inl (inr (i .0, loop-inner Q _ (i .1) (i .2) f h, in-right Q a _ (i .1) (i .2) (can .0), in-set Q b _ (i .2) (can .1))));
+          end = h b (can .0 .1);
+          kind = inr (inl (inr (i .0, loop-inner Q _ (i .1) (i .2) f h, in-right Q a _ (i .1) (i .2) (can .0 .0, can .1), in-set Q b _ (i .2) (can .0 .1))));
         }
     step-hop a b (mix Q, can, f, c) =
-        let i = right-place Q a (can .0) in
+        let i = right-place Q a (can .0 .0) in
         let h : Q ⊆ p = λ s m. c s (List·Memᴰ·tail (List·Memᴰ·tail (members-iff Q s .1 m))) in
+        let right : RightRow rows a Q = (can .0 .0, λ s m. can .1 s (List·Memᴰ·tail m)) in
+        let left : LeftRow rows Q b =
+        (can .0 .1, λ s m. ⊎-elim (λ e. can .1 s (List·Memᴰ·head e)) (λ j. can .1 s (List·Memᴰ·tail (List·Memᴰ·tail j))) (List·Memᴰ·cases-cons m)) in
         record {
           start = c a (List·Memᴰ·tail (List·Memᴰ·head refl));
           end = c b (List·Memᴰ·head refl);
-          kind = inr (inr (i .0, mix-inner Q _ (i .1) (i .2) f h, in-right Q a _ (i .1) (i .2) (can .0), in-left Q b _ (i .1) (i .2) (can .1)));
+          kind = inr (inr (i .0, mix-inner Q _ (i .1) (i .2) f h, in-right Q a _ (i .1) (i .2) right, in-left Q b _ (i .1) (i .2) left));
         }

@@ -12,6 +12,7 @@ use masks::Places;
 use masks::Set;
 use masks::intersection;
 use masks::is_subset;
+use masks::meets;
 use masks::take_lowest;
 use masks::union;
 use masks::with;
@@ -19,17 +20,9 @@ ghost use mathlib.Core.Path.{_≡_};
 ghost use mathlib.Core.Logic.{_↔_};
 ghost use mathlib.Core.Bool.{true};
 ghost use Prim.Native.Nat.{ℕ, _<_};
-ghost use Rattle.lists.specs.Tests.{Decides};
 ghost use Rattle.masks.specs.Mask.{_∈_};
 ghost use Rattle.search.specs.Graph.{graph-of, Indexed};
 ghost use Rattle.search.specs.Hops.{Lettered, Looping, Mixing, Claimed, Touched, Hop, Onward, Inner, InnerClaims};
-
-// Do `a` and `b` have a state in common?
-pub(crate) fn meets(a: Set, b: Set) -> bool
-    ensures { λ r. ⌜ Decides r ((t : ℕ) × (t ∈ a) × (t ∈ b)) ⌝ }
-{
-    intersection(a, b) != 0
-}
 
 // The place `i` alone where `b` is true, else nothing.
 pub(crate) fn marked(b: bool, i: u8) -> Places

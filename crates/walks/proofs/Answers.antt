@@ -1,17 +1,18 @@
 -- What the search answers, for rows and claims that the arrays stand for.
 use Prim.Native.Nat.{ℕ, zero, suc, _-_, _≤_, _<_}
-use mathlib.Core.Path.{_≡_, refl, ap, subst, _∙_}
+use mathlib.Core.Path.{_≡_, refl, ap, sym, subst, _∙_}
 use mathlib.Core.Bool.{true, false}
 use mathlib.Core.Logic.{⊎-elim}
 use mathlib.Core.Option.{Option, none, some}
-use mathlib.Core.List.{List}
+use mathlib.Core.List.{List, [], _∷_, List·Memᴰ·cases-cons, List·Memᴰ·eq-of-singleton}
 use native.Mathlib.Omega.{arith}
 use lib.ListN.{length, getD}
 use Rattle.masks.specs.Mask.{_∈_}
 use Rattle.masks.proofs.Member.{not-both}
 use Rattle.rows.specs.declared.Row.{Row}
 use Rattle.rows.specs.Rows.{standing-sets}
-use Rattle.orderings.specs.Steps.{Claim}
+use Rattle.orderings.specs.Steps.{Claim, Struck, Unstruck}
+use Rattle.orderings.proofs.Struck.{step-unstruck}
 use Rattle.machine.specs.Order.{Found}
 use Rattle.machine.specs.Search.{shortest}
 use Rattle.machine.specs.WellFormed.{Table}
@@ -53,9 +54,23 @@ module _ {g back : Graph} (turned : TurnedGraph g back) {force : Claims} {rows :
     state-in zero h = let z : d ≡ d - 0 = omega arith in subst (λ (x : ℕ). start ∈ getD layers x 0) z in-layer
     state-in (suc j) h = let z : d - 1 - j ≡ d - suc j = omega arith in subst (λ (x : ℕ). state (suc j) ∈ getD layers x 0) z (f .chosen j h .1)
 
+    -- the states of a layer are not struck: they are final, or a step leads from them
+    layer-unstruck : (i s : ℕ) → i ≤ d → s ∈ getD layers i 0 → ¬ Struck rows s
+    layer-unstruck zero s h m = is-finals s .0 (subst (λ (x : ℕ). s ∈ x) (spread .1 .base) m) .1
+    layer-unstruck (suc i) s h m =
+        let r = spread .1 .sound i s (omega arith) m in
+        let c = ahead-can turned is count keyed table s (r .0) (r .1) in
+        step-unstruck rows s (c .0) (r .0) (c .1 .0) .0
+
+    both-unstruck : (j : ℕ) → j < w .count → getD (w .targets) j 0 ∈ getD layers (d - 1 - j) 0 → Unstruck rows (state j ∷ getD (w .targets) j 0 ∷ [])
+    both-unstruck j h m s i = ⊎-elim
+        (λ e. subst (λ (x : ℕ). ¬ Struck rows x) (sym e) (layer-unstruck (d - j) (state j) (omega arith) (state-in j (omega arith))))
+        (λ k. subst (λ (x : ℕ). ¬ Struck rows x) (sym (List·Memᴰ·eq-of-singleton k)) (layer-unstruck (d - 1 - j) (getD (w .targets) j 0) (omega arith) m))
+        (List·Memᴰ·cases-cons i)
+
     goes : (j : ℕ) → j < w .count → Goes rows claims E (can-ahead turned is count keyed table) initials finals is-initials is-finals layers d (spread .1) start (w .kinds) (w .values) (w .targets) j
     goes j h = let c = f .chosen j h in record {
-      can = way-can turned is count keyed table (state j) (named (getD (w .kinds) j 0) (getD (w .values) j 0)) (getD (w .targets) j 0) (c .0);
+      can = way-can turned is count keyed table (state j) (named (getD (w .kinds) j 0) (getD (w .values) j 0)) (getD (w .targets) j 0) (both-unstruck j h (c .1)) (c .0);
       into = c .1;
       first = λ l u can m. c .2 (in-order turned is count keyed table) l u (can-way turned is count keyed table (state j) l u can) m;
     }

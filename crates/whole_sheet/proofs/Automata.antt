@@ -8,7 +8,7 @@ use Rattle.row_table.proofs.Sets.{sets-in-held}
 use Rattle.search.specs.Graph.{graph-of}
 use Rattle.automaton.specs.declared.Automaton.{Automaton}
 use Rattle.automaton.specs.Promise.{Gives, GivesKeyed}
-use Rattle.automaton.proofs.Passing.{graph-sets-in}
+use Rattle.automaton.proofs.Giving.{graph-sets-in}
 use Rattle.rounds.specs.Promises.{Given}
 
 module _ {rows : List Row} (t : Table rows) {sets : List ℕ} {k : ℕ} {a : Automaton} where

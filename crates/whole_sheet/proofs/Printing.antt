@@ -23,7 +23,7 @@ use Rattle.row_table.specs.Arrays.{SetsIn}
 use Rattle.search.specs.declared.Claims.{Claims}
 use Rattle.search.specs.Graph.{Graph, graph-of, TurnedGraph}
 use Rattle.automaton.specs.declared.Automaton.{Automaton}
-use Rattle.automaton.proofs.Passing.{graph-sets-in}
+use Rattle.automaton.proofs.Giving.{graph-sets-in}
 use Rattle.rounds.specs.declared.Progress.{Progress}
 use Rattle.rounds.specs.Arrays.{OpenPlaces}
 use Rattle.rounds.specs.Promises.{Mirrors}

@@ -15,17 +15,18 @@ use Rattle.search.specs.Graph.{Unindexed}
 use Rattle.row_table.specs.Arrays.{Keyed}
 use Rattle.row_table.proofs.Keys.{row-there}
 use Rattle.automaton.specs.Promise.{HasSets}
-use Rattle.automaton.proofs.Passing.{Passed, none-passed, pass-initial, pass-final, pass-step, pass-left, pass-right, none-unindexed, letter-unindexed, limit-unindexed, passed-all, gives-as}
+use Rattle.automaton.proofs.Passing.{Passed, none-passed, pass-initial, pass-final, pass-step, pass-left, pass-right, pass-strike, none-unindexed, letter-unindexed, limit-unindexed, struck-unindexed}
+use Rattle.automaton.proofs.Giving.{passed-all, gives-as}
 use Rattle.automaton.proofs.fill.Statement.{statement}
 use Rattle.automaton.proofs.fill.Tie as tie
 
 abbrev Inv-loop : tie.InvT-loop
-Inv-loop graph₀ high low row-count sets set-count initials₀ finals₀ i₀ graph initials finals i =
+Inv-loop graph₀ high low row-count sets set-count initials₀ finals₀ struck₀ i₀ graph initials finals struck i =
     (i ≤ row-count) × (HasSets sets set-count graph₀ → Unindexed graph set-count)
-    × (HasSets sets set-count graph₀ → (rows : List Row) → AllFit rows → Keyed rows high low row-count → Passed sets set-count (take i rows) graph initials finals)
+    × (HasSets sets set-count graph₀ → (rows : List Row) → AllFit rows → Keyed rows high low row-count → Passed sets set-count (take i rows) graph initials finals struck)
 
 abbrev μ-loop : tie.MeasureT-loop
-μ-loop graph₀ high low row-count sets set-count initials₀ finals₀ i₀ graph initials finals i = row-count - i
+μ-loop graph₀ high low row-count sets set-count initials₀ finals₀ struck₀ i₀ graph initials finals struck i = row-count - i
 
 loop-holds : tie.Need-loop-holds Inv-loop μ-loop
 loop-holds c = (omega arith, none-unindexed _ _ _ (c .before .before .pre .1), λ has rows f key. none-passed _ _ _ (c .before .before .pre .1) has)
@@ -45,7 +46,8 @@ loop-again c =
             | inr (inl w) ↦ rw (w .4) bare
             | inr (inr (inl w)) ↦ rw (w .5) (letter-unindexed bare (w .4 .ensures))
             | inr (inr (inr (inl w))) ↦ rw (w .6) (limit-unindexed bare (inl refl) (w .4 .ensures .1) (w .5 .ensures))
-            | inr (inr (inr (inr w))) ↦ rw (w .6) (limit-unindexed bare (inr refl) (w .4 .ensures .1) (w .5 .ensures))
+            | inr (inr (inr (inr (inl w)))) ↦ rw (w .6) (limit-unindexed bare (inr refl) (w .4 .ensures .1) (w .5 .ensures))
+            | inr (inr (inr (inr (inr w)))) ↦ rw (w .4) bare
           ],
       λ has rows f key.
           let x = getD rows i (Initial 0) in
@@ -53,25 +55,30 @@ loop-again c =
           let there : x ≡ read .row-of .result = sym (read .row-of .ensures ∙ row-there rows f (a .high .now) (a .low .now) (a .row-count) key i (read .before .before .before .loop-test .taken)) in
           rw (add-one i, take-suc rows i (Initial 0) (omega (arith, key .count)))
           (elim (c .match .came) [
-            | inl w ↦ rw (w .4, w .5, w .6) (pass-initial sets (a .set-count) few p x (there ∙ w .1 .given .1) (w .3 .ensures))
-            | inr (inl w) ↦ rw (w .4, w .5, w .6) (pass-final sets (a .set-count) few p x (there ∙ w .1 .given .1) (w .3 .ensures))
-            | inr (inr (inl w)) ↦ rw (w .5, w .6, w .7) (pass-step sets (a .set-count) few p x (there ∙ w .1 .given .1) (w .4 .ensures))
-            | inr (inr (inr (inl w))) ↦ rw (w .6, w .7, w .8) (pass-left sets (a .set-count) few p x (w .4 .result) (there ∙ w .1 .given .1) (w .4 .ensures .0) (w .5 .ensures))
-            | inr (inr (inr (inr w))) ↦ rw (w .6, w .7, w .8) (pass-right sets (a .set-count) few p x (w .4 .result) (there ∙ w .1 .given .1) (w .4 .ensures .0) (w .5 .ensures))
+            | inl w ↦ rw (w .4, w .5, w .6, w .7) (pass-initial sets (a .set-count) few p x (there ∙ w .1 .given .1) (w .3 .ensures))
+            | inr (inl w) ↦ rw (w .4, w .5, w .6, w .7) (pass-final sets (a .set-count) few p x (there ∙ w .1 .given .1) (w .3 .ensures))
+            | inr (inr (inl w)) ↦ rw (w .5, w .6, w .7, w .8) (pass-step sets (a .set-count) few p x (there ∙ w .1 .given .1) (w .4 .ensures))
+            | inr (inr (inr (inl w))) ↦ rw (w .6, w .7, w .8, w .9) (pass-left sets (a .set-count) few p x (w .4 .result) (there ∙ w .1 .given .1) (w .4 .ensures .0) (w .5 .ensures))
+            | inr (inr (inr (inr (inl w)))) ↦ rw (w .6, w .7, w .8, w .9) (pass-right sets (a .set-count) few p x (w .4 .result) (there ∙ w .1 .given .1) (w .4 .ensures .0) (w .5 .ensures))
+            | inr (inr (inr (inr (inr w)))) ↦ rw (w .4, w .5, w .6, w .7) (pass-strike sets (a .set-count) few p x (there ∙ w .1 .given .1) (w .3 .ensures))
           ]),
     )
 
 returns : tie.Need-returns Inv-loop μ-loop
 returns c =
-    let left = c .before .before in
+    let done = c .before .before in
+    let out = done .before .before in
+    let left = out .before .before in
     let l = left .before .loop in
     let put = left .before .before in
     let s = put .before .before in
-    let is = c .index .ensures in (
-      (λ e rows f key count are. gives-as (l .graph) (c .index .last .0) (l .initials) (l .finals) (is .graph-stays)
-          (passed-all rows f (s .args .sets .now) (s .args .set-count) count are (s .pre .1) _ (l .inv .1 (put .put-sets .ensures e))
-          (rw (take-all (l .i) rows (omega (arith, key .count, left .loop-test .left))) at (l .inv .2 (put .put-sets .ensures e) rows f key)))),
-      λ e. is .indexed (l .inv .1 (put .put-sets .ensures e)),
+    let is = done .index .ensures in (
+      (λ e rows f key count are.
+          gives-as (out .strike .last .0) (done .index .last .0) (c .before .difference .result) (c .difference2 .result) (is .graph-stays)
+          (passed-all rows f (s .args .sets .now) (s .args .set-count) count are (s .pre .1) (l .graph) (l .initials) (l .finals) (l .struck) (l .inv .1 (put .put-sets .ensures e))
+          (rw (take-all (l .i) rows (omega (arith, key .count, left .loop-test .left))) at (l .inv .2 (put .put-sets .ensures e) rows f key))
+          _ (out .strike .ensures) (c .before .difference .ensures) (c .difference2 .ensures))),
+      λ e. is .indexed (struck-unindexed (s .pre .1) (out .strike .ensures) (l .inv .1 (put .put-sets .ensures e))),
     )
 
 pub fill-spec : {M : Type 1} → statement M
@@ -101,7 +108,12 @@ fill-spec =
     (λ c κs. search needs)
     (λ c κs. search needs)
     (λ c. search needs)
+    (λ c κs. search needs)
+    (λ c. search needs)
     (λ c. search needs)
     loop-again
+    (λ c κs. search needs)
+    (λ c κs. search needs)
+    (λ c κs. search needs)
     (λ c κs. search needs)
     returns)

@@ -25,6 +25,10 @@ returns-5 : tie.Need-returns-5
 unfolding high
 returns-5 c = sym (ap high (c .before .row5 .given .1))
 
+returns-6 : tie.Need-returns-6
+unfolding high
+returns-6 c = sym (ap high (c .before .row6 .given .1))
+
 pub high-of-spec : {M : Type 1} → statement M
 high-of-spec =
     tie.close
@@ -54,8 +58,13 @@ high-of-spec =
     (λ c. search needs)
     (λ c. search needs)
     (λ c. search needs)
+    (λ c. search needs)
+    (λ c. search needs)
+    (λ c. search needs)
+    (λ c. search needs)
     returns
     returns-2
     returns-3
     returns-4
-    returns-5)
+    returns-5
+    returns-6)

@@ -25,6 +25,10 @@ returns-5 : tie.Need-returns-5
 unfolding low
 returns-5 c = sym (ap low (c .before .row2 .given .1))
 
+returns-6 : tie.Need-returns-6
+unfolding low
+returns-6 c = search needs
+
 pub low-of-spec : {M : Type 1} → statement M
 low-of-spec =
     tie.close
@@ -37,8 +41,10 @@ low-of-spec =
     (λ c. search needs)
     (λ c. search needs)
     (λ c. search needs)
+    (λ c. search needs)
     returns
     returns-2
     returns-3
     returns-4
-    returns-5)
+    returns-5
+    returns-6)

@@ -3,7 +3,7 @@ use Prim.Native.Nat.{ℕ, _≤_, _<_}
 use mathlib.Core.Path.{_≡_, ap, sym, _∙_}
 use mathlib.Core.List.{List, [], _∷_}
 use native.Mathlib.Omega.{arith}
-use lib.ListN.{getD}
+use lib.ListN.{length, getD}
 use borrow.Author.Tests.{lt-ltb, le-ltb, eq-eqb, ne-eqb}
 use Rattle.rows.specs.declared.Row.the-variants.{LeftLimit, RightLimit}
 use Rattle.rows.specs.declared.ReadRow.the-variants.{Read}
@@ -38,6 +38,7 @@ limit-of l i j = by-kind (λ k. 4 ≤ k → Headed k l → state-places k ≡ i 
       left = λ z. absurd (omega arith);
       right = λ z. rw (← p, ← q);
     })
+    (λ g h e f. absurd (omega (arith, ap length f)))
 
 limit : (s : tie.Start) → let a = s .args in Limit (a .rest .now) (a .state-place) (a .set-place) (a .kind)
 limit s = let a = s .args in let p = s .pre in

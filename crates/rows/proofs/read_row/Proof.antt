@@ -15,13 +15,14 @@ returns c = sym (read-none _ (c .if1 .taken))
 some-byte : (c : tie.Else1) → 0 < length (c .before .before .args .rest .now)
 some-byte c = omega (arith, c .if1 .left)
 
-returns-7 : tie.Need-returns-7
-returns-7 c = sym (read-unknown 0 _ (some-byte (c .before .before), c .match .keys6) (λ h. omega (arith, h)))
-
 returns-8 : tie.Need-returns-8
-returns-8 c =
+returns-8 c = sym (read-unknown 0 _ (some-byte (c .before .before), c .match .keys7) (λ h. omega (arith, h)))
+
+returns-9 : tie.Need-returns-9
+returns-9 c =
     let r = c .match .rest in
-    sym (read-unknown _ _ (some-byte (c .before .before), refl) (λ h. omega (arith, h, r .0 .0 .0 .0 .0 .1, r .0 .0 .0 .0 .1, r .0 .0 .0 .1, r .0 .0 .1, r .0 .1)))
+    sym (read-unknown _ _ (some-byte (c .before .before), refl)
+    (λ h. omega (arith, h, r .0 .0 .0 .0 .0 .0 .1, r .0 .0 .0 .0 .0 .1, r .0 .0 .0 .0 .1, r .0 .0 .0 .1, r .0 .0 .1, r .0 .1)))
 
 pub read-row-spec : {M : Type 1} → statement M
 read-row-spec =
@@ -34,10 +35,12 @@ read-row-spec =
     (λ c κs. search needs)
     (λ c κs. search needs)
     (λ c κs. search needs)
+    (λ c κs. search needs)
     (λ c. search needs)
     (λ c. search needs)
     (λ c. search needs)
     (λ c. search needs)
     (λ c. search needs)
-    returns-7
-    returns-8)
+    (λ c. search needs)
+    returns-8
+    returns-9)

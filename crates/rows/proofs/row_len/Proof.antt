@@ -24,6 +24,10 @@ returns-5 : tie.Need-returns-5
 unfolding row-bytes
 returns-5 c = search needs
 
+returns-6 : tie.Need-returns-6
+unfolding row-bytes
+returns-6 c = search needs
+
 pub row-len-spec : {M : Type 1} → statement M
 row-len-spec =
     tie.close
@@ -33,8 +37,10 @@ row-len-spec =
     (λ c. search needs)
     (λ c. search needs)
     (λ c. search needs)
+    (λ c. search needs)
     returns
     returns-2
     returns-3
     returns-4
-    returns-5)
+    returns-5
+    returns-6)

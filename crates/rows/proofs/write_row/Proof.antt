@@ -63,6 +63,14 @@ put-set-requires-2 : tie.Need-put-set-requires-2
 unfolding row-bytes
 put-set-requires-2 c κs = simp length-set (omega (arith, rw (c .before .before .row5 .given .1) at (c .before .before .before .before .before .pre)))
 
+slice-write-buf-13 : tie.Need-slice-write-buf-13
+unfolding row-bytes
+slice-write-buf-13 c = omega (arith, rw (c .before .row6 .given .1) at (c .before .before .before .before .pre))
+
+slice-write-buf-14 : tie.Need-slice-write-buf-14
+unfolding row-bytes
+slice-write-buf-14 c = simp length-set (omega (arith, rw (c .before .row6 .given .1) at (c .before .before .before .before .pre)))
+
 returns : tie.Need-returns
 unfolding row-bytes
 returns c = rw (c .before .row .given .1) (wrote-all _ _ (rw (c .before .row .given .1) at (c .before .before .before .before .pre)))
@@ -89,6 +97,10 @@ returns-5 : tie.Need-returns-5
 unfolding row-bytes
 returns-5 c = rw (c .before .before .before .before .before .row5 .given .1, c .before .before .put-set2 .ensures) (wrote-all _ _ (rw (c .before .before .before .before .before .row5 .given .1) at (c .before .before .before .before .before .before .before .before .pre)))
 
+returns-6 : tie.Need-returns-6
+unfolding row-bytes
+returns-6 c = rw (c .before .row6 .given .1) (wrote-all _ _ (rw (c .before .row6 .given .1) at (c .before .before .before .before .pre)))
+
 pub write-row-spec : {M : Type 1} → statement M
 write-row-spec =
     tie.close
@@ -113,6 +125,9 @@ write-row-spec =
     slice-write-buf-12
     put-set-requires-2
     (λ c. search needs)
+    slice-write-buf-13
+    slice-write-buf-14
+    (λ c. search needs)
     returns
     (λ c. search needs)
     returns-2
@@ -121,4 +136,6 @@ write-row-spec =
     same-length-4
     returns-4
     same-length-5
-    returns-5)
+    returns-5
+    (λ c. search needs)
+    returns-6)

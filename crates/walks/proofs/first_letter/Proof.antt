@@ -35,7 +35,7 @@ returns c =
     record {
       is = tt;
       first = passed-stop (now (a .high)) (now (a .low)) (a .row-count) (a .a) (a .layer) (p .loop .i) (p .loop .inv) (c .before .before .before .loop-test .taken)
-          (λ x t r. let e : row .result ≡ Successor (a .a) x t = row .ensures ∙ r in miss (0 ∷ 1 ∷ 3 ∷ 4 ∷ []) 2 tt (rw e at (c .match .keys2)));
+          (λ x t r. let e : row .result ≡ Successor (a .a) x t = row .ensures ∙ r in miss (0 ∷ 1 ∷ 3 ∷ 4 ∷ 5 ∷ []) 2 tt (rw e at (c .match .keys2)));
     }
 
 -- or of another state

@@ -5,10 +5,10 @@ use Rattle.plain.proofs.claims.gates.Statement.{statement}
 use Rattle.plain.proofs.claims.gates.Tie as tie
 
 abbrev Inv-loop : tie.InvT-loop
-Inv-loop table kind p found₀ n₀ found n = n ≤ 80
+Inv-loop table kind p found₀ n₀ found n = n ≤ 82
 
 abbrev μ-loop : tie.MeasureT-loop
-μ-loop table kind p found₀ n₀ found n = 80 - n
+μ-loop table kind p found₀ n₀ found n = 82 - n
 
 loop-holds : tie.Need-loop-holds Inv-loop μ-loop
 loop-holds c = omega arith

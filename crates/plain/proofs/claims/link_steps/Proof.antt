@@ -8,10 +8,10 @@ use Rattle.plain.proofs.claims.link_steps.Statement.{statement}
 use Rattle.plain.proofs.claims.link_steps.Tie as tie
 
 abbrev Inv-loop : tie.InvT-loop
-Inv-loop table p links₀ n₀ links n = (n ≤ 1100) × (length links ≡ length links₀)
+Inv-loop table p links₀ n₀ links n = (n ≤ 1102) × (length links ≡ length links₀)
 
 abbrev μ-loop : tie.MeasureT-loop
-μ-loop table p links₀ n₀ links n = 1100 - n
+μ-loop table p links₀ n₀ links n = 1102 - n
 
 add-n : tie.Need-add-n Inv-loop μ-loop
 add-n c = omega arith
@@ -26,6 +26,7 @@ link-steps-spec =
     Inv-loop
     μ-loop
     (λ c. search needs)
+    (λ c κs. tt)
     (λ c κs. tt)
     (λ c κs. tt)
     (λ c κs. tt)

@@ -8,10 +8,10 @@ use Rattle.plain.proofs.reader.collect_sets.Statement.{statement}
 use Rattle.plain.proofs.reader.collect_sets.Tie as tie
 
 abbrev Inv-loop : tie.InvT-loop
-Inv-loop table₀ n₀ table n = (n ≤ 80) × (length table ≡ length table₀)
+Inv-loop table₀ n₀ table n = (n ≤ 82) × (length table ≡ length table₀)
 
 abbrev μ-loop : tie.MeasureT-loop
-μ-loop table₀ n₀ table n = 80 - n
+μ-loop table₀ n₀ table n = 82 - n
 
 row-set-requires : tie.Need-row-set-requires Inv-loop μ-loop
 row-set-requires c κs = tt

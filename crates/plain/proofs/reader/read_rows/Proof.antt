@@ -8,10 +8,10 @@ use Rattle.plain.proofs.reader.read_rows.Statement.{statement}
 use Rattle.plain.proofs.reader.read_rows.Tie as tie
 
 abbrev Inv-loop : tie.InvT-loop
-Inv-loop batch table₀ place₀ n₀ table place n = (n ≤ 80) × (length table ≡ length table₀)
+Inv-loop batch table₀ place₀ n₀ table place n = (n ≤ 82) × (length table ≡ length table₀)
 
 abbrev μ-loop : tie.MeasureT-loop
-μ-loop batch table₀ place₀ n₀ table place n = 80 - n
+μ-loop batch table₀ place₀ n₀ table place n = 82 - n
 
 byte-requires : tie.Need-byte-requires Inv-loop μ-loop
 byte-requires c κs = tt

@@ -5,10 +5,10 @@ use Rattle.plain.proofs.reader.refusal.Statement.{statement}
 use Rattle.plain.proofs.reader.refusal.Tie as tie
 
 abbrev Inv-loop : tie.InvT-loop
-Inv-loop batch place₀ n₀ place n = n ≤ 80
+Inv-loop batch place₀ n₀ place n = n ≤ 82
 
 abbrev μ-loop : tie.MeasureT-loop
-μ-loop batch place₀ n₀ place n = 80 - n
+μ-loop batch place₀ n₀ place n = 82 - n
 
 loop-holds : tie.Need-loop-holds Inv-loop μ-loop
 loop-holds c = omega arith

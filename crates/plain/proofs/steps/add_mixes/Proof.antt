@@ -8,10 +8,10 @@ use Rattle.plain.proofs.steps.add_mixes.Statement.{statement}
 use Rattle.plain.proofs.steps.add_mixes.Tie as tie
 
 abbrev Inv-loop : tie.InvT-loop
-Inv-loop table₀ line row n₀ set left₀ table n left = (left ≤ 80) × (length table ≡ length table₀)
+Inv-loop table₀ line row n₀ set left₀ table n left = (left ≤ 82) × (length table ≡ length table₀)
 
 abbrev μ-loop : tie.MeasureT-loop
-μ-loop table₀ line row n₀ set left₀ table n left = 80 - left
+μ-loop table₀ line row n₀ set left₀ table n left = 82 - left
 
 add-left : tie.Need-add-left Inv-loop μ-loop
 add-left c = omega arith

@@ -8,10 +8,10 @@ use Rattle.plain.proofs.steps.make_steps.Statement.{statement}
 use Rattle.plain.proofs.steps.make_steps.Tie as tie
 
 abbrev Inv-loop : tie.InvT-loop
-Inv-loop table₀ n₀ row₀ table n row = (row ≤ 80) × (length table ≡ length table₀)
+Inv-loop table₀ n₀ row₀ table n row = (row ≤ 82) × (length table ≡ length table₀)
 
 abbrev μ-loop : tie.MeasureT-loop
-μ-loop table₀ n₀ row₀ table n row = 80 - row
+μ-loop table₀ n₀ row₀ table n row = 82 - row
 
 add-row : tie.Need-add-row Inv-loop μ-loop
 add-row c = omega arith

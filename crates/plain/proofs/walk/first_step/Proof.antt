@@ -5,10 +5,10 @@ use Rattle.plain.proofs.walk.first_step.Statement.{statement}
 use Rattle.plain.proofs.walk.first_step.Tie as tie
 
 abbrev Inv-loop : tie.InvT-loop
-Inv-loop table s near best₀ n₀ best n = n ≤ 1100
+Inv-loop table s near best₀ n₀ best n = n ≤ 1102
 
 abbrev μ-loop : tie.MeasureT-loop
-μ-loop table s near best₀ n₀ best n = 1100 - n
+μ-loop table s near best₀ n₀ best n = 1102 - n
 
 loop-holds : tie.Need-loop-holds Inv-loop μ-loop
 loop-holds c = omega arith

@@ -5,10 +5,10 @@ use Rattle.plain.proofs.walk.one_step_more.Statement.{statement}
 use Rattle.plain.proofs.walk.one_step_more.Tie as tie
 
 abbrev Inv-loop : tie.InvT-loop
-Inv-loop table near found₀ n₀ found n = n ≤ 1100
+Inv-loop table near found₀ n₀ found n = n ≤ 1102
 
 abbrev μ-loop : tie.MeasureT-loop
-μ-loop table near found₀ n₀ found n = 1100 - n
+μ-loop table near found₀ n₀ found n = 1102 - n
 
 loop-holds : tie.Need-loop-holds Inv-loop μ-loop
 loop-holds c = omega arith

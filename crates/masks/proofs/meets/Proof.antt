@@ -1,15 +1,15 @@
--- `search::moves::meets` meets its contract: a set that is not empty has a lowest state.
+-- `masks::meets` meets its contract: a set that is not empty has a lowest state.
 use Prim.Native.Nat.{ℕ, _<_}
 use mathlib.Core.Path.{_≡_, ap, subst}
 use mathlib.Core.Bool.{not}
 use native.Mathlib.Omega.{arith}
 use borrow.Author.Needs.{needs}
 use borrow.Author.Tests.{eqb-false, ne-eqb, not-true}
 use Rattle.masks.specs.Mask.{_∈_}
 use Rattle.masks.proofs.Count.{lowest-is}
 use Rattle.masks.proofs.Member.{in-none, intersection-left, intersection-right, intersection-both}
-use Rattle.search.proofs.moves.meets.Statement.{statement}
-use Rattle.search.proofs.moves.meets.Tie as tie
+use Rattle.masks.proofs.meets.Statement.{statement}
+use Rattle.masks.proofs.meets.Tie as tie
 
 returns : tie.Need-returns
 returns c =

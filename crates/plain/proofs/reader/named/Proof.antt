@@ -1,14 +1,14 @@
--- `plain::walk::marked` is safe and ends. The invariant keeps the counter within its bound and the lengths of what is lent; the measure is what is left to count.
+-- `plain::reader::named` is safe and ends. The invariant keeps the counter within its bound and the lengths of what is lent; the measure is what is left to count.
 use native.Mathlib.Omega.{arith}
 use Prim.Native.Nat.{_≤_, _-_}
-use Rattle.plain.proofs.walk.marked.Statement.{statement}
-use Rattle.plain.proofs.walk.marked.Tie as tie
+use Rattle.plain.proofs.reader.named.Statement.{statement}
+use Rattle.plain.proofs.reader.named.Tie as tie
 
 abbrev Inv-loop : tie.InvT-loop
-Inv-loop table kind found₀ n₀ found n = n ≤ 80
+Inv-loop table kind found₀ n₀ found n = n ≤ 82
 
 abbrev μ-loop : tie.MeasureT-loop
-μ-loop table kind found₀ n₀ found n = 80 - n
+μ-loop table kind found₀ n₀ found n = 82 - n
 
 loop-holds : tie.Need-loop-holds Inv-loop μ-loop
 loop-holds c = omega arith
@@ -34,8 +34,8 @@ loop-again c = omega arith
 returns : tie.Need-returns Inv-loop μ-loop
 returns c = tt
 
-pub marked-spec : {M : Type 1} → statement M
-marked-spec =
+pub named-spec : {M : Type 1} → statement M
+named-spec =
     tie.close
     (tie.spec
     Inv-loop
