@@ -106,7 +106,8 @@ fn struck_sets(sets: &[Set; MOST_SETS], set_count: usize, struck: Set) -> Places
     places
 }
 
-// Leaves the struck states out of the first `count` masks of the part that begins at `base`, and all states out of those at the places `gone`.
+// Leaves the struck states out of the first `count` masks of the part that begins at `base`, and all states out of those at the places
+// `gone`.
 fn leave_out(graph: &mut Masks, base: usize, count: usize, gone: Places, struck: Set)
     requires { ⌜ (base ≤ 192) × (count ≤ 64) ⌝ }
     ensures { λ _. ⌜ LeavesOut (now (graph .entry)) base count gone struck (now (graph .exit)) ⌝ }

@@ -41,7 +41,7 @@ pub record SheetsGrow (l l′ : List ℕ) : Type 0 where
   pub larger : (s : Said) × SheetSays l′ s
   pub no-less : (s s′ : Said) → SheetSays l s → SheetSays l′ s′ → SaysNoLess s s′
 
--- at two calls, in two lists of calls, where the rows of the one plain machine stand in the other
+-- at two calls, in two lists of calls, where the rows of the one plain machine stand in the other, which strikes no more states
 pub record Request15 : Type 0 where
   pub claims : EveryCall (λ m s e. EveryCall (λ m′ s′ e′. Grows (m .rows) (m′ .rows) → KeepsDepths (m .rows) (m′ .rows)))
   pub sheets : EveryCall (λ m s e. EveryCall (λ m′ s′ e′. Grows (m .rows) (m′ .rows) → (l l′ : List ℕ) → Printed e l → Printed e′ l′ → SheetsGrow l l′))

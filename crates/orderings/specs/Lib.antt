@@ -1,4 +1,4 @@
--- Document 01, "Steps and claims" and "Rounds", with request C-16 of gaps; request C-15 of two tables.
+-- Document 01, "Steps and claims" and "Rounds", with requests C-16 of gaps and C-18 of struck states; request C-15 of two tables.
 pub mod Steps
 pub mod Claims
 pub mod Systems

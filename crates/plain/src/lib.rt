@@ -1,4 +1,4 @@
-// A second search, written plainly from document 01 so that the engine can be run against it. It shares no code with the engine.
+// A second search, written plainly from document 01 with requests C-16 and C-18 so that the engine can be run against it. It shares no code with the engine.
 // Nothing is promised of what it writes: each function is proved to stay in bounds and to end, and the sheets are compared.
 // Its limits: 82 rows, 32 sets, of refusals those of single rows.
 //

@@ -189,22 +189,24 @@ fn put_set(buf: &mut [u8], at: usize, set: u64)
     buf[at + 7] = (set % BYTE_1) as u8;
 }
 
+// Writes a kind and a state at the front of the buffer.
+fn put_state(buf: &mut [u8], kind: u8, state: u8) -> usize
+    requires { ⌜ 2 ≤ length (now buf) ⌝ }
+    ensures { λ r. ⌜ Wrote (kind ∷ state ∷ []) (now (buf .entry)) (now (buf .exit)) r ⌝ }
+{
+    buf[0] = kind;
+    buf[1] = state;
+    2
+}
+
 // Writes the row's bytes at the front of the buffer.
 pub fn write_row(buf: &mut [u8], row: Row) -> usize
     requires { ⌜ length (row-bytes row) ≤ length (now buf) ⌝ }
     ensures { λ r. ⌜ Wrote (row-bytes row) (now (buf .entry)) (now (buf .exit)) r ⌝ }
 {
     match row {
-        Row::Initial(s) => {
-            buf[0] = 1;
-            buf[1] = s;
-            2
-        }
-        Row::Final(s) => {
-            buf[0] = 2;
-            buf[1] = s;
-            2
-        }
+        Row::Initial(s) => put_state(buf, 1, s),
+        Row::Final(s) => put_state(buf, 2, s),
         Row::Successor(p, a, q) => {
             buf[0] = 3;
             buf[1] = p;
@@ -224,11 +226,7 @@ pub fn write_row(buf: &mut [u8], row: Row) -> usize
             put_set(buf, 2, set);
             10
         }
-        Row::Strike(s) => {
-            buf[0] = 6;
-            buf[1] = s;
-            2
-        }
+        Row::Strike(s) => put_state(buf, 6, s),
     }
 }
 
