@@ -63,9 +63,9 @@ module _ (rows : List Row) (fit : AllFit rows) (sets : List ℕ) (k : ℕ) (coun
 
     letter-iff : (p q : ℕ) → Dec (p < 64) → (q ∈ getD (graph-of (a .graph) .letters) p 0) ↔ ((x : ℕ) × Possible rows p (letter x) q)
     letter-iff p q (yes l) = rw (letters-at (a .graph) p l) (
-      (λ i. let w = out .letters (h .size) p q l .0 i in let s = h .leads p q l .0 (w .0) in
+      (λ i. let w = out .letters (h .size) p l q .0 i in let s = h .leads p q l .0 (w .0) in
           (s .2 .0, (Memᴰ·cast (sym (s .2 .1)) (s .1), and-clear p (q ∷ []) (w .1) (and-clear q [] (w .2) (λ s m. absurd (List·Memᴰ·not-nil m)))))),
-      λ (x, (m, u)). let f = fit (Successor p x q) m in out .letters (h .size) p q l .1 (
+      λ (x, (m, u)). let f = fit (Successor p x q) m in out .letters (h .size) p l q .1 (
         h .leads p q l .1 (Successor p x q, m, (x, refl, f .0, f .2)),
         not-struck p (p ∷ q ∷ []) u (List·Memᴰ·head refl),
         not-struck q (p ∷ q ∷ []) u (List·Memᴰ·tail (List·Memᴰ·head refl)),
@@ -119,9 +119,9 @@ module _ (rows : List Row) (fit : AllFit rows) (sets : List ℕ) (k : ℕ) (coun
             getD-take k (graph-of (a .graph) .sets) i 0 g ∙ set-is i g ∙ sym (getD-take k sets i 0 g)) ∙ are;
         letter-iff = λ p q. letter-iff p q (dec· (ltb· p 64));
         left-iff = λ i r l. rw (lefts-at (a .graph) i (omega arith), set-is i l)
-            (let x = LeftLimit (getD sets i 0) r in limit-iff x i r l (λ m. fit x m .2) _ _ (h .enters (sets-rise rows sets k are count) i r l) (out .lefts (h .size) i r l));
+            (let x = LeftLimit (getD sets i 0) r in limit-iff x i r l (λ m. fit x m .2) _ _ (h .enters (sets-rise rows sets k are count) i r l) (out .lefts (h .size) i l r));
         right-iff = λ i r l. rw (rights-at (a .graph) i (omega arith), set-is i l)
-            (let x = RightLimit r (getD sets i 0) in limit-iff x i r l (λ m. fit x m .2) _ _ (h .leaves (sets-rise rows sets k are count) i r l) (out .rights (h .size) i r l));
+            (let x = RightLimit r (getD sets i 0) in limit-iff x i r l (λ m. fit x m .2) _ _ (h .leaves (sets-rise rows sets k are count) i r l) (out .rights (h .size) i l r));
       };
       sets-in = λ w. record {
         count = w .count;

@@ -3,24 +3,24 @@
 use Prim.Native.Nat.{ℕ, _+_, _≤_, _<_}
 use mathlib.Core.Path.{_≡_, refl, sym, subst, _∙_}
 use mathlib.Core.Bool.{Bool, true, false, not, _&&_, _||_}
-use mathlib.Core.Logic.{_⊎_, inl, inr, ⊎-elim, _↔_}
+use mathlib.Core.Logic.{_⊎_, inl, inr, ⊎-elim}
 use mathlib.Core.List.{List}
 use lib.Dec.{eqb}
 use lib.ListN.{getD, set, length-set}
 use lib.Seq.{getD-set-same, getD-set-other}
 use native.Mathlib.Omega.{arith}
 use Rattle.masks.specs.Mask.{member, _∈_}
-use Rattle.masks.proofs.Member.{lt-or-le, true-or-false, not-both, in-none, with-same, with-cases, difference-left, difference-not, difference-cases}
+use Rattle.masks.proofs.Member.{lt-or-le, not-both, in-none, with-same, with-cases, difference-left, difference-not, difference-cases}
 use Rattle.automaton.specs.Striking.{Remains, StruckSets, LeavesOut, Strikes}
 
 -- ---- one mask
 
 pub remains-none : (m struck : ℕ) {goes : Bool} → goes ≡ true → Remains m goes struck 0
-remains-none m struck e t = ((λ i. absurd (in-none t i)), λ w. absurd (not-both e (w .1)))
+remains-none m struck e t = ((λ i. absurd (in-none t i)), λ w. absurd (w .1 e))
 
 pub remains-some : (m struck r : ℕ) {goes : Bool} → goes ≡ false → ((t : ℕ) → member t r ≡ (member t m && not (member t struck))) → Remains m goes struck r
 remains-some m struck r e is t = (
-  (λ i. (difference-left m struck r is t i, e, difference-not m struck r is t i)),
+  (λ i. (difference-left m struck r is t i, (λ g. not-both g e), difference-not m struck r is t i)),
   λ w. ⊎-elim (λ g. absurd (w .2 g)) (λ i. i) (difference-cases m struck r is t (w .0)),
 )
 
@@ -50,30 +50,21 @@ module _ (sets : List ℕ) (struck : ℕ) where
 
 module _ (old : List ℕ) (base gone struck : ℕ) where
   pub leave-none : LeavesOut old base 0 gone struck old
-  leave-none = record { length-is = refl; here = λ e i t l. absurd (omega arith); others = λ j h. refl }
+  leave-none = record { length-is = refl; here = λ e i l. absurd (omega arith); others = λ j h. refl }
 
   pub leave-more : (i : ℕ) (now : List ℕ) (r : ℕ) → base ≤ 192 → i < 64 → LeavesOut old base i gone struck now
       → Remains (getD now (base + i) 0) (member i gone) struck r → LeavesOut old base (i + 1) gone struck (set now (base + i) r)
   leave-more i now r low l h is = record {
     length-is = length-set now (base + i) r ∙ h .length-is;
-    here = λ e j t g. ⊎-elim
-        (λ b. subst (λ m. (t ∈ m) ↔ ((t ∈ getD old (base + j) 0) × ¬ (j ∈ gone) × ¬ (t ∈ struck))) (sym (getD-set-other now (base + i) (base + j) r 0 (λ q. omega arith))) (h .here e j t b))
+    here = λ e j g. ⊎-elim
+        (λ b. subst (Remains (getD old (base + j) 0) (member j gone) struck) (sym (getD-set-other now (base + i) (base + j) r 0 (λ q. omega arith))) (h .here e j b))
         (λ b. let q : i ≡ j = omega arith in
-        subst (λ k. (t ∈ getD (set now (base + i) r) (base + k) 0) ↔ ((t ∈ getD old (base + k) 0) × ¬ (k ∈ gone) × ¬ (t ∈ struck))) q
-        (subst (λ m. (t ∈ m) ↔ ((t ∈ getD old (base + i) 0) × ¬ (i ∈ gone) × ¬ (t ∈ struck))) (sym (getD-set-same now (base + i) r 0 (omega (arith, h .length-is))))
-        (last t)))
+        subst (λ k. Remains (getD old (base + k) 0) (member k gone) struck (getD (set now (base + i) r) (base + k) 0)) q
+        (subst (Remains (getD old (base + i) 0) (member i gone) struck) (sym (getD-set-same now (base + i) r 0 (omega (arith, h .length-is))))
+        (subst (λ m. Remains m (member i gone) struck r) (h .others (base + i) (inr (omega arith))) is)))
         (lt-or-le j i);
     others = λ j g. getD-set-other now (base + i) j r 0 (λ q. ⊎-elim (λ b. omega arith) (λ b. omega arith) g) ∙ h .others j (⊎-elim inl (λ b. inr (omega arith)) g);
   }
-    where
-      same : getD now (base + i) 0 ≡ getD old (base + i) 0
-      same = h .others (base + i) (inr (omega arith))
-
-      last : (t : ℕ) → (t ∈ r) ↔ ((t ∈ getD old (base + i) 0) × ¬ (i ∈ gone) × ¬ (t ∈ struck))
-      last t = (
-        (λ j. let w = is t .0 j in (subst (λ m. t ∈ m) same (w .0), (λ g. not-both g (w .1)), w .2)),
-        λ w. is t .1 (subst (λ m. t ∈ m) (sym same) (w .0), ⊎-elim (λ g. absurd (w .1 g)) (λ g. g) (true-or-false (member i gone)), w .2),
-      )
 
 -- ---- all parts
 
@@ -83,14 +74,14 @@ strikes-none sets n struck graph e = rw e (record {
   gone = 0;
   is-gone = λ i. ((λ h. absurd (in-none i h)), λ w. absurd (in-none (w .1 .0) (w .1 .2)));
   length-is = refl;
-  letters = λ s p q l. all p q;
-  lefts = λ s i t l. all i t;
-  rights = λ s i t l. all i t;
+  letters = λ s p l. all p (getD graph p 0);
+  lefts = λ s i l. all i (getD graph (128 + i) 0);
+  rights = λ s i l. all i (getD graph (192 + i) 0);
   others = λ j h. refl;
 })
   where
-    all : (i t : ℕ) {X : Type 0} → X ↔ (X × ¬ (i ∈ 0) × ¬ (t ∈ 0))
-    all i t = ((λ x. (x, in-none i, in-none t)), λ w. w .0)
+    all : (i m : ℕ) → Remains m (member i 0) 0 m
+    all i m t = ((λ x. (x, in-none i, in-none t)), λ w. w .0)
 
 -- letters, then left limits, then right limits
 pub strikes-all : (sets : List ℕ) (n struck gone : ℕ) (g₀ g₁ g₂ g₃ : List ℕ) → n ≤ 64 → StruckSets sets n struck gone
@@ -99,14 +90,12 @@ strikes-all sets n struck gone g₀ g₁ g₂ g₃ few is a b c = record {
   gone = gone;
   is-gone = is;
   length-is = c .length-is ∙ b .length-is ∙ a .length-is;
-  letters = λ s p q l. let z : 0 + p ≡ p = omega arith in
-      subst (λ m. (q ∈ m) ↔ ((q ∈ getD g₀ p 0) × ¬ (p ∈ struck) × ¬ (q ∈ struck))) (sym (c .others p (inl (omega arith)) ∙ b .others p (inl (omega arith)))) (rw z at (a .here s p q l));
-  lefts = λ s i t l.
-      subst (λ m. (t ∈ m) ↔ ((t ∈ getD g₀ (128 + i) 0) × ¬ (i ∈ gone) × ¬ (t ∈ struck))) (sym (c .others (128 + i) (inl (omega arith))))
-      (subst (λ m. (t ∈ getD g₂ (128 + i) 0) ↔ ((t ∈ m) × ¬ (i ∈ gone) × ¬ (t ∈ struck))) (a .others (128 + i) (inr (omega arith))) (b .here (a .length-is ∙ s) i t l));
-  rights = λ s i t l.
-      subst (λ m. (t ∈ getD g₃ (192 + i) 0) ↔ ((t ∈ m) × ¬ (i ∈ gone) × ¬ (t ∈ struck))) (b .others (192 + i) (inr (omega arith)) ∙ a .others (192 + i) (inr (omega arith)))
-      (c .here (b .length-is ∙ a .length-is ∙ s) i t l);
+  letters = λ s p l. let z : 0 + p ≡ p = omega arith in
+      subst (Remains (getD g₀ p 0) (member p struck) struck) (sym (c .others p (inl (omega arith)) ∙ b .others p (inl (omega arith)))) (rw z at (a .here s p l));
+  lefts = λ s i l. subst (Remains (getD g₀ (128 + i) 0) (member i gone) struck) (sym (c .others (128 + i) (inl (omega arith))))
+      (subst (λ m. Remains m (member i gone) struck (getD g₂ (128 + i) 0)) (a .others (128 + i) (inr (omega arith))) (b .here (a .length-is ∙ s) i l));
+  rights = λ s i l. subst (λ m. Remains m (member i gone) struck (getD g₃ (192 + i) 0))
+      (b .others (192 + i) (inr (omega arith)) ∙ a .others (192 + i) (inr (omega arith))) (c .here (b .length-is ∙ a .length-is ∙ s) i l);
   others = λ j h. let apart = by j h in c .others j (apart .2) ∙ b .others j (apart .1) ∙ a .others j (apart .0);
 }
   where

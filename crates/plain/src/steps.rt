@@ -114,6 +114,7 @@ fn add_step(table: &mut [u64], n: u64, step: Line) -> u64 {
     n
 }
 
+// Puts a step that is not struck on line `n`, and answers the next line.
 fn add_unstruck(table: &mut [u64], n: u64, step: Line) -> u64 {
     if is_struck(table, step) {
         keep_strike(table);

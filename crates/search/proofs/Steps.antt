@@ -1,7 +1,7 @@
 -- Steps as the masks have them are the steps of the rows with the claims in force, and chains of them are walks.
 use Prim.Native.Nat.{ℕ, _<_}
 use mathlib.Core.Path.{_≡_, refl, sym, subst}
-use mathlib.Core.Logic.{inl, inr, ⊎-elim}
+use mathlib.Core.Logic.{inl, inr, ⊎-elim, _↔_}
 use mathlib.Core.List.{List, [], _∷_, List·Memᴰ·head, List·Memᴰ·tail, List·Memᴰ·not-nil, List·Memᴰ·cases-cons}
 use lib.ListN.{getD}
 use Rattle.lists.specs.Tests.{_among_}
@@ -10,12 +10,22 @@ use Rattle.rows.specs.declared.Row.{Row}
 use Rattle.rows.specs.declared.Row.the-variants.{LeftLimit, RightLimit}
 use Rattle.rows.specs.Rows.{SetOf}
 use Rattle.rows.proofs.Sets.{set-place}
-use Rattle.orderings.specs.Steps.{Claim, loops, mixes, letter, ω, back, mix, members}
+use Rattle.orderings.specs.Steps.{Claim, loops, mixes, letter, ω, back, mix, members, Possible}
 use Rattle.orderings.proofs.Timelines.{members-iff}
 use Rattle.search.specs.declared.Claims.{Claims}
 use Rattle.search.specs.Graph.{Graph}
 use Rattle.search.specs.Masked.{LeftRow, RightRow, Masked, Forced, StepInside}
 use Rattle.search.specs.Hops.{Hop, InnerClaims}
+
+-- a mix step exists where its two rows stand and no struck state is in the way of either
+pub mix-rows : (rows : List Row) (p P q : ℕ) → (RightRow rows p P × LeftRow rows P q) ↔ Possible rows p (mix P) q
+mix-rows rows p P q = (
+  (λ (r, l). ((r .0, l .0), λ s m. ⊎-elim (λ e. l .1 s (List·Memᴰ·head e)) (r .1 s) (List·Memᴰ·cases-cons m))),
+  λ (h, u). (
+    (h .0, λ s m. u s (List·Memᴰ·tail m)),
+    (h .1, λ s m. ⊎-elim (λ e. u s (List·Memᴰ·head e)) (λ j. u s (List·Memᴰ·tail (List·Memᴰ·tail j))) (List·Memᴰ·cases-cons m)),
+  ),
+)
 
 module _ {rows : List Row} {g : Graph} {n : ℕ} (is : Masked rows g n) where
   -- a set of the rows has a place
@@ -51,10 +61,9 @@ module _ {rows : List Row} {g : Graph} {n : ℕ} (is : Masked rows g n) where
         (λ e. let i = e .0 in let j = is-inner .loops-are i .0 (e .1) in let f = forced .loop-iff i .0 (j .0) in
         let r = is .right-iff i a (f .0) .0 (e .2) in
         (back (getD (g .sets) i 0), ((r .0, e .3), r .1), f .1, and-in a _ (h .start) (set-in _ (j .1)))))
-        (λ e. let i = e .0 in let j = is-inner .mixes-are i .0 (e .1) in let f = forced .mix-iff i .0 (j .0) in
-        let r = is .right-iff i a (f .0) .0 (e .2) in let l = is .left-iff i b (f .0) .0 (e .3) in (
+        (λ e. let i = e .0 in let j = is-inner .mixes-are i .0 (e .1) in let f = forced .mix-iff i .0 (j .0) in (
           mix (getD (g .sets) i 0),
-          ((r .0, l .0), λ s m. ⊎-elim (λ q. l .1 s (List·Memᴰ·head q)) (r .1 s) (List·Memᴰ·cases-cons m)),
+          mix-rows rows a _ b .0 (is .right-iff i a (f .0) .0 (e .2), is .left-iff i b (f .0) .0 (e .3)),
           f .1,
           and-in b _ (h .end) (and-in a _ (h .start) (set-in _ (j .1))),
         )))
@@ -101,11 +110,9 @@ module _ {rows : List Row} {g : Graph} {n : ℕ} (is : Masked rows g n) where
     step-hop a b (mix Q, can, f, c) =
         let i = right-place Q a (can .0 .0) in
         let h : Q ⊆ p = λ s m. c s (List·Memᴰ·tail (List·Memᴰ·tail (members-iff Q s .1 m))) in
-        let right : RightRow rows a Q = (can .0 .0, λ s m. can .1 s (List·Memᴰ·tail m)) in
-        let left : LeftRow rows Q b =
-        (can .0 .1, λ s m. ⊎-elim (λ e. can .1 s (List·Memᴰ·head e)) (λ j. can .1 s (List·Memᴰ·tail (List·Memᴰ·tail j))) (List·Memᴰ·cases-cons m)) in
+        let both = mix-rows rows a Q b .1 can in
         record {
           start = c a (List·Memᴰ·tail (List·Memᴰ·head refl));
           end = c b (List·Memᴰ·head refl);
-          kind = inr (inr (i .0, mix-inner Q _ (i .1) (i .2) f h, in-right Q a _ (i .1) (i .2) right, in-left Q b _ (i .1) (i .2) left));
+          kind = inr (inr (i .0, mix-inner Q _ (i .1) (i .2) f h, in-right Q a _ (i .1) (i .2) (both .0), in-left Q b _ (i .1) (i .2) (both .1)));
         }

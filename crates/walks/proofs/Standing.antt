@@ -2,7 +2,7 @@
 use Prim.Native.Nat.{ℕ, _<_}
 use mathlib.Core.Path.{_≡_, refl, sym, subst, _∙_}
 use mathlib.Core.Logic.{_⊎_, inl, inr, ⊎-elim, _↔_}
-use mathlib.Core.List.{List, [], _∷_, map, List·Memᴰ·head, List·Memᴰ·tail, List·Memᴰ·cases-cons}
+use mathlib.Core.List.{List, [], _∷_, map, List·Memᴰ·head}
 use native.Mathlib.Omega.{arith}
 use lib.ListN.{length, getD, length-map}
 use Rattle.lists.specs.Tests.{_among_}
@@ -25,6 +25,7 @@ use Rattle.search.specs.Graph.{Graph, TurnedGraph}
 use Rattle.search.specs.Masked.{LeftRow, RightRow}
 use Rattle.search.specs.Hops.{Lettered, Claimed, all-mask}
 use Rattle.search.specs.Promises.{Stands}
+use Rattle.search.proofs.Steps.{mix-rows}
 use Rattle.search.proofs.Accepting.{has-all}
 use Rattle.row_table.specs.Arrays.{Keyed}
 use Rattle.row_table.proofs.Keys.{none, ascending, row-at}
@@ -77,8 +78,7 @@ module _ {g b : Graph} (turned : TurnedGraph g b) {force : Claims} {rows : List 
   back-can a t i hi here there = let f = loop-iff i .0 hi in let r = right-iff i a (f .0) .0 here in (((r .0, there), r .1), f .1)
 
   mix-can : (a t i : ℕ) → i ∈ force .mixes → a ∈ getD (b .lefts) i 0 → t ∈ getD (b .rights) i 0 → Can rows claims a (mix (getD (b .sets) i 0)) t
-  mix-can a t i hi here there = let f = mix-iff i .0 hi in let r = right-iff i a (f .0) .0 here in let l = left-iff i t (f .0) .0 there in
-      (((r .0, l .0), λ s m. ⊎-elim (λ e. l .1 s (List·Memᴰ·head e)) (r .1 s) (List·Memᴰ·cases-cons m)), f .1)
+  mix-can a t i hi here there = let f = mix-iff i .0 hi in (mix-rows rows a _ t .0 (right-iff i a (f .0) .0 here, left-iff i t (f .0) .0 there), f .1)
 
   -- a step that the arrays have is one of the rows; the keys of letter rows do not say what is struck
   pub way-can : (a : ℕ) (l : Label) (t : ℕ) → Unstruck rows (a ∷ t ∷ []) → WayOf a l t → Can rows claims a l t
@@ -104,10 +104,8 @@ module _ {g b : Graph} (turned : TurnedGraph g b) {force : Claims} {rows : List 
       (i .0, loop-iff (i .0) .1 (i .1, f .1), i .2, right-iff (i .0) a (i .1) .1 (f .0 .0 .0, f .0 .1), f .0 .0 .1)
   can-way a (mix P) t h = let i = place P (RightLimit a P, h .0 .0 .0, List·Memᴰ·head refl) in
       let f = rw (i .2) at h in
-      let u = f .0 .1 in
-      let right = right-iff (i .0) a (i .1) .1 (f .0 .0 .0, λ s m. u s (List·Memᴰ·tail m)) in
-      let left = left-iff (i .0) t (i .1) .1 (f .0 .0 .1, λ s m. ⊎-elim (λ e. u s (List·Memᴰ·head e)) (λ j. u s (List·Memᴰ·tail (List·Memᴰ·tail j))) (List·Memᴰ·cases-cons m)) in
-      (i .0, mix-iff (i .0) .1 (i .1, f .1), i .2, right, left)
+      let both = mix-rows rows a _ t .1 (f .0) in
+      (i .0, mix-iff (i .0) .1 (i .1, f .1), i .2, right-iff (i .0) a (i .1) .1 (both .0), left-iff (i .0) t (i .1) .1 (both .1))
 
   -- a step of the rows is found from its end
   pub can-ahead : (s : ℕ) (l : Label) (t : ℕ) → Can rows claims s l t → Ahead b force s t
