@@ -1,10 +1,11 @@
 -- Document 01, "Rows and the batch" and causes 2 to 5, with request C-18's kind 6, at the numbers that they name, computed: the bytes of each kind of row (`kinds-in-bytes`),
--- and what the reader says of them (`rows-read`, `states-to-63`, `sets-not-0`, `kinds-1-to-6`, `lowest-number`).
+-- and what the reader says of them (`rows-read`, `states-to-63`, `sets-not-0`, `kinds-1-to-6`, `lowest-number`),
+-- and which rows have a set (`sets-of-limits-alone`).
 use mathlib.Core.Path.{_≡_, refl}
 use mathlib.Core.List.{[], _∷_}
 use Rattle.rows.specs.declared.Row.the-variants.{Initial, Final, Successor, LeftLimit, RightLimit, Strike}
 use Rattle.rows.specs.declared.ReadRow.the-variants.{Read, Refused}
-use Rattle.rows.specs.Rows.{row-bytes}
+use Rattle.rows.specs.Rows.{row-bytes, standing-sets}
 use Rattle.rows.specs.Reading.{set-at, row-at, row-cause, read-row}
 
 -- the kind, then the body; a set is eight bytes, most significant first
@@ -56,3 +57,8 @@ pub lowest-number : (read-row (7 ∷ []) ≡ Refused 2)
     × (read-row (5 ∷ 64 ∷ 0 ∷ 0 ∷ 0 ∷ 0 ∷ 0 ∷ 0 ∷ 0 ∷ 0 ∷ []) ≡ Refused 4)
 unfolding set-at row-at row-cause read-row
 lowest-number = (refl, refl, refl, refl, refl, refl)
+
+-- the two kinds of limit rows have a set, and no other kind has one: not a strike either
+pub sets-of-limits-alone : standing-sets (Strike 10 ∷ RightLimit 8 9 ∷ Initial 1 ∷ Final 2 ∷ Successor 3 4 5 ∷ LeftLimit 6 7 ∷ []) ≡ 6 ∷ 9 ∷ []
+unfolding standing-sets
+sets-of-limits-alone = refl
