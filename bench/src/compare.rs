@@ -1,4 +1,4 @@
-//! Every answer of the engine against plain Rust: return value, place, and the whole buffer.
+//! Every answer of the engine against plain Rust: return value, place, and the whole buffer; and its verdict against the sheet's.
 
 use crate::batches::{any, Random};
 use crate::engine;
@@ -53,7 +53,7 @@ fn stop(batch: &[u8], plain: &Answer, engine: &Answer) -> ! {
 pub fn run(seed: u64, count: usize) {
     let mut random = Random(seed);
     let mut refusals = [0usize; 16];
-    let mut bytes = 0;
+    let (mut bytes, mut nonempty) = (0, 0);
     for _ in 0..count {
         let batch = any(&mut random);
         let length = length(&mut random, &batch);
@@ -64,10 +64,16 @@ pub fn run(seed: u64, count: usize) {
         if plain != engine {
             stop(&batch, &plain, &engine);
         }
+        let sheet = answer(engine::plain_verdict, &batch, &[], place);
+        let verdict = answer(engine::verdict, &batch, &[], place);
+        if sheet != verdict {
+            stop(&batch, &sheet, &verdict);
+        }
+        nonempty += (verdict.0 == 1) as usize;
         refusals[(plain.0 >> 32) as usize & 15] += 1;
         bytes += batch.len();
     }
-    println!("compared on {count} batches from seed {seed}, {bytes} bytes: no difference; {} sheets", refusals[0]);
+    println!("compared on {count} batches from seed {seed}, {bytes} bytes: no difference; {} sheets; {nonempty} verdicts are non-empty", refusals[0]);
     for (number, times) in refusals.iter().enumerate().skip(1).filter(|(_, times)| **times > 0) {
         println!("  refusal {number}: {times}");
     }

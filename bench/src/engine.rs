@@ -4,6 +4,7 @@
 extern "C" {
     /// A slice passes as its address, which is never null, and its length.
     fn gozhmerik_sheet(batch: *const u8, batch_len: usize, sheet: *mut u8, sheet_len: usize, place: *mut u64) -> u64;
+    fn gozhmerik_verdict(batch: *const u8, batch_len: usize, place: *mut u64) -> u64;
 }
 
 /// Whether the archive is linked.
@@ -19,6 +20,27 @@ pub fn sheet(batch: &[u8], sheet: &mut [u8], place: &mut u64) -> u64 {
 #[cfg(not(engine))]
 pub fn sheet(batch: &[u8], sheet: &mut [u8], place: &mut u64) -> u64 {
     plain(batch, sheet, place)
+}
+
+/// 1 for non-empty, 0 for empty, or the refusal's number times 2^32 with its place in `place`. The buffer is as it was.
+#[cfg(engine)]
+#[inline]
+pub fn verdict(batch: &[u8], _: &mut [u8], place: &mut u64) -> u64 {
+    unsafe { gozhmerik_verdict(batch.as_ptr(), batch.len(), place) }
+}
+
+#[cfg(not(engine))]
+pub fn verdict(batch: &[u8], sheet: &mut [u8], place: &mut u64) -> u64 {
+    plain_verdict(batch, sheet, place)
+}
+
+/// What the verdict must be: the first line of plain Rust's sheet, or its refusal.
+pub fn plain_verdict(batch: &[u8], _: &mut [u8], place: &mut u64) -> u64 {
+    let mut text = [0; plain::LONGEST_SHEET];
+    match plain(batch, &mut text, place) {
+        length if length >> 32 == 0 => text.starts_with(b"verdict nonempty") as u64,
+        refusal => refusal,
+    }
 }
 
 /// Plain Rust under the same interface.

@@ -1,4 +1,4 @@
-//! The time of each family for the engine and for plain Rust, taken in turns; the best of many repetitions counts.
+//! The time of each family for the engine, for plain Rust and for the engine's verdict alone, taken in turns; the best of many repetitions counts.
 
 use crate::batches::{automaton, initial, ladder, last, left, letter, repeated, right, Random};
 use crate::{cases, engine};
@@ -19,24 +19,25 @@ fn pass(sheet: Sheet, family: &[Vec<u8>], buffer: &mut [u8], passes: usize) -> f
     from.elapsed().as_secs_f64() / passes as f64
 }
 
-/// The best times of engine and plain Rust for one batch of the family, in nanoseconds.
-fn times(family: &[Vec<u8>]) -> (f64, f64) {
+/// The best times of engine, plain Rust and the engine's verdict for one batch of the family, in nanoseconds.
+fn times(family: &[Vec<u8>]) -> [f64; 3] {
     let mut buffer = vec![0; plain::LONGEST_SHEET];
     // As many passes as take some 50 microseconds: the clock does not count, and other work seldom falls in between.
     let once = pass(engine::plain, family, &mut buffer, 1).max(1e-8);
     let passes = ((5e-5 / once) as usize).clamp(1, 1000);
-    let mut best = (f64::MAX, f64::MAX);
+    let mut best = [f64::MAX; 3];
     let from = Instant::now();
     let mut turns = 0;
     while turns < 30 || (turns < 5000 && from.elapsed() < Duration::from_millis(600)) {
-        best.1 = best.1.min(pass(engine::plain, family, &mut buffer, passes));
+        best[1] = best[1].min(pass(engine::plain, family, &mut buffer, passes));
         if engine::THERE {
-            best.0 = best.0.min(pass(engine::sheet, family, &mut buffer, passes));
+            best[0] = best[0].min(pass(engine::sheet, family, &mut buffer, passes));
+            best[2] = best[2].min(pass(engine::verdict, family, &mut buffer, passes));
         }
         turns += 1;
     }
     let each = 1e9 / family.len() as f64;
-    (best.0 * each, best.1 * each)
+    best.map(|time| time * each)
 }
 
 /// The rounds of a batch, by its sheet; none if it is refused.
@@ -71,16 +72,22 @@ fn worked(random: &mut Random, count: usize, states: u64, rows: usize) -> Vec<Ve
 
 fn line(name: &str, family: &[Vec<u8>]) {
     let bytes = family.iter().map(Vec::len).sum::<usize>() / family.len();
-    let (engine, plain) = times(family);
+    let [engine, plain, verdict] = times(family);
     let rounds = all_rounds(family);
+    print!("{name:<34} {bytes:>7} {rounds:>9}");
     match engine::THERE {
-        true => println!("{name:<34} {bytes:>7} {rounds:>9} {engine:>12.0} {plain:>12.0} {:>8.2}", engine / plain),
-        false => println!("{name:<34} {bytes:>7} {rounds:>9} {:>12} {plain:>12.0} {:>8}", "-", "-"),
+        true => {
+            println!(" {engine:>12.0} {plain:>12.0} {:>8.2} {verdict:>12.0} {:>8.2}", engine / plain, verdict / engine)
+        }
+        false => println!(" {:>12} {plain:>12.0} {:>8} {:>12} {:>8}", "-", "-", "-", "-"),
     }
 }
 
 fn head(title: &str) {
-    println!("\n{title:<34} {:>7} {:>9} {:>12} {:>12} {:>8}", "bytes", "rounds", "engine ns", "plain ns", "ratio");
+    println!(
+        "\n{title:<34} {:>7} {:>9} {:>12} {:>12} {:>8} {:>12} {:>8}",
+        "bytes", "rounds", "engine ns", "plain ns", "ratio", "verdict ns", "of sheet"
+    );
 }
 
 /// The families of the benchmark.

@@ -22,5 +22,7 @@ int main(void) {
         return 1;
     }
     fwrite(sheet, 1, (size_t)value, stdout);
+    /* Where only the verdict matters, no sheet is needed. */
+    printf("%s\n", gozhmerik_verdict(case_a, sizeof case_a, &place) == 1 ? "some word is accepted" : "no word is accepted");
     return 0;
 }

@@ -22,7 +22,13 @@ extern "C" {
    where its length is 0, and the three must not overlap. Nothing is kept between calls. */
 uint64_t gozhmerik_sheet(const uint8_t *batch, size_t batch_len, uint8_t *sheet, size_t sheet_len, uint64_t *place);
 
-/* The number of a refusal, 0 if the value is a sheet's length. */
+/* The same batch, its verdict alone: no rounds are done and no sheet is written, which is faster.
+
+   Verdict: the value returned is 1 for non-empty, 0 for empty, as the first line of the sheet says.
+   Refusal: the value returned is its number times 2^32, and its place is in *place. */
+uint64_t gozhmerik_verdict(const uint8_t *batch, size_t batch_len, uint64_t *place);
+
+/* The number of a refusal, 0 if the value is a sheet's length or a verdict. */
 static inline unsigned gozhmerik_refusal(uint64_t value) { return (unsigned)(value >> 32); }
 
 #ifdef __cplusplus

@@ -7,6 +7,7 @@ use std::io::Write;
 extern "C" {
     // A slice passes as its address, which is never null, and its length.
     fn gozhmerik_sheet(batch: *const u8, batch_len: usize, sheet: *mut u8, sheet_len: usize, place: *mut u64) -> u64;
+    fn gozhmerik_verdict(batch: *const u8, batch_len: usize, place: *mut u64) -> u64;
 }
 
 /// No sheet is longer.
@@ -26,6 +27,16 @@ fn sheet(batch: &[u8]) -> Result<Vec<u8>, (u64, u64)> {
     Ok(text)
 }
 
+/// Is there any word that the automaton of a batch accepts? Or the number and the place of a refusal.
+fn verdict(batch: &[u8]) -> Result<bool, (u64, u64)> {
+    let mut place = 0;
+    // The slice is valid for its length, and the function only reads it.
+    match unsafe { gozhmerik_verdict(batch.as_ptr(), batch.len(), &mut place) } {
+        refusal if refusal >> 32 != 0 => Err((refusal >> 32, place)),
+        value => Ok(value == 1),
+    }
+}
+
 fn main() -> std::io::Result<()> {
     let case_a = [
         &[1, 0][..],                      // state 0 is initial
@@ -36,7 +47,9 @@ fn main() -> std::io::Result<()> {
     ]
     .concat();
     match sheet(&case_a) {
-        Ok(text) => std::io::stdout().write_all(&text),
-        Err((number, place)) => writeln!(std::io::stdout(), "refused {number} at {place}"),
+        Ok(text) => std::io::stdout().write_all(&text)?,
+        Err((number, place)) => writeln!(std::io::stdout(), "refused {number} at {place}")?,
     }
+    // Where only the verdict matters, no sheet is needed.
+    writeln!(std::io::stdout(), "{:?}", verdict(&case_a))
 }

@@ -1,5 +1,6 @@
 -- Callers: each call goes on a list of calls from a fresh session (`one-more`), and what holds at every call holds at it (`at-call`). The
--- lists: rounds until settled, and a print (`prints-after`); refusals (`refuses-first`); save and load (`saves-again`, `saves-short`).
+-- lists: rounds until settled, and a print (`prints-after`); refusals (`refuses-first`); verdicts (`foretells`); save and load (`saves-again`,
+-- `saves-short`).
 use Prim.Native.Nat.{ℕ, zero, suc, _+_, _≤_, _<_}
 use mathlib.Core.Path.{_≡_, refl, ap, sym, _∙_, subst}
 use mathlib.Core.Bool.{Bool, true, false, cond}
@@ -15,30 +16,32 @@ use Rattle.rows.specs.Batch.{Fed, fed, failed, feed}
 use Rattle.orderings.specs.Decide.{accepts?}
 use Rattle.orderings.specs.MoreRows.{Grows, StrikesNothing}
 use Rattle.machine.specs.declared.Answer.{Answer}
-use Rattle.machine.specs.declared.Answer.the-variants.{Done, Wrote, Refused}
+use Rattle.machine.specs.declared.Answer.the-variants.{Done, Wrote, Decided, Refused}
+use Rattle.machine.specs.declared.Verdict.{Verdict}
 use Rattle.machine.specs.declared.Phase.{Phase}
 use Rattle.machine.specs.declared.Phase.the-variants.{Open, Running, Settled}
 use Rattle.machine.specs.Machine.{Machine, fresh, load-row, judged, closed, opened-next, nothing?, next-round, open-claims}
-use Rattle.machine.specs.Calls.{Call, load, close, round, reopen, print, save, done, wrote, refused, returned, Next, with-rows, saved, call-in, call, run, Brings, Tells}
+use Rattle.machine.specs.Calls.{Call, load, close, round, reopen, verdict, print, save, done, wrote, refused, returned, Next, with-rows, saved, call-in, call, run, second, Brings, Tells}
 use Rattle.machine.specs.Causes.{NotOpen, running, settled, NeedsClosed, rounding, printing, saves, still-open}
 use Rattle.machine.proofs.Answers.{done-by, answer-by, tells-as}
 use Rattle.machine.proofs.Phases.{open-closes, settled-refuses}
-use Rattle.machine.proofs.Outcomes.{Done as RoundDone, round-done, comes, writing}
+use Rattle.machine.proofs.Outcomes.{Done as RoundDone, round-done, comes, writing, deciding, NoBatches, rows-kept}
 use Rattle.machine.proofs.Ending.{rounds-done}
 use Rattle.machine.proofs.MoreRows.{EachOnlyAdds, run-grows}
 use Rattle.session.specs.declared.Session.{Session}
 use Rattle.session.specs.declared.Reply.{Reply}
 use Rattle.session.specs.Record.{record-of, Represents}
 use Rattle.session.specs.Standing.{reply}
+use Rattle.session.proofs.Whole.{phase-of}
 use Rattle.demands.specs.Trace.{Exchange, Trace, given, Served, onward, plain-after, exchange}
 use Rattle.demands.specs.Demands.{EveryCall, Answered, PrintsTrue, SavesRows, ExactPrint}
-use Rattle.demands.specs.Requests.{OneRound, Printed, SheetsGrow}
-use Rattle.callers.specs.Handed.{HandedBack, FirstCall, RoundsAfter, worked, PrintedAfter, reworked, AddedLate, RefusedFirst, SavedAgain}
+use Rattle.demands.specs.Requests.{OneRound, OneVerdict, Printed, SheetsGrow}
+use Rattle.callers.specs.Handed.{HandedBack, FirstCall, RoundsAfter, worked, PrintedAfter, reworked, AddedLate, RefusedFirst, foretold, VerdictFirst, SavedAgain}
 use Rattle.demands.proofs.Reached.{Stands, told, step, fresh-is, reached}
 use Rattle.demands.proofs.Demand1.{demand-1}
 use Rattle.demands.proofs.Demand2.{demand-2}
 use Rattle.demands.proofs.Demand3.{demand-3}
-use Rattle.demands.proofs.Requests.{request-14, request-15}
+use Rattle.demands.proofs.Requests.{request-14, request-22, request-15}
 
 -- ---- one call more
 
@@ -304,7 +307,49 @@ refuses-first batch old new s p q l f a b c =
       load-answered = first-answered (load batch) [] [] l c′;
     }
 
+-- ---- verdicts
+
+verdict-at : (cs : List Call) (s : Session) → HandedBack cs s → (r : Reply) → Served s (exchange verdict [] [] r) → OneVerdict (run fresh cs) s (exchange verdict [] [] r)
+verdict-at cs s h r k = at-call cs s h (exchange verdict [] [] r) k (λ m t e. e .asked ≡ verdict → OneVerdict m t e) request-22 refl
+
+rounds-no-batch : (k : ℕ) → NoBatches (replicate k round)
+rounds-no-batch zero = tt
+rounds-no-batch (suc k) = (tt, rounds-no-batch k)
+
+-- a verdict before the close changes nothing
+pub foretold-not-open : (batch : List ℕ) → NotOpen (run fresh (load batch ∷ verdict ∷ close ∷ []) .phase)
+foretold-not-open batch = subst (λ (x : Next). NotOpen (call (x .machine) close .machine .phase)) (sym (deciding (call fresh (load batch) .machine))) (closed-not-open batch)
+
+module _ (batch : List ℕ) (l v : Reply) (first : FirstCall (load batch) [] [] l) (k : Served (l .session) (exchange verdict [] [] v)) where
+  loads : HandedBack (load batch ∷ []) (l .session)
+  loads = first-handed (load batch) [] [] l first
+
+  pub foretold-handed : (c : Reply) → Served (v .session) (exchange close [] [] c) → HandedBack (load batch ∷ verdict ∷ close ∷ []) (c .session)
+  foretold-handed c d = one-more (load batch ∷ verdict ∷ []) (v .session) (one-more (load batch ∷ []) (l .session) loads (exchange verdict [] [] v) k) (exchange close [] [] c) d
+
+  pub foretells : (t : Session) (w : Reply) → RoundsAfter (load batch ∷ verdict ∷ close ∷ []) t → Served t (exchange verdict [] [] w)
+      → VerdictFirst batch (record { first = v .answer; again = w })
+  foretells t w x d =
+      let cs = foretold batch (x .count) in
+      let a = verdict-at (load batch ∷ []) (l .session) loads v k in
+      let b = verdict-at cs t (x .handed) w d in
+      let phase : t .phase ≡ Settled (x .verdict) = phase-of (run fresh cs) t (handed-is cs t (x .handed)) ∙ x .settled in
+      let again = b .own (x .verdict) phase in
+      let same : run fresh cs .rows ≡ run fresh (load batch ∷ []) .rows = rows-kept (run fresh (load batch ∷ [])) (verdict ∷ close ∷ replicate (x .count) round) (tt, (tt, rounds-no-batch (x .count))) in
+      record {
+        count = x .count;
+        few = x .few;
+        handed = one-more cs t (x .handed) (exchange verdict [] [] w) d;
+        settles-with = x .verdict;
+        settled = ap (λ (s : Session). s .phase) (b .kept) ∙ phase;
+        first = a .by-rounds (x .verdict) .1 (subst (λ (rows : List Row). second rows .phase ≡ Settled (x .verdict)) same (b .by-rounds (x .verdict) .0 again));
+        again = again;
+      }
+
 -- ---- save and load
+
+pub decided-not-wrote : {a : Answer} {v : Verdict} {k : ℕ} → a ≡ Decided v → a ≡ Wrote k → ⊥
+decided-not-wrote e f = let z : _≡_ {A = ℕ} 0 1 = cc in omega arith
 
 pub refused-not-wrote : {a : Answer} {n place k : ℕ} → a ≡ Refused n place → a ≡ Wrote k → ⊥
 refused-not-wrote e f = let z : _≡_ {A = ℕ} 0 1 = cc in omega arith

@@ -4,17 +4,18 @@ use mathlib.Core.Path.{_≡_}
 use mathlib.Core.List.{List, [], _∷_, _++_, map}
 use lib.ListN.{length, take, replicate}
 use Rattle.orderings.specs.MoreRows.{StrikesNothing}
-use Rattle.machine.specs.declared.Answer.the-variants.{Done, Wrote, Refused}
+use Rattle.machine.specs.declared.Answer.the-variants.{Done, Wrote, Decided, Refused}
 use Rattle.machine.specs.declared.Verdict.{Verdict}
 use Rattle.machine.specs.declared.Phase.the-variants.{Settled}
 use Rattle.machine.specs.Machine.{fresh, open-with}
-use Rattle.machine.specs.Calls.{Call, load, close, round, reopen, print, run, saved}
+use Rattle.machine.specs.Calls.{Call, load, close, round, reopen, verdict, print, run, saved}
 use Rattle.machine.specs.Causes.{NotOpen}
 use Rattle.session.specs.declared.Session.{Session}
 use Rattle.session.specs.declared.Reply.{Reply}
 use Rattle.session.specs.Record.{record-of}
 use Rattle.session.specs.Standing.{reply}
 use Rattle.callers.specs.declared.Added.{Added}
+use Rattle.callers.specs.declared.Foretold.{Foretold}
 use Rattle.callers.specs.declared.Refusals.{Refusals}
 use Rattle.demands.specs.Trace.{Exchange, Trace, given, Served, onward, exchange}
 use Rattle.demands.specs.Demands.{Answered, PrintsTrue, ExactPrint}
@@ -85,6 +86,20 @@ pub record RefusedFirst (batch old new : List ℕ) (r : Refusals) : Type 0 where
   pub rounded : r .rounded ≡ Refused 9 0
   pub round-answered : Answered fresh (record-of fresh) (exchange round [] [] (reply (record-of fresh) (r .rounded)))
   pub load-answered : Answered fresh (record-of fresh) (exchange (load batch) [] [] (r .loaded))
+
+-- load, verdict, close and k rounds
+abbrev pub foretold : List ℕ → ℕ → List Call
+foretold batch k = load batch ∷ verdict ∷ close ∷ replicate k round
+
+-- a verdict after a load, and one again after close and rounds: request C-22 at the two. Both are that with which the session is settled
+pub record VerdictFirst (batch : List ℕ) (r : Foretold) : Type 0 where
+  pub count : ℕ
+  pub few : count ≤ 129
+  pub handed : HandedBack (foretold batch count ++ (verdict ∷ [])) (r .again .session)
+  pub settles-with : Verdict
+  pub settled : r .again .session .phase ≡ Settled settles-with
+  pub first : r .first ≡ Decided settles-with
+  pub again : r .again .answer ≡ Decided settles-with
 
 -- a batch is loaded into a fresh session, its rows are saved, and what was saved is loaded into another fresh session: demand 2 at the save
 pub record SavedAgain (batch old new : List ℕ) (r : Reply) : Type 0 where

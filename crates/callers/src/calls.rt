@@ -3,7 +3,7 @@ use session::Reply;
 use session::Session;
 ghost use lib.ListN.{length};
 ghost use mathlib.Core.List.{[]};
-ghost use Rattle.machine.specs.Calls.{load, withdraw, close, round, reopen, print, save};
+ghost use Rattle.machine.specs.Calls.{load, withdraw, close, round, reopen, verdict, print, save};
 ghost use Rattle.session.specs.Promise.{Fresh};
 ghost use Rattle.demands.specs.Trace.{Served, exchange};
 
@@ -41,6 +41,12 @@ pub fn call_reopen(s: Session) -> Reply
     ensures { λ r. ⌜ Served s (exchange reopen [] [] r) ⌝ }
 {
     s.reopen()
+}
+
+pub fn call_verdict(s: Session) -> Reply
+    ensures { λ r. ⌜ Served s (exchange verdict [] [] r) ⌝ }
+{
+    s.verdict()
 }
 
 pub fn call_print(s: Session, buffer: &mut [u8]) -> Reply

@@ -17,3 +17,9 @@ pub struct Refusals {
     pub rounded: Answer,
     pub loaded: Reply,
 }
+
+// What the verdicts of `sequences::verdict_first` answered, and the session then.
+pub struct Foretold {
+    pub first: Answer,
+    pub again: Reply,
+}

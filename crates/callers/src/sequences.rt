@@ -1,5 +1,6 @@
 // Lists of calls, made by a caller: what is promised are the demands at them.
 use crate::Added;
+use crate::Foretold;
 use crate::Refusals;
 use crate::calls::call_close;
 use crate::calls::call_fresh;
@@ -8,6 +9,7 @@ use crate::calls::call_print;
 use crate::calls::call_reopen;
 use crate::calls::call_round;
 use crate::calls::call_save;
+use crate::calls::call_verdict;
 use machine::Answer;
 use machine::MOST_ROUNDS;
 use session::Reply;
@@ -15,7 +17,7 @@ use session::Session;
 ghost use mathlib.Core.List.{[], _∷_};
 ghost use Rattle.machine.specs.Calls.{load, close};
 ghost use Rattle.callers.specs.Handed.{HandedBack, FirstCall, RoundsOn, DoesRounds};
-ghost use Rattle.callers.specs.Handed.{PrintedAfter, AddsLate, RefusedFirst, SavedAgain};
+ghost use Rattle.callers.specs.Handed.{PrintedAfter, AddsLate, RefusedFirst, VerdictFirst, SavedAgain};
 
 // Load into a fresh session.
 fn loaded(batch: &[u8]) -> Reply
@@ -55,6 +57,7 @@ fn rounds_until(session: Session) -> Session
                 k += 1;
             }
             Answer::Wrote(_) => return s,
+            Answer::Decided(_) => return s,
             Answer::Refused(_, _) => return s,
         }
     }
@@ -102,6 +105,19 @@ pub fn refused_first(batch: &[u8], buffer: &mut [u8]) -> Refusals
     }
 }
 
+// Load, and the verdict while open; close, rounds until one is refused, and the verdict again.
+pub fn verdict_first(batch: &[u8]) -> Foretold
+    ensures { λ r. ⌜ VerdictFirst (now (batch .entry)) r ⌝ }
+{
+    let l = loaded(batch);
+    let v = call_verdict(l.session);
+    let first = v.answer;
+    let c = call_close(v.session);
+    let s = rounds_until(c.session);
+    let again = call_verdict(s);
+    Foretold { first, again }
+}
+
 // Load, save, and what was saved loaded into a fresh session.
 pub fn save_again(batch: &[u8], buffer: &mut [u8]) -> Reply
     ensures { λ r. ⌜ SavedAgain (now (batch .entry)) (now (buffer .entry)) (now (buffer .exit)) r ⌝ }
@@ -112,6 +128,7 @@ pub fn save_again(batch: &[u8], buffer: &mut [u8]) -> Reply
     match answer {
         Answer::Done => kept,
         Answer::Wrote(n) => loaded(&buffer[..n]),
+        Answer::Decided(_) => kept,
         Answer::Refused(_, _) => kept,
     }
 }

@@ -1,4 +1,5 @@
-// Runs the checker and the function of the library on stored batches, and compares each sheet with the stored one, byte by byte.
+// Runs the checker and the functions of the library on stored batches, and compares each sheet with the stored one, byte by byte, and each
+// verdict with its first line.
 // Its arguments are pairs of file names: a batch, and the sheet that it must give.
 use machine::LONGEST_SHEET;
 use program_output::first;
@@ -7,6 +8,9 @@ use program_output::say;
 use program_output::say_number;
 ghost use Prim.Native.Nat.{_≤_};
 ghost use Rattle.io.specs.Counts.{Counts};
+
+// What the number of a refusal is multiplied by.
+const REFUSAL: u64 = 4294967296;
 
 // Opens the file that an argument names, and writes its name out.
 fn open_named(index: usize) -> i32 {
@@ -41,19 +45,41 @@ fn say_same(is_same: bool) {
     }
 }
 
+// Says what a function of the library refuses.
+fn say_refused(code: u64, place: u64) {
+    say(b"refuses ");
+    say_number(code / REFUSAL);
+    say(b" at ");
+    say_number(place);
+}
+
 // Says whether the function of the library writes the text for the batch, or what it refuses.
 fn say_library(batch: &[u8], text: &[u8]) {
     let mut out = [0u8; LONGEST_SHEET];
     let mut place = 0u64;
     let code = ffi::gozhmerik_sheet(batch, &mut out, &mut place);
-    if code < 4294967296 {
-        say_same(same(first(&out, code as usize), text));
-        return;
+    if code < REFUSAL {
+        return say_same(same(first(&out, code as usize), text));
     }
-    say(b"refuses ");
-    say_number(code / 4294967296);
-    say(b" at ");
-    say_number(place);
+    say_refused(code, place);
+}
+
+// Does the text begin with the line of the verdict?
+fn says(text: &[u8], code: u64) -> bool {
+    if code == 1 {
+        return same(first(text, 17), b"verdict nonempty ");
+    }
+    same(first(text, 14), b"verdict empty ")
+}
+
+// Says whether the verdict of the library is that of the text, or what it refuses.
+fn say_verdict(batch: &[u8], text: &[u8]) {
+    let mut place = 0u64;
+    let code = ffi::gozhmerik_verdict(batch, &mut place);
+    if code < REFUSAL {
+        return say_same(says(text, code));
+    }
+    say_refused(code, place);
 }
 
 // Says what becomes of a batch, and whether the program writes the text.
@@ -62,6 +88,8 @@ fn tell(batch: &[u8], text: &[u8]) -> bool {
     say_same(is_same);
     say(b", library ");
     say_library(batch, text);
+    say(b", verdict ");
+    say_verdict(batch, text);
     is_same
 }
 

@@ -1,16 +1,18 @@
 -- What the checker promises: document 01's "Sheets to check", on slices.
 use Prim.Native.Nat.{ℕ, _≤_}
 use mathlib.Core.Path.{_≡_}
-use mathlib.Core.List.{List}
+use mathlib.Core.List.{List, []}
 use lib.ListN.{length, take}
 use Rattle.rows.specs.declared.Row.{Row}
 use Rattle.machine.specs.declared.Answer.{Answer}
-use Rattle.machine.specs.Machine.{longest-sheet, open-with}
-use Rattle.machine.specs.Calls.{print, call, run, settle, Tells}
+use Rattle.machine.specs.Machine.{longest-sheet, Machine, open-with}
+use Rattle.machine.specs.Calls.{verdict, print, Outcome, call, run, settle, Tells}
 use Rattle.machine.specs.WellFormed.{Table}
-use Rattle.machine.specs.Program.{outcome, program}
+use Rattle.machine.specs.Program.{after-load, outcome, batch-verdict, program}
 use Rattle.row_table.specs.Arrays.{Filed}
 use Rattle.checker.specs.declared.Written.{Written}
+use Rattle.checker.specs.declared.Asked.{Asked}
+use Rattle.checker.specs.declared.Asked.the-variants.{Sheet, Verdict as AskedVerdict}
 
 -- the answer is that of the machine with the rows that the arrays hold, closed, settled and printed; and the buffer holds its text, and
 -- beyond it the bytes that it had
@@ -18,9 +20,31 @@ abbrev pub Finishes : List ℕ → List ℕ → ℕ → List ℕ → ℕ → Lis
 Finishes highs lows n sets k old new r = (rows : List Row) → Table rows → Filed highs lows sets n k rows
     → Tells (call (run (open-with rows) settle) (print (length old)) .answer) old new r
 
+-- the verdict is that of the open machine with the rows that the arrays hold, and any buffer is as it was
+abbrev pub JudgesTable : List ℕ → List ℕ → ℕ → List ℕ → ℕ → Answer → Type 0
+JudgesTable highs lows n sets k r = (old : List ℕ) (rows : List Row) → Table rows → Filed highs lows sets n k rows → Tells (call (open-with rows) verdict .answer) old old r
+
+-- what is asked of a machine, with a buffer of that size
+abbrev pub asking : Asked → ℕ → Machine → Outcome
+asking Sheet size = λ m. call (run m settle) (print size) .answer
+asking AskedVerdict size = λ m. call m verdict .answer
+
+-- the answer and the buffer are those of the open machine with the rows that the arrays hold
+abbrev pub GivesAsked : Asked → List ℕ → List ℕ → ℕ → List ℕ → ℕ → List ℕ → List ℕ → Answer → Type 0
+GivesAsked asked highs lows n sets k old new r = (rows : List Row) → Table rows → Filed highs lows sets n k rows
+    → Tells (asking asked (length old) (open-with rows)) old new r
+
+-- the answer and the buffer are those of a fresh machine that loads the batch and is asked
+abbrev pub AnswersAsked : Asked → List ℕ → List ℕ → List ℕ → Answer → Type 0
+AnswersAsked asked batch old new r = Tells (after-load (asking asked (length old)) batch) old new r
+
 -- the answer and the buffer are those of a fresh machine that loads the batch, closes, does rounds until settled and prints
 abbrev pub Checks : List ℕ → List ℕ → List ℕ → Answer → Type 0
 Checks batch old new r = Tells (outcome batch (length old)) old new r
+
+-- the answer is that of a fresh machine that loads the batch and gives the verdict
+abbrev pub GivesVerdict : List ℕ → Answer → Type 0
+GivesVerdict batch r = Tells (batch-verdict batch) [] [] r
 
 -- a buffer that has room for every text which the program writes
 abbrev pub Roomy : List ℕ → Type 0

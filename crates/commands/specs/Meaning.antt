@@ -10,7 +10,7 @@ use Rattle.commands.specs.declared.Change.the-variants.{Load, Withdraw}
 use Rattle.commands.specs.declared.Report.{Report}
 use Rattle.commands.specs.declared.Report.the-variants.{Print, Save}
 use Rattle.commands.specs.declared.Move.{Move}
-use Rattle.commands.specs.declared.Move.the-variants.{Close, Round, Reopen}
+use Rattle.commands.specs.declared.Move.the-variants.{Close, Round, Reopen, Verdict}
 use Rattle.commands.specs.Digits.{digits, pairs, bytes, number-from, at-most}
 
 -- a call with its batch, with the length of the buffer that it is lent, or with neither; a line that is passed over; hex digits that
@@ -37,6 +37,7 @@ words =
     ∷ says (text "close") (move Close)
     ∷ says (text "round") (move Round)
     ∷ says (text "reopen") (move Reopen)
+    ∷ says (text "verdict") (move Verdict)
     ∷ []
 
 -- an empty line and a comment

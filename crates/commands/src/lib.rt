@@ -28,6 +28,7 @@ pub enum Move {
     Close,
     Round,
     Reopen,
+    Verdict,
 }
 
 // What a line asks for: a call with the count of bytes at the start of the batch, with the length of the buffer that it lends, or
@@ -236,7 +237,10 @@ fn seek(line: &[u8], table: &[u8]) -> Found
 fn find(line: &[u8]) -> Found
     ensures { λ r. ⌜ TellsWord (now (line .entry)) r ⌝ }
 {
-    seek(line, b"load\nwithdraw\nprint\nsave\nclose\nround\nreopen\n")
+    seek(
+        line,
+        b"load\nwithdraw\nprint\nsave\nclose\nround\nreopen\nverdict\n",
+    )
 }
 
 // What a word of the table asks for where it stands alone.
@@ -251,6 +255,7 @@ fn alone(place: usize) -> Command
         4 => Command::Moves(Move::Close),
         5 => Command::Moves(Move::Round),
         6 => Command::Moves(Move::Reopen),
+        7 => Command::Moves(Move::Verdict),
         _ => Command::Unknown,
     }
 }

@@ -6,7 +6,7 @@ use lib.ListN.{length, drop, length-append, length-drop}
 use native.Mathlib.Omega.{arith}
 use Rattle.machine.specs.declared.Answer.the-variants.{Refused}
 use Rattle.machine.specs.Machine.{Machine}
-use Rattle.machine.specs.Calls.{Call, load, withdraw, close, round, reopen, print, save, Outcome, done, wrote, refused, returned, call, buffer-after}
+use Rattle.machine.specs.Calls.{Call, load, withdraw, close, round, reopen, verdict, print, save, Outcome, done, wrote, decided, refused, returned, call, buffer-after}
 use Rattle.machine.specs.Causes.{Writes, sheets, saves}
 use Rattle.machine.proofs.Answers.{answer-of, answer-by, refused-by}
 use Rattle.machine.proofs.Outcomes.{comes, refused-keeps}
@@ -29,6 +29,7 @@ same-buffer (withdraw b) old new l e = let f = empty old l in (f, e ∙ f)
 same-buffer close old new l e = let f = empty old l in (f, e ∙ f)
 same-buffer round old new l e = let f = empty old l in (f, e ∙ f)
 same-buffer reopen old new l e = let f = empty old l in (f, e ∙ f)
+same-buffer verdict old new l e = let f = empty old l in (f, e ∙ f)
 same-buffer (print size) old new l e = (l, ap length e ∙ l)
 same-buffer (save size) old new l e = (l, ap length e ∙ l)
 
@@ -42,6 +43,7 @@ module _ (m : Machine) where
   buffered : (c : Call) (o : Outcome) → call m c .answer ≡ o → (old new : List ℕ) → length old ≡ lent c → new ≡ buffer-after o old → Buffered c old new
   buffered c done k old new l j = same-buffer c old new l j
   buffered c (wrote text) k old new l j = let w = comes m c (wrote text) k in text-buffer (w .2) old new l (w .3) j
+  buffered c (decided v) k old new l j = same-buffer c old new l j
   buffered c (refused n place) k old new l j = same-buffer c old new l j
 
 answered : (m : Machine) (s : Session) (e : Exchange Call Reply) → Stands m s e → Answered m s e

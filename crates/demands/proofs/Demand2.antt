@@ -39,9 +39,9 @@ written : (a : Outcome) (old new l text : List ℕ) (n : ℕ) → new ≡ buffer
 written a old new l text n j e i k = j ∙ ap (λ (x : Outcome). buffer-after x old) e ∙ cc
 
 -- the verdict of the number
-verdict-of : (rows : List Row) (v : Verdict) (k : ℕ) → Number rows v k → (v ≡ NonEmpty) ↔ Accepts (timelines rows)
-verdict-of rows NonEmpty k n = ((λ e. n .0), λ h. refl)
-verdict-of rows Empty k n = ((λ e. let z : _≡_ {A = ℕ} 0 1 = cc in absurd (omega arith)), λ h. absurd (n .0 h))
+verdict-accepts : (rows : List Row) (v : Verdict) (k : ℕ) → Number rows v k → (v ≡ NonEmpty) ↔ Accepts (timelines rows)
+verdict-accepts rows NonEmpty k n = ((λ e. n .0), λ h. refl)
+verdict-accepts rows Empty k n = ((λ e. let z : _≡_ {A = ℕ} 0 1 = cc in absurd (omega arith)), λ h. absurd (n .0 h))
 
 module _ (m : Machine) (w : WellFormed m) where
   worked : (v : Verdict) → m .phase ≡ Settled v → Worked m
@@ -71,7 +71,7 @@ module _ (m : Machine) (w : WellFormed m) where
   true-sheet : (v : Verdict) → m .phase ≡ Settled v → TrueSheet m v
   true-sheet v e = record {
     settled = e;
-    verdict = verdict-of (m .rows) v (m .rounds) (settled-number m w v e .0);
+    verdict = verdict-accepts (m .rows) v (m .rounds) (settled-number m w v e .0);
     listed = settled-listed m w v e;
     walked = λ i. walked (e ∙ ap Settled i);
   }

@@ -9,7 +9,7 @@ use Rattle.machine.specs.declared.Verdict.{Verdict}
 use Rattle.machine.specs.declared.Phase.the-variants.{Settled}
 use Rattle.machine.specs.Machine.{Machine}
 use Rattle.machine.specs.Sheet.{sheet}
-use Rattle.machine.specs.Calls.{print, Outcome, done, wrote, refused, call, second, buffer-after}
+use Rattle.machine.specs.Calls.{verdict, print, Outcome, done, wrote, decided, refused, call, second, buffer-after}
 use Rattle.machine.specs.WellFormed.{WellFormed}
 use Rattle.machine.proofs.Answers.{answer-of, answer-by}
 use Rattle.machine.proofs.Second.{second-works}
@@ -22,9 +22,12 @@ use Rattle.demands.specs.Trace.{plain-after}
 use Rattle.demands.specs.Demands.{ExactPrint, Counted, Demand3}
 use Rattle.demands.proofs.Reached.{told, step, reached}
 
--- a print is never just done
+-- a print is never just done, and gives no verdict alone
 never-done : (m : Machine) {m′ : Machine} {size : ℕ} → Done m (print size) m′ → ⊥
 never-done m = elim [ ]
+
+never-decides : {size : ℕ} → print size ≡ verdict → ⊥
+never-decides e = let z : _≡_ {A = ℕ} 0 1 = cc in omega arith
 
 module _ (m : Machine) (w : WellFormed m) where
   -- the second machine prints its sheet
@@ -44,6 +47,7 @@ module _ (m : Machine) (w : WellFormed m) where
         worked = second-works (m .rows) (w .table);
         numbered = p .numbered;
       }
+  at-print old new (decided v) b e i j = absurd (never-decides (comes m (print (length old)) (decided v) e .1))
   at-print old new (refused n place) b e i j = let p = prints m w (length old) in
       record {
         accepted = (

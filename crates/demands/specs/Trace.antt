@@ -4,7 +4,7 @@ use mathlib.Core.Path.{_≡_}
 use mathlib.Core.List.{List, [], _∷_, map}
 use lib.ListN.{length}
 use Rattle.machine.specs.Machine.{Machine, fresh}
-use Rattle.machine.specs.Calls.{Call, load, withdraw, close, round, reopen, print, save, run, Brings}
+use Rattle.machine.specs.Calls.{Call, load, withdraw, close, round, reopen, verdict, print, save, run, Brings}
 use Rattle.session.specs.declared.Session.{Session}
 use Rattle.session.specs.declared.Reply.{Reply}
 use Rattle.session.specs.Promise.{Keeps}
@@ -35,6 +35,7 @@ lent (withdraw l) = 0
 lent close = 0
 lent round = 0
 lent reopen = 0
+lent verdict = 0
 lent (print size) = size
 lent (save size) = size
 
@@ -45,6 +46,7 @@ Buffered (withdraw l) old new = (old ≡ []) × (new ≡ [])
 Buffered close old new = (old ≡ []) × (new ≡ [])
 Buffered round old new = (old ≡ []) × (new ≡ [])
 Buffered reopen old new = (old ≡ []) × (new ≡ [])
+Buffered verdict old new = (old ≡ []) × (new ≡ [])
 Buffered (print size) old new = (length old ≡ size) × (length new ≡ size)
 Buffered (save size) old new = (length old ≡ size) × (length new ≡ size)
 

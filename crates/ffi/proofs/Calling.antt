@@ -1,25 +1,38 @@
--- What a call leaves, by the answer of the check.
+-- An answer as a number and a place, of the outcome that it tells.
 use Prim.Native.Nat.{ℕ, _*_}
 use mathlib.Core.Path.{_≡_, refl, ap, sym, _∙_}
 use mathlib.Core.List.{List}
 use lib.ListN.{length}
 use Rattle.machine.specs.declared.Answer.{Answer}
-use Rattle.machine.specs.declared.Answer.the-variants.{Done, Wrote, Refused}
-use Rattle.machine.specs.Calls.{Outcome, done, wrote, refused, returned}
-use Rattle.machine.specs.Program.{outcome}
-use Rattle.checker.specs.Promise.{Checks}
-use Rattle.machine.proofs.Answers.{done-by, wrote-by, refused-by}
-use Rattle.ffi.specs.Promise.{code-of, place-after, Called}
+use Rattle.machine.specs.declared.Answer.the-variants.{Done, Wrote, Decided, Refused}
+use Rattle.machine.specs.declared.Verdict.{Verdict}
+use Rattle.machine.specs.Calls.{Outcome, done, wrote, decided, refused, returned}
+use Rattle.machine.proofs.Answers.{done-by, wrote-by, decided-by, refused-by}
+use Rattle.machine.specs.Program.{outcome, batch-verdict}
+use Rattle.checker.specs.Promise.{Checks, GivesVerdict}
+use Rattle.ffi.specs.Promise.{code-of, place-after, Coded, Codes, Called, CalledVerdict}
 
-module _ (batch old new : List ℕ) (before : ℕ) (b : Answer) (c : Checks batch old new b) where
-  called : (a : Outcome) (after r : ℕ) → outcome batch (length old) ≡ a → r ≡ code-of a → after ≡ place-after a before → Called batch old new before after r
-  called a after r e i j = record { code-is = i ∙ ap code-of (sym e); sheet-is = c .buffer-is; place-is = j ∙ ap (λ (x : Outcome). place-after x before) (sym e) }
+module _ (before : ℕ) (a : Answer) where
+  coded : {o : Outcome} (q : Outcome) (after r : ℕ) → o ≡ q → r ≡ code-of q → after ≡ place-after q before → Coded o before after r
+  coded q after r e i j = rw e (record { code-is = i; place-is = j })
 
-  pub called-done : b ≡ Done → Called batch old new before before 0
-  called-done e = called done before 0 (done-by (outcome batch (length old)) (sym (c .answer-is) ∙ ap returned e)) refl refl
+  pub codes-done : a ≡ Done → Codes a before before 0
+  codes-done e o h = coded done before 0 (done-by o (sym h ∙ ap returned e)) refl refl
 
-  pub called-wrote : (n : ℕ) → b ≡ Wrote n → Called batch old new before before n
-  called-wrote n e = let w = wrote-by (outcome batch (length old)) n (sym (c .answer-is) ∙ ap returned e) in called (wrote (w .0)) before n (w .1) (w .2) refl
+  pub codes-wrote : (n : ℕ) → a ≡ Wrote n → Codes a before before n
+  codes-wrote n e o h = let w = wrote-by o n (sym h ∙ ap returned e) in coded (wrote (w .0)) before n (w .1) (w .2) refl
 
-  pub called-refused : (n place : ℕ) → b ≡ Refused n place → Called batch old new before place (n * 4294967296)
-  called-refused n place e = called (refused n place) place (n * 4294967296) (refused-by (outcome batch (length old)) n place (sym (c .answer-is) ∙ ap returned e)) refl refl
+  pub codes-decided : (v : Verdict) → a ≡ Decided v → Codes a before before (code-of (decided v))
+  codes-decided v e o h = coded (decided v) before (code-of (decided v)) (decided-by o v (sym h ∙ ap returned e)) refl refl
+
+  pub codes-refused : (n place : ℕ) → a ≡ Refused n place → Codes a before place (n * 4294967296)
+  codes-refused n place e o h = coded (refused n place) place (n * 4294967296) (refused-by o n place (sym h ∙ ap returned e)) refl refl
+
+-- of the check of a batch
+pub called : (batch old new : List ℕ) (a : Answer) → Checks batch old new a → (before after r : ℕ) → Codes a before after r → Called batch old new before after r
+called batch old new a k before after r h = let d = h (outcome batch (length old)) (k .answer-is) in
+    record { code-is = d .code-is; sheet-is = k .buffer-is; place-is = d .place-is }
+
+-- of its verdict
+pub called-verdict : (batch : List ℕ) (a : Answer) → GivesVerdict batch a → (before after r : ℕ) → Codes a before after r → CalledVerdict batch before after r
+called-verdict batch a k before after r h = h (batch-verdict batch) (k .answer-is)

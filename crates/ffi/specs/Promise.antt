@@ -3,23 +3,41 @@ use Prim.Native.Nat.{ℕ, _*_}
 use mathlib.Core.Path.{_≡_}
 use mathlib.Core.List.{List}
 use lib.ListN.{length}
-use Rattle.machine.specs.Calls.{Outcome, done, wrote, refused, buffer-after}
-use Rattle.machine.specs.Program.{outcome}
+use Rattle.machine.specs.declared.Answer.{Answer}
+use Rattle.machine.specs.declared.Verdict.the-variants.{NonEmpty, Empty}
+use Rattle.machine.specs.Calls.{Outcome, done, wrote, decided, refused, returned, due, buffer-after}
+use Rattle.machine.specs.Program.{outcome, batch-verdict}
 
--- the length of the sheet, or 2 to the power 32 times the number of the refusal
+-- the length of the sheet, 1 for a non-empty and 0 for an empty verdict, or 2 to the power 32 times the number of the refusal
 abbrev pub code-of : Outcome → ℕ
 code-of done = 0
 code-of (wrote l) = length l
+code-of (decided NonEmpty) = 1
+code-of (decided Empty) = 0
 code-of (refused n place) = n * 4294967296
 
 -- the place of the refusal; without one, what stood there
 abbrev pub place-after : Outcome → ℕ → ℕ
 place-after done old = old
 place-after (wrote l) old = old
+place-after (decided v) old = old
 place-after (refused n place) old = place
+
+-- an outcome as a number and a place
+pub record Coded (o : Outcome) (before after r : ℕ) : Type 0 where
+  pub code-is : r ≡ code-of o
+  pub place-is : after ≡ place-after o before
+
+-- an answer, of whatever outcome it tells
+abbrev pub Codes : Answer → ℕ → ℕ → ℕ → Type 0
+Codes a before after r = (o : Outcome) → returned a ≡ due o → Coded o before after r
 
 -- what one call leaves, of the plain machine's outcome for that batch and that length of buffer
 pub record Called (batch old new : List ℕ) (before after r : ℕ) : Type 0 where
   pub code-is : r ≡ code-of (outcome batch (length old))
   pub sheet-is : new ≡ buffer-after (outcome batch (length old)) old
   pub place-is : after ≡ place-after (outcome batch (length old)) before
+
+-- what one call for a verdict leaves
+abbrev pub CalledVerdict : List ℕ → ℕ → ℕ → ℕ → Type 0
+CalledVerdict batch before after r = Coded (batch-verdict batch) before after r

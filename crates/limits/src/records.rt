@@ -21,6 +21,7 @@ fn try_moves(record: Session) {
     try_call(record, b"close");
     try_call(record, b"round");
     try_call(record, b"reopen");
+    try_call(record, b"verdict");
 }
 
 fn try_reports(record: Session) {

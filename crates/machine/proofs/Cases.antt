@@ -16,7 +16,7 @@ use Rattle.machine.specs.Search.{walk-of, least, shortest}
 use Rattle.machine.specs.Text.{text, hex, decimal}
 use Rattle.machine.specs.Sheet.{sheet}
 use Rattle.machine.specs.Calls.{call-in}
-use Rattle.machine.specs.Program.{outcome, program}
+use Rattle.machine.specs.Program.{after-load, program}
 
 abbrev A : List ℕ
 A = 0x01 ∷ 0x00 ∷ 0x02 ∷ 0x01 ∷ 0x03 ∷ 0x01 ∷ 0x61 ∷ 0x00 ∷ 0x04 ∷ 0x00 ∷ 0x00 ∷ 0x00 ∷ 0x00 ∷ 0x00 ∷ 0x00 ∷ 0x00 ∷ 0x03 ∷ 0x01 ∷ 0x05 ∷ 0x00 ∷ 0x00 ∷ 0x00 ∷ 0x00 ∷ 0x00 ∷ 0x00 ∷ 0x00 ∷ 0x00 ∷ 0x03 ∷ []
@@ -38,5 +38,5 @@ pub cases : (program A ≡ text "verdict nonempty rounds 1\nopen 1 mix 000000000
     × (on-rows (Initial 0 ∷ Final 1 ∷ RightLimit 0 1 ∷ LeftLimit 1 0 ∷ LeftLimit 1 1 ∷ []) ≡ text "verdict empty rounds 1\n")
     × (on-rows (Initial 0 ∷ Final 1 ∷ Successor 0 7 0 ∷ LeftLimit 5 0 ∷ LeftLimit 5 1 ∷ RightLimit 0 5 ∷ LeftLimit 5 2 ∷ RightLimit 2 5 ∷ [])
     ≡ text "verdict nonempty rounds 1\nopen 1 mix 0000000000000005\nstart 0\nstep mix 0000000000000005 to 1\n")
-unfolding ℕ-discrete member row-bytes standing-sets same-row set-at row-at row-cause read-row on-turn on-read feed-from feed members reach holds? accepts? load-row closed opened-next next-round walk-of least shortest hex decimal sheet call-in outcome program
+unfolding ℕ-discrete member row-bytes standing-sets same-row set-at row-at row-cause read-row on-turn on-read feed-from feed members reach holds? accepts? load-row closed opened-next next-round walk-of least shortest hex decimal sheet call-in after-load program
 cases = (refl, refl, refl, refl, refl, refl, refl, refl, refl, refl, refl, refl)

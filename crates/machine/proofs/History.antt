@@ -16,7 +16,7 @@ use Rattle.machine.specs.declared.Verdict.{Verdict}
 use Rattle.machine.specs.declared.Phase.{Phase}
 use Rattle.machine.specs.declared.Phase.the-variants.{Open, Running, Settled}
 use Rattle.machine.specs.Machine.{most-rounds, Machine, open-with, fresh, judged, closed, opened-next, nothing?, next-round, open-claims}
-use Rattle.machine.specs.Calls.{Call, round, Outcome, done, wrote, refused, call-in, call, run, Brings, settle}
+use Rattle.machine.specs.Calls.{Call, round, Outcome, done, wrote, decided, refused, call-in, call, run, Brings, settle}
 use Rattle.machine.specs.WellFormed.{Table, after, Worked, Made, WellFormed}
 use Rattle.machine.proofs.Settling.{below-next, Settles, settles, few-rounds}
 use Rattle.machine.proofs.Tables.{no-rows, load-keeps, withdraw-keeps}
@@ -69,6 +69,7 @@ call-formed m c b w = by (call m c .machine) (call m c .answer) (comes m c (call
     by : (m′ : Machine) (a : Outcome) → Comes m c m′ a → WellFormed m′
     by m′ done d = changed d b
     by m′ (wrote l) p = rw (p .0) w
+    by m′ (decided v) p = rw (p .0) w
     by m′ (refused n place) p = rw (p .0) w
 
 pub run-formed : (m : Machine) (cs : List Call) → ((c : Call) → c among cs → Brings c) → WellFormed m → WellFormed (run m cs)

@@ -23,5 +23,6 @@ pub mod Ending
 pub mod MoreRows
 pub mod Says
 pub mod Second
+pub mod Rising
 pub mod Once
 pub mod Program

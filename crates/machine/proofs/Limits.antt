@@ -11,10 +11,11 @@ use Rattle.rows.specs.declared.Row.{Row}
 use Rattle.rows.specs.Rows.{sets-of, standing-sets}
 use Rattle.rows.specs.Batch.{go, stop}
 use Rattle.rows.proofs.Same.{stands·}
+use Rattle.machine.specs.declared.Verdict.{Verdict}
 use Rattle.machine.specs.Machine.{load-row, withdraw-row}
 use Rattle.machine.specs.Text.{text}
 use Rattle.machine.specs.Sheet.{line}
-use Rattle.machine.specs.Calls.{done, wrote, refused, buffer-after}
+use Rattle.machine.specs.Calls.{done, wrote, decided, refused, buffer-after}
 use Rattle.machine.specs.Causes.{sets-full, absent}
 use Rattle.machine.specs.Program.{shown, outcome, program}
 use Rattle.machine.proofs.Tables.{with-row, load-same, load-new, load-stops, withdraw-stops}
@@ -64,5 +65,5 @@ module _ (l old : List ℕ) where
   buffer-beyond = drop-at l (drop (length l) old) (length l) refl
 
 -- any other call keeps it whole
-pub buffer-kept : (n place : ℕ) (old : List ℕ) → (buffer-after (refused n place) old ≡ old) × (buffer-after done old ≡ old)
-buffer-kept n place old = (refl, refl)
+pub buffer-kept : (n place : ℕ) (v : Verdict) (old : List ℕ) → (buffer-after (refused n place) old ≡ old) × (buffer-after (decided v) old ≡ old) × (buffer-after done old ≡ old)
+buffer-kept n place v old = (refl, refl, refl)

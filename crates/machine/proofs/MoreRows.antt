@@ -21,11 +21,11 @@ use Rattle.orderings.proofs.MoreRows.{depths-grow, accepts-grows, least-grows}
 use Rattle.machine.specs.declared.Verdict.{Verdict}
 use Rattle.machine.specs.declared.Verdict.the-variants.{NonEmpty, Empty}
 use Rattle.machine.specs.Machine.{Opening, Machine, fresh, load-row, closed, next-round}
-use Rattle.machine.specs.Calls.{Call, load, withdraw, close, round, reopen, print, save, Outcome, done, wrote, refused, call, run}
+use Rattle.machine.specs.Calls.{Call, load, withdraw, close, round, reopen, verdict, print, save, Outcome, done, wrote, decided, refused, call, run}
 use Rattle.machine.specs.WellFormed.{WellFormed}
 use Rattle.machine.specs.Statements.{Listed, Number, said, SaysNoLess, NeverLess, MoreRows}
 use Rattle.machine.proofs.Tables.{load-sets}
-use Rattle.machine.proofs.Outcomes.{Done, load-done, withdraw-done, close-done, round-done, reopen-done, Comes, comes}
+use Rattle.machine.proofs.Outcomes.{EachCall, Done, load-done, withdraw-done, close-done, round-done, reopen-done, Comes, comes}
 use Rattle.machine.proofs.History.{fresh-formed}
 use Rattle.machine.proofs.Statements.{settled-number, settled-listed}
 
@@ -101,12 +101,12 @@ OnlyAdds (withdraw l) = ⊥
 OnlyAdds close = Unit {0}
 OnlyAdds round = Unit {0}
 OnlyAdds reopen = Unit {0}
+OnlyAdds verdict = Unit {0}
 OnlyAdds (print size) = Unit {0}
 OnlyAdds (save size) = Unit {0}
 
 abbrev pub EachOnlyAdds : List Call → Type 0
-EachOnlyAdds [] = Unit {0}
-EachOnlyAdds (c ∷ cs) = OnlyAdds c × EachOnlyAdds cs
+EachOnlyAdds cs = EachCall OnlyAdds cs
 
 call-grows : (m : Machine) (c : Call) → OnlyAdds c → Grows (m .rows) (call m c .machine .rows)
 unfolding closed next-round
@@ -122,6 +122,7 @@ call-grows m c n = by (call m c .answer) (call m c .machine) (comes m c (call m 
     by : (a : Outcome) (m′ : Machine) → Comes m c m′ a → Grows (m .rows) (m′ .rows)
     by done m′ d = done-grows d n
     by (wrote l) m′ k = rw (k .0) (same-grows (m .rows))
+    by (decided v) m′ k = rw (k .0) (same-grows (m .rows))
     by (refused p place) m′ k = rw (k .0) (same-grows (m .rows))
 
 -- they take no row away and strike no state

@@ -1,9 +1,10 @@
--- What each call comes to, in each phase: it is done, it writes, or it has a cause that refuses it (`comes`); what
--- writes or is refused keeps the machine (`writes-keep`, `refused-keeps`).
+-- What each call comes to, in each phase: it is done, it writes, it gives a verdict, or it has a cause that refuses it (`comes`); what
+-- writes or is refused keeps the machine (`writes-keep`, `refused-keeps`), and so does a verdict (`deciding`). A call
+-- that brings no batch keeps the rows (`rows-kept`).
 use Prim.Native.Nat.{ℕ, _≤_, _<_}
-use mathlib.Core.Path.{_≡_, refl, ap, subst}
+use mathlib.Core.Path.{_≡_, refl, ap, _∙_, subst}
 use mathlib.Core.Bool.{Bool, true, false, cond}
-use mathlib.Core.List.{List}
+use mathlib.Core.List.{List, [], _∷_}
 use lib.Dec.{ltb}
 use lib.ListN.{length}
 use native.Mathlib.Omega.{arith}
@@ -15,7 +16,7 @@ use Rattle.rows.proofs.Batch.{feed-fails}
 use Rattle.machine.specs.declared.Phase.{Phase}
 use Rattle.machine.specs.declared.Phase.the-variants.{Open, Running, Settled}
 use Rattle.machine.specs.Machine.{Machine, load-row, withdraw-row, closed, next-round, reopened}
-use Rattle.machine.specs.Calls.{Call, load, withdraw, close, round, reopen, print, save, Outcome, done, wrote, refused, Next, with-rows, write, saved, call-in, call, Brings}
+use Rattle.machine.specs.Calls.{Call, load, withdraw, close, round, reopen, verdict, print, save, Outcome, done, wrote, decided, refused, Next, with-rows, write, saved, verdict-of, decide, call-in, call, run, Brings}
 use Rattle.machine.specs.Causes.{NotOpen, running, settled, loading, withdrawing, closing, reopening, rounding, printing, Writes, sheets, saves, Cause, not-open, load-fails, withdraw-fails, still-open, round-settled, print-running, short-buffer}
 use Rattle.machine.specs.Sheet.{sheet}
 use Rattle.machine.specs.WellFormed.{Table}
@@ -33,10 +34,12 @@ pub data Done (m : Machine) : Call → Machine → Type 0 where
   round-done : m .phase ≡ Running → Done m round (next-round m)
   reopen-done : NotOpen (m .phase) → Done m reopen (reopened m)
 
--- what a call comes to that leaves the machine m′ and gives an answer: done, text, or a refusal with its cause; only done changes the machine
+-- what a call comes to that leaves the machine m′ and gives an answer: done, text, a verdict, or a refusal with its cause; only done changes
+-- the machine
 abbrev pub Comes : Machine → Call → Machine → Outcome → Type 0
 Comes m c m′ done = Done m c m′
 Comes m c m′ (wrote l) = (m′ ≡ m) × (size : ℕ) × Writes m c l size × (length l ≤ size)
+Comes m c m′ (decided v) = (m′ ≡ m) × (c ≡ verdict) × (v ≡ verdict-of (m .rows))
 Comes m c m′ (refused n place) = (m′ ≡ m) × (Table (m .rows) → Brings c → Cause m c n place)
 
 abbrev To : Machine → Call → Next → Type 0
@@ -62,6 +65,7 @@ module _ (m : Machine) where
   comes-in Open close e = close-done e
   comes-in Open round e = (refl, λ t b. still-open round rounding e)
   comes-in Open reopen e = (refl, λ t b. still-open reopen reopening e)
+  comes-in Open verdict e = (refl, refl, refl)
   comes-in Open (print size) e = (refl, λ t b. still-open (print size) (printing size) e)
   comes-in Open (save size) e = write-comes (save size) (saved m) size (saves size)
   comes-in Running (load l) e = (refl, λ t b. not-open (load l) (loading l) (rw e running))
@@ -69,6 +73,7 @@ module _ (m : Machine) where
   comes-in Running close e = (refl, λ t b. not-open close closing (rw e running))
   comes-in Running round e = round-done e
   comes-in Running reopen e = reopen-done (rw e running)
+  comes-in Running verdict e = (refl, refl, refl)
   comes-in Running (print size) e = (refl, λ t b. print-running size e)
   comes-in Running (save size) e = write-comes (save size) (saved m) size (saves size)
   comes-in (Settled v) (load l) e = (refl, λ t b. not-open (load l) (loading l) (rw e (settled v)))
@@ -76,6 +81,7 @@ module _ (m : Machine) where
   comes-in (Settled v) close e = (refl, λ t b. not-open close closing (rw e (settled v)))
   comes-in (Settled v) round e = (refl, λ t b. round-settled v e)
   comes-in (Settled v) reopen e = reopen-done (rw e (settled v))
+  comes-in (Settled v) verdict e = (refl, refl, refl)
   comes-in (Settled v) (print size) e = write-comes (print size) (sheet v m) size (sheets v size e)
   comes-in (Settled v) (save size) e = write-comes (save size) (saved m) size (saves size)
 
@@ -98,3 +104,54 @@ module _ (m : Machine) where
       by Open = refl
       by Running = refl
       by (Settled v) = refl
+
+  -- a verdict, in any phase
+  pub deciding : call m verdict ≡ decide m
+  unfolding call-in
+  deciding = by (m .phase)
+    where
+      by : (p : Phase) → call-in p m verdict ≡ decide m
+      by Open = refl
+      by Running = refl
+      by (Settled v) = refl
+
+-- each of some calls is so
+abbrev pub EachCall : (Call → Type 0) → List Call → Type 0
+EachCall P [] = Unit {0}
+EachCall P (c ∷ cs) = P c × EachCall P cs
+
+-- calls that bring no batch
+abbrev NoBatch : Call → Type 0
+NoBatch (load l) = ⊥
+NoBatch (withdraw l) = ⊥
+NoBatch close = Unit {0}
+NoBatch round = Unit {0}
+NoBatch reopen = Unit {0}
+NoBatch verdict = Unit {0}
+NoBatch (print size) = Unit {0}
+NoBatch (save size) = Unit {0}
+
+abbrev pub NoBatches : List Call → Type 0
+NoBatches cs = EachCall NoBatch cs
+
+-- they keep the rows
+row-kept : (m : Machine) (c : Call) → NoBatch c → call m c .machine .rows ≡ m .rows
+unfolding closed next-round
+row-kept m c n = by (call m c .answer) (call m c .machine) (comes m c (call m c .answer) refl)
+  where
+    done-kept : {c : Call} {m′ : Machine} → Done m c m′ → NoBatch c → m′ .rows ≡ m .rows
+    done-kept (load-done l rows e f) b = absurd b
+    done-kept (withdraw-done l rows e f) b = absurd b
+    done-kept (close-done e) b = refl
+    done-kept (round-done e) b = refl
+    done-kept (reopen-done e) b = refl
+
+    by : (a : Outcome) (m′ : Machine) → Comes m c m′ a → m′ .rows ≡ m .rows
+    by done m′ d = done-kept d n
+    by (wrote l) m′ k = ap (λ (x : Machine). x .rows) (k .0)
+    by (decided v) m′ k = ap (λ (x : Machine). x .rows) (k .0)
+    by (refused p place) m′ k = ap (λ (x : Machine). x .rows) (k .0)
+
+pub rows-kept : (m : Machine) (cs : List Call) → NoBatches cs → run m cs .rows ≡ m .rows
+rows-kept m [] n = refl
+rows-kept m (c ∷ cs) n = rows-kept (call m c .machine) cs (n .1) ∙ row-kept m c (n .0)

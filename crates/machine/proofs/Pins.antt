@@ -4,12 +4,13 @@ use Prim.Native.Nat.{suc}
 use mathlib.Core.Path.{_≡_, refl, ap}
 use mathlib.Core.Option.{none, some}
 use mathlib.Core.List.{[], _∷_}
-use Rattle.machine.specs.declared.Answer.the-variants.{Done, Wrote, Refused}
+use Rattle.machine.specs.declared.Answer.the-variants.{Done, Wrote, Decided, Refused}
 use Rattle.machine.specs.declared.Verdict.{Verdict}
+use Rattle.machine.specs.declared.Verdict.the-variants.{NonEmpty, Empty}
 use Rattle.machine.specs.declared.Phase.the-variants.{Open, Running, Settled}
 use Rattle.machine.specs.Machine.{Machine, fresh}
 use Rattle.machine.specs.Text.{text, hex, set-text, decimal, number-text}
-use Rattle.machine.specs.Calls.{reopen, Next, done, wrote, refused, returned, due, call}
+use Rattle.machine.specs.Calls.{reopen, Next, done, wrote, decided, refused, returned, due, call}
 use Rattle.machine.specs.Causes.{NotOpen, foreign-record}
 use Rattle.machine.specs.WellFormed.{most-done}
 use Rattle.machine.proofs.Phases.{not-open-reopens}
@@ -22,15 +23,18 @@ pub digits : (set-text 0xfedcba9876543210 ≡ text "fedcba9876543210")
 unfolding hex decimal
 digits = (refl, refl, refl, refl)
 
--- a refusal returns its number and its place, print and save their length, the other calls nothing; the number beside the table
-pub returns : (returned (Refused 7 300) ≡ record { number = some 7; values = 300 ∷ [] })
-    × (due (refused 7 300) ≡ record { number = some 7; values = 300 ∷ [] })
-    × (returned (Wrote 3) ≡ record { number = none; values = 3 ∷ [] })
-    × (due (wrote (text "abc")) ≡ record { number = none; values = 3 ∷ [] })
-    × (returned Done ≡ record { number = none; values = [] })
-    × (due done ≡ record { number = none; values = [] })
+-- a refusal returns its number and its place, print and save their length, a verdict itself, the other calls nothing; the number beside the
+-- table
+pub returns : (returned (Refused 7 300) ≡ record { number = some 7; values = 300 ∷ []; verdict = none })
+    × (due (refused 7 300) ≡ record { number = some 7; values = 300 ∷ []; verdict = none })
+    × (returned (Wrote 3) ≡ record { number = none; values = 3 ∷ []; verdict = none })
+    × (due (wrote (text "abc")) ≡ record { number = none; values = 3 ∷ []; verdict = none })
+    × (returned (Decided Empty) ≡ record { number = none; values = []; verdict = some Empty })
+    × (due (decided NonEmpty) ≡ record { number = none; values = []; verdict = some NonEmpty })
+    × (returned Done ≡ record { number = none; values = []; verdict = none })
+    × (due done ≡ record { number = none; values = []; verdict = none })
     × (foreign-record ≡ 24)
-returns = (refl, refl, refl, refl, refl, refl, refl)
+returns = (refl, refl, refl, refl, refl, refl, refl, refl, refl)
 
 -- fresh is open with no rows
 pub fresh-is : fresh ≡ record { rows = []; phase = Open; openings = []; rounds = 0 }

@@ -1,4 +1,5 @@
--- The program `sheet` writes what document 01 says, for any input: its print is never refused (`program-shows`).
+-- The program `sheet` writes what document 01 says, for any input: its print is never refused (`program-shows`). A batch that is asked for its
+-- verdict gets that of the rounds (`verdict-given`).
 use Prim.Native.Nat.{ℕ, zero, suc, _≤_, _<_}
 use mathlib.Core.Path.{_≡_, refl, ap, sym, _∙_, subst}
 use mathlib.Core.Bool.{Bool, true, false}
@@ -15,8 +16,8 @@ use Rattle.machine.specs.declared.Phase.the-variants.{Settled}
 use Rattle.machine.specs.Machine.{Machine, open-with, fresh}
 use Rattle.machine.specs.Text.{text}
 use Rattle.machine.specs.Sheet.{line, sheet}
-use Rattle.machine.specs.Calls.{Call, load, round, print, Outcome, done, wrote, refused, Next, call, run, settle, second, Brings}
-use Rattle.machine.specs.Program.{shown, ending, outcome, program, ProgramWrites, too-long, refusal, sheet-of}
+use Rattle.machine.specs.Calls.{Call, load, round, verdict, print, Outcome, done, wrote, decided, refused, Next, call, run, settle, second, Brings}
+use Rattle.machine.specs.Program.{shown, going-on, after-load, outcome, batch-verdict, program, VerdictGiven, not-loaded, settles-so, ProgramWrites, too-long, refusal, sheet-of}
 use Rattle.machine.specs.Causes.{Writes}
 use Rattle.machine.specs.WellFormed.{Table, WellFormed}
 use Rattle.machine.proofs.Settling.{Settles, settles}
@@ -24,6 +25,7 @@ use Rattle.machine.proofs.Tables.{no-rows}
 use Rattle.machine.proofs.Outcomes.{Done, load-done, Comes, comes}
 use Rattle.machine.proofs.History.{opened-formed, run-formed, call-formed, settle-runs}
 use Rattle.machine.proofs.Statements.{load-sorted, sheet-fits, print-accepts}
+use Rattle.machine.proofs.Rising.{verdict-of-rounds}
 
 rounds-bring : (n : ℕ) (c : Call) → c among replicate n round → Brings c
 rounds-bring zero c m = absurd (List·Memᴰ·not-nil m)
@@ -72,20 +74,29 @@ settled-sheet : (m : Machine) (t : Table (m .rows)) → m ≡ open-with (m .rows
     → call (run m settle) (print size) .answer ≡ wrote (sheet (s (m .rows) t .verdict) (second (m .rows)))
 settled-sheet m t e size h = ap (λ x. call (run x settle) (print size) .answer) e ∙ prints-sheet (m .rows) t size h
 
--- a load writes nothing
+-- a load writes nothing, and gives no verdict
 load-writes : {l k : List ℕ} {size : ℕ} → Writes fresh (load l) k size → ⊥
 load-writes = elim [ ]
 
+load-decides : {l : List ℕ} → load l ≡ verdict → ⊥
+load-decides e = let z : _≡_ {A = ℕ} 0 1 = cc in omega arith
+
+-- what a settled machine prints
+abbrev pub printed : ℕ → Machine → Outcome
+printed size m = call (run m settle) (print size) .answer
+
 module _ (l : List ℕ) (b : Bytes l) where
-  on-answer : (m : Machine) (a : Outcome) → length l ≤ 65536 → call fresh (load l) ≡ record { machine = m; answer = a } → Comes fresh (load l) m a → WellFormed m → ProgramWrites l (shown (ending m 6400 a))
+  on-answer : (m : Machine) (a : Outcome) → length l ≤ 65536 → call fresh (load l) ≡ record { machine = m; answer = a } → Comes fresh (load l) m a → WellFormed m → ProgramWrites l (shown (going-on (printed 6400) m a))
   on-answer m done h e d w =
       subst (λ x. ProgramWrites l (shown x)) (sym (settled-sheet m (w .table) (loaded-is d) 6400 (omega arith))) (sheet-of m (s (m .rows) (w .table) .verdict) h e (settled-second (m .rows) (w .table)))
   on-answer m (wrote k) h e d w = absurd (load-writes (d .2))
+  on-answer m (decided v) h e d w = absurd (load-decides (d .1))
   on-answer m (refused n place) h e d w = refusal n place h (d .1 no-rows b)
 
-  same-ending : (m : Machine) (a : Outcome) (size : ℕ) → 6400 ≤ size → Comes fresh (load l) m a → WellFormed m → ending m size a ≡ ending m 6400 a
+  same-ending : (m : Machine) (a : Outcome) (size : ℕ) → 6400 ≤ size → Comes fresh (load l) m a → WellFormed m → going-on (printed size) m a ≡ going-on (printed 6400) m a
   same-ending m done size h d w = settled-sheet m (w .table) (loaded-is d) size h ∙ sym (settled-sheet m (w .table) (loaded-is d) 6400 (omega arith))
   same-ending m (wrote k) size h d w = refl
+  same-ending m (decided v) size h d w = refl
   same-ending m (refused n place) size h d w = refl
 
   n : Next
@@ -99,15 +110,26 @@ module _ (l : List ℕ) (b : Bytes l) where
   unfolding n
   formed-then = call-formed fresh (load l) b (opened-formed [] no-rows)
 
+  on-verdict : (m : Machine) (a : Outcome) → call fresh (load l) ≡ record { machine = m; answer = a } → Comes fresh (load l) m a → WellFormed m → VerdictGiven l (going-on (λ x. call x verdict .answer) m a)
+  on-verdict m done e d w = let r = verdict-of-rounds m w in let v = r .answers in
+      subst (VerdictGiven l) (sym (v .1)) (settles-so m (v .0) e (r .by-rounds (v .0) .0 (v .1)))
+  on-verdict m (wrote k) e d w = absurd (load-writes (d .2))
+  on-verdict m (decided v) e d w = absurd (load-decides (d .1))
+  on-verdict m (refused n place) e d w = not-loaded n place (d .1 no-rows b)
+
   -- a longer buffer changes nothing
   pub outcome-size : (size : ℕ) → 6400 ≤ size → outcome l size ≡ outcome l 6400
-  unfolding outcome n
+  unfolding after-load n
   outcome-size size h = same-ending (n .machine) (n .answer) size h came formed-then
 
+  pub verdict-given : VerdictGiven l (batch-verdict l)
+  unfolding after-load n
+  verdict-given = on-verdict (n .machine) (n .answer) refl came formed-then
+
   pub program-shows : ProgramWrites l (program l)
-  unfolding program outcome n
+  unfolding program after-load n
   program-shows = by (ltb 65536 (length l)) (ltb· 65536 (length l))
     where
-      by : (x : Bool) → Decides x (65536 < length l) → ProgramWrites l (elim x [ true ↦ line (text "too long") | false ↦ shown (ending (n .machine) 6400 (n .answer)) ])
+      by : (x : Bool) → Decides x (65536 < length l) → ProgramWrites l (elim x [ true ↦ line (text "too long") | false ↦ shown (going-on (printed 6400) (n .machine) (n .answer)) ])
       by true d = too-long (yes· d)
       by false d = let h = no· d in on-answer (n .machine) (n .answer) (omega arith) refl came formed-then

@@ -11,8 +11,11 @@ use Rattle.lists.specs.Order.{sort-by}
 use Rattle.rows.specs.declared.Row.{Row}
 use Rattle.rows.specs.Rows.{row-bytes, batch-of, Bytes}
 use Rattle.rows.specs.Batch.{Fed, fed, failed, feed}
+use Rattle.orderings.specs.Rising.{rising?}
+use Rattle.machine.specs.declared.Verdict.{Verdict}
+use Rattle.machine.specs.declared.Verdict.the-variants.{NonEmpty, Empty}
 use Rattle.machine.specs.declared.Answer.{Answer}
-use Rattle.machine.specs.declared.Answer.the-variants.{Done, Wrote, Refused}
+use Rattle.machine.specs.declared.Answer.the-variants.{Done, Wrote, Decided, Refused}
 use Rattle.machine.specs.declared.Phase.{Phase}
 use Rattle.machine.specs.declared.Phase.the-variants.{Open, Running, Settled}
 use Rattle.machine.specs.Machine.{most-rounds, Machine, fresh, load-row, withdraw-row, closed, next-round, reopened}
@@ -21,31 +24,36 @@ use Rattle.machine.specs.Sheet.{sheet}
 -- a call, with what its caller brings beside the session: a batch, the length of a buffer
 pub data Call : Type 0 where
   load withdraw : List ℕ → Call
-  close round reopen : Call
+  close round reopen verdict : Call
   print save : ℕ → Call
 
--- done, text for the buffer, or a refusal with its number and place
+-- done, text for the buffer, a verdict, or a refusal with its number and place
 pub data Outcome : Type 0 where
   done : Outcome
   wrote : List ℕ → Outcome
+  decided : Verdict → Outcome
   refused : ℕ → ℕ → Outcome
 
--- document 01's number and values: a refusal returns its number and place, print and save their length, the other calls nothing
+-- document 01's number and values: a refusal returns its number and place, print and save their length, the other calls nothing; request
+-- C-22's call returns a verdict
 pub record Returned : Type 0 where
   pub number : Option ℕ
   pub values : List ℕ
+  pub verdict : Option Verdict
 
 -- of each case of the engine's answer
 abbrev pub returned : Answer → Returned
-returned Done = record { number = none; values = [] }
-returned (Wrote n) = record { number = none; values = n ∷ [] }
-returned (Refused n place) = record { number = some n; values = place ∷ [] }
+returned Done = record { number = none; values = []; verdict = none }
+returned (Wrote n) = record { number = none; values = n ∷ []; verdict = none }
+returned (Decided v) = record { number = none; values = []; verdict = some v }
+returned (Refused n place) = record { number = some n; values = place ∷ []; verdict = none }
 
 -- due for an outcome
 abbrev pub due : Outcome → Returned
-due done = record { number = none; values = [] }
-due (wrote l) = record { number = none; values = length l ∷ [] }
-due (refused n place) = record { number = some n; values = place ∷ [] }
+due done = record { number = none; values = []; verdict = none }
+due (wrote l) = record { number = none; values = length l ∷ []; verdict = none }
+due (decided v) = record { number = none; values = []; verdict = some v }
+due (refused n place) = record { number = some n; values = place ∷ []; verdict = none }
 
 -- the machine after a call, and what the call answers
 pub record Next : Type 0 where
@@ -78,6 +86,13 @@ write m size l = record { machine = m; answer = written size l }
 abbrev pub saved : Machine → List ℕ
 saved m = batch-of (sort-by row-bytes (m .rows))
 
+-- request C-22: the verdict by rising size, which leaves the machine as it was
+unfoldable pub verdict-of : List Row → Verdict
+verdict-of rows = cond (rising? rows) NonEmpty Empty
+
+abbrev pub decide : Machine → Next
+decide m = record { machine = m; answer = decided (verdict-of (m .rows)) }
+
 -- each call in each phase
 unfoldable pub call-in : Phase → Machine → Call → Next
 call-in Open m (load l) = with-rows m (feed load-row (m .rows) l)
@@ -85,6 +100,7 @@ call-in Open m (withdraw l) = with-rows m (feed withdraw-row (m .rows) l)
 call-in Open m close = accept (closed m)
 call-in Open m round = refuse m 9
 call-in Open m reopen = refuse m 9
+call-in Open m verdict = decide m
 call-in Open m (print size) = refuse m 9
 call-in Open m (save size) = write m size (saved m)
 call-in Running m (load l) = refuse m 1
@@ -92,6 +108,7 @@ call-in Running m (withdraw l) = refuse m 1
 call-in Running m close = refuse m 1
 call-in Running m round = accept (next-round m)
 call-in Running m reopen = accept (reopened m)
+call-in Running m verdict = decide m
 call-in Running m (print size) = refuse m 11
 call-in Running m (save size) = write m size (saved m)
 call-in (Settled v) m (load l) = refuse m 1
@@ -99,6 +116,7 @@ call-in (Settled v) m (withdraw l) = refuse m 1
 call-in (Settled v) m close = refuse m 1
 call-in (Settled v) m round = refuse m 10
 call-in (Settled v) m reopen = accept (reopened m)
+call-in (Settled v) m verdict = decide m
 call-in (Settled v) m (print size) = write m size (sheet v m)
 call-in (Settled v) m (save size) = write m size (saved m)
 
@@ -109,6 +127,7 @@ call m c = call-in (m .phase) m c
 abbrev pub buffer-after : Outcome → List ℕ → List ℕ
 buffer-after done old = old
 buffer-after (wrote l) old = l ++ drop (length l) old
+buffer-after (decided v) old = old
 buffer-after (refused n place) old = old
 
 -- the engine tells an outcome: its answer has the number and values that are due, and the caller's buffer holds what it then should
@@ -132,6 +151,7 @@ Brings (withdraw l) = Bytes l
 Brings close = Unit {0}
 Brings round = Unit {0}
 Brings reopen = Unit {0}
+Brings verdict = Unit {0}
 Brings (print size) = Unit {0}
 Brings (save size) = Unit {0}
 

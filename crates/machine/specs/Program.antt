@@ -10,7 +10,7 @@ use Rattle.machine.specs.declared.Phase.the-variants.{Settled}
 use Rattle.machine.specs.Machine.{longest-sheet, longest-batch, Machine, fresh}
 use Rattle.machine.specs.Text.{text, number-text}
 use Rattle.machine.specs.Sheet.{line, sheet}
-use Rattle.machine.specs.Calls.{load, print, Outcome, done, wrote, refused, call, run, settle, second}
+use Rattle.machine.specs.Calls.{load, verdict, print, Outcome, done, wrote, decided, refused, call, run, settle, second}
 use Rattle.machine.specs.Causes.{Cause}
 
 -- a refusal prints the line `refused N at PLACE`
@@ -20,21 +20,36 @@ refusal-line n place = line (text "refused " ++ (number-text n ++ (text " at " +
 abbrev pub shown : Outcome → List ℕ
 shown done = []
 shown (wrote l) = l
+shown (decided v) = []
 shown (refused n place) = refusal-line n place
 
--- after an accepted load: closes, does rounds until settled and prints into a buffer of that size
-abbrev pub ending : Machine → ℕ → Outcome → Outcome
-ending m size done = call (run m settle) (print size) .answer
-ending m size (wrote l) = wrote l
-ending m size (refused n place) = refused n place
+-- what a machine goes on to answer after an accepted load
+abbrev pub going-on : (Machine → Outcome) → Machine → Outcome → Outcome
+going-on then m done = then m
+going-on then m (wrote l) = wrote l
+going-on then m (decided v) = decided v
+going-on then m (refused n place) = refused n place
 
--- what one batch comes to, from a fresh machine: the refusal of its load, or what print answers
-unfoldable pub outcome : List ℕ → ℕ → Outcome
-outcome l size = ending (call fresh (load l) .machine) size (call fresh (load l) .answer)
+-- what one batch comes to, from a fresh machine: the refusal of its load, or what the machine then answers
+unfoldable pub after-load : (Machine → Outcome) → List ℕ → Outcome
+after-load then l = going-on then (call fresh (load l) .machine) (call fresh (load l) .answer)
+
+-- it closes, does rounds until settled and prints into a buffer of that size
+abbrev pub outcome : List ℕ → ℕ → Outcome
+outcome l size = after-load (λ m. call (run m settle) (print size) .answer) l
+
+-- request C-22: it gives the verdict
+abbrev pub batch-verdict : List ℕ → Outcome
+batch-verdict l = after-load (λ m. call m verdict .answer) l
 
 -- one batch of at most 65,536 bytes; longer input prints the line `too long`
 unfoldable pub program : List ℕ → List ℕ
 program l = elim (ltb longest-batch (length l)) [ true ↦ line (text "too long") | false ↦ shown (outcome l longest-sheet) ]
+
+-- what a batch that is asked for its verdict comes to: the cause that refuses it, or the verdict with which the second machine of its rows settles
+pub data VerdictGiven (l : List ℕ) : Outcome → Type 0 where
+  not-loaded : (n place : ℕ) → Cause fresh (load l) n place → VerdictGiven l (refused n place)
+  settles-so : (m : Machine) (v : Verdict) → call fresh (load l) ≡ record { machine = m; answer = done } → second (m .rows) .phase ≡ Settled v → VerdictGiven l (decided v)
 
 -- what the program writes for each input: `too long`, the line of the cause that refuses the batch, or the sheet of its rows
 pub data ProgramWrites (l : List ℕ) : List ℕ → Type 0 where

@@ -1,4 +1,4 @@
--- What is shown of the plain machine, as statements: `Closed`, `Rounded`, `Listed`, `Works`, `SecondWorks`, `RoundsEnd`, `MoreRows`, `Prints`, `Saves`. Nothing
+-- What is shown of the plain machine, as statements: `Closed`, `Rounded`, `Listed`, `Works`, `SecondWorks`, `RoundsEnd`, `VerdictOfRounds`, `MoreRows`, `Prints`, `Saves`. Nothing
 -- here is computed by the machine's own search.
 use Prim.Native.Nat.{ℕ, suc, _≤_, _<_, _*_, _^_}
 use mathlib.Core.Path.{_≡_}
@@ -20,7 +20,7 @@ use Rattle.machine.specs.declared.Phase.the-variants.{Open, Running, Set
 use Rattle.machine.specs.Machine.{most-sets, most-rounds, Opening, Machine, open-with, fresh, open-claims}
 use Rattle.machine.specs.Order.{Found}
 use Rattle.machine.specs.Sheet.{verdict-line, opening-line, walk-lines, sheet}
-use Rattle.machine.specs.Calls.{Call, load, round, print, done, wrote, accept, call, run, second, Brings}
+use Rattle.machine.specs.Calls.{Call, load, round, verdict, print, done, wrote, decided, accept, call, run, second, Brings}
 
 -- a walk of zero or more steps, with letter steps and steps of the claims l, leads from an initial to a final state
 abbrev pub SomeWalk : List Row → List Claim → Type 0
@@ -125,6 +125,22 @@ pub record RoundsEnd (m : Machine) : Type 0 where
 -- from any list of calls a round is never the 130th
 abbrev pub NeverThe130th : Type 0
 NeverThe130th = (cs : List Call) → ((c : Call) → c among cs → Brings c) → RoundsEnd (run fresh cs)
+
+-- request C-22, of a machine that calls make: the verdict by rising size is that of the rounds
+pub record VerdictOfRounds (m : Machine) : Type 0 where
+  -- the call is never refused, and leaves the machine as it was
+  pub answers : (v : Verdict) × (call m verdict .answer ≡ decided v)
+  pub kept : call m verdict .machine ≡ m
+  -- the second machine of the standing rows settles with it, whatever the phase of this one
+  pub by-rounds : (v : Verdict) → (call m verdict .answer ≡ decided v) ↔ (second (m .rows) .phase ≡ Settled v)
+  -- a settled machine has it itself
+  pub own : (v : Verdict) → m .phase ≡ Settled v → call m verdict .answer ≡ decided v
+  -- non-empty exactly when some finite derivation gives a walk from an initial to a final state
+  pub meaning : (call m verdict .answer ≡ decided NonEmpty) ↔ Accepts (timelines (m .rows))
+
+-- after any list of calls
+abbrev pub EveryVerdict : Type 0
+EveryVerdict = (cs : List Call) → ((c : Call) → c among cs → Brings c) → VerdictOfRounds (run fresh cs)
 
 -- what a sheet says beside its walk: the verdict, the round number and the openings
 pub record Said : Type 0 where

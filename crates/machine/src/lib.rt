@@ -24,10 +24,11 @@ pub enum Phase {
     Settled(Verdict),
 }
 
-// What a call answers: done, the count of bytes written, or a refusal with its number and place.
+// What a call answers: done, the count of bytes written, the verdict that was asked for, or a refusal with its number and place.
 pub enum Answer {
     Done,
     Wrote(usize),
+    Decided(Verdict),
     Refused(u8, usize),
 }
 

@@ -1,14 +1,18 @@
 -- The number of the states of a set, and its lowest state.
-use Prim.Native.Nat.{ℕ, zero, suc, _/_, _%_, _^_, _≤_, _<_, zero-le, suc-le-suc}
+use Prim.Native.Nat.{ℕ, zero, suc, _+_, _/_, _%_, _^_, _≤_, _<_, zero-le, suc-le-suc}
 use mathlib.Core.Path.{_≡_, refl, sym, ap, _∙_}
-use mathlib.Core.Bool.{true}
+use mathlib.Core.Bool.{Bool, true}
 use mathlib.Core.Logic.{⊎-elim}
+use mathlib.Core.List.{List}
 use native.Mathlib.Nat.{pow-suc, mod-lt, zero-lt-suc}
 use native.Mathlib.Omega.{arith}
 use lib.Arith.{lt-one}
 use lib.Count.{ones, ones-step, trailingZeros, under}
+use lib.Dec.{eqb}
+use lib.ListN.{length}
 use borrow.Author.Tests.{eqb-true, eq-eqb}
-use Rattle.masks.specs.Mask.{_∈_, _⊆_}
+use Rattle.lists.specs.Tests.{put, keep, range}
+use Rattle.masks.specs.Mask.{member, _∈_, _⊆_}
 use Rattle.masks.proofs.Digit.{digit, digit-low, digit-suc, low-le, two-pos}
 use Rattle.masks.proofs.Member.{lt-or-le, member-lt, member-digit}
 
@@ -45,6 +49,29 @@ module _ (a b : ℕ) (ha : a < 2 ^ 64) (hb : b < 2 ^ 64) (part : a ⊆ b) where
   pub ones-grows : (a ≡ b → ⊥) → ones a < ones b
   ones-grows n =
       ⊎-elim (λ h. h) (λ (h : ones b ≤ ones a). absurd (n (ones-subset .1 (omega (arith, ones-subset .0))))) (lt-or-le (ones a) (ones b))
+
+put-length : (a d : ℕ) (b : Bool) (l : List ℕ) → b ≡ eqb d 1 → d < 2 → length (put b a l) ≡ d + length l
+put-length a zero b l e h = rw e (omega arith)
+put-length a (suc zero) b l e h = rw e (omega arith)
+put-length a (suc (suc d)) b l e h = absurd (omega arith)
+
+-- a test of k numbers from a on that asks for the digits of m passes as many as m has ones
+kept-ones : (f : ℕ → Bool) (k a m : ℕ) → m < 2 ^ k → ((t : ℕ) → t < k → f (a + t) ≡ digit t m) → length (keep f (range a k)) ≡ ones m
+kept-ones f zero a m h is = sym (ap ones (lt-one h) ∙ ones-none)
+kept-ones f (suc k) a m h is =
+    put-length a (m % 2) (f a) (keep f (range (suc a) k)) (ap f here ∙ is 0 (zero-lt-suc k) ∙ digit-low m) (mod-lt m two-pos)
+    ∙ ap (λ (x : ℕ). m % 2 + x) (kept-ones f k (suc a) (m / 2) (omega (arith, pow-suc 2 k)) (λ t l. ap f (on t) ∙ is (suc t) (suc-le-suc l) ∙ digit-suc t m))
+    ∙ sym (ones-step m)
+  where
+    here : a ≡ a + 0
+    here = omega arith
+
+    on : (t : ℕ) → suc a + t ≡ a + suc t
+    on t = omega arith
+
+-- the states of a set, counted
+pub ones-members : (m : ℕ) → m < 2 ^ 64 → length (keep (λ s. member s m) (range 0 64)) ≡ ones m
+ones-members m h = kept-ones (λ s. member s m) 64 0 m h (λ t l. let e : 0 + t ≡ t = omega arith in ap (λ (x : ℕ). member x m) e ∙ member-digit t m l)
 
 -- ---- the lowest state
 

@@ -96,6 +96,9 @@ module _ (m s w : ℕ) (is : (t : ℕ) → member t w ≡ (member t m || eqb t s
   pub with-same : s ∈ w
   with-same = is s ∙ ap (λ (x : Bool). member s m || x) (eq-eqb s s refl) ∙ or-true (member s m)
 
+  pub with-more : m ⊆ w
+  with-more t h = is t ∙ ap (λ (x : Bool). x || eqb t s) h
+
   pub with-cases : (t : ℕ) → t ∈ w → (t ∈ m) ⊎ (t ≡ s)
   with-cases t h = ⊎-elim inl (λ e. inr (eqb-true t s e)) (or-cases (member t m) (eqb t s) (sym (is t) ∙ h))
 

@@ -3,6 +3,7 @@
 ghost use mathlib.Core.Path.{_≡_};
 ghost use mathlib.Core.Bool.{not, _&&_, _||_};
 ghost use Prim.Native.Nat.{ℕ, _≤_, _<_};
+ghost use lib.Count.{ones};
 ghost use lib.Dec.{eqb};
 ghost use lib.ListN.{length};
 ghost use Rattle.lists.specs.Tests.{Decides};
@@ -71,6 +72,14 @@ pub fn meets(a: Set, b: Set) -> bool
     ensures { λ r. ⌜ Decides r ((t : ℕ) × (t ∈ a) × (t ∈ b)) ⌝ }
 {
     intersection(a, b) != 0
+}
+
+// How many states `m` has.
+pub fn size(m: Set) -> usize
+    ensures is { λ r. ⌜ r ≡ ones m ⌝ }
+    ensures most { λ r. ⌜ r ≤ 64 ⌝ }
+{
+    u64::count_ones(m) as usize
 }
 
 // The lowest state of `m`, which is not empty.

@@ -78,7 +78,10 @@ module _ (rows : List Row) where
   pub at-most : (n k : ℕ) (c : Claim) → length (claims rows) ≤ n → OpenBy (timelines rows) k c → OpenBy (timelines rows) n c
   at-most n k c le o = open-le (timelines rows) (lawful rows) (length (claims rows)) n c le (fixpoint (timelines rows) (lawful rows) (length (claims rows)) vain k c o)
 
+  -- a claim is derivable exactly where it is open then
+  pub rest-derivable : (c : Claim) → Derivable (timelines rows) c ↔ OpenBy (timelines rows) (length (claims rows)) c
+  rest-derivable c = derivable-iff-open (timelines rows) (lawful rows) (length (claims rows)) vain c
+
   -- it can be decided whether a claim is derivable
   pub derivable-dec : (c : Claim) → Dec (Derivable (timelines rows) c)
-  derivable-dec c = let n = length (claims rows) in let d = derivable-iff-open (timelines rows) (lawful rows) n vain c in
-      elim (open-dec n c) [ yes o ↦ yes (d .1 o) | no m ↦ no (λ x. m (d .0 x)) ]
+  derivable-dec c = elim (open-dec (length (claims rows)) c) [ yes o ↦ yes (rest-derivable c .1 o) | no m ↦ no (λ x. m (rest-derivable c .0 x)) ]

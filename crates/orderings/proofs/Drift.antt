@@ -1,5 +1,5 @@
 -- Document 01, "Where implementations drift": small tables on which each drift would show, computed from the
--- definitions, one law each (`two-rounds`, `whole-content`, `mix-outside`, `one-set`, `gaps`, `struck-steps` and others).
+-- definitions, one law each (`two-rounds`, `whole-content`, `mix-outside`, `one-set`, `gaps`, `struck-steps`, `sizes-rise` and others).
 use Prim.Native.Nat.{ℕ}
 use mathlib.Core.Path.{_≡_, refl}
 use mathlib.Core.Bool.{true, false}
@@ -12,6 +12,7 @@ use Rattle.rows.specs.declared.Row.the-variants.{Initial, Final, Successor, Lef
 use Rattle.rows.specs.Rows.{standing-sets, same-row}
 use Rattle.orderings.specs.Steps.{Claim, loops, mixes, members}
 use Rattle.orderings.specs.Decide.{same-claim, claims, reach, holds?, accepts?}
+use Rattle.orderings.specs.Rising.{finds?, found, rising?}
 
 -- the claims that are open after k rounds; `opened-iff` says that they are
 abbrev opened : List Row → ℕ → List Claim
@@ -236,3 +237,27 @@ pub state-63 : (opened (Successor 63 7 63 ∷ LeftLimit 9223372036854775808 0 �
     × (opened (Successor 0 7 0 ∷ LeftLimit 9223372036854775809 1 ∷ []) 1 ≡ [])
 unfolding ℕ-discrete member standing-sets same-row members reach holds?
 state-63 = (refl, refl)
+
+-- request C-22: {2} before {0,1}, whose number is lower; a set is visited when all smaller ones are, and once
+abbrev three-sets : List Row
+three-sets = Successor 0 7 1 ∷ Successor 1 7 0 ∷ Successor 2 7 2 ∷ LeftLimit 3 2 ∷ LeftLimit 4 1 ∷ LeftLimit 7 3 ∷ []
+
+pub sizes-rise : (found three-sets 1 ≡ [])
+    × (found three-sets 2 ≡ loops 4 ∷ [])
+    × (found three-sets 3 ≡ loops 4 ∷ loops 3 ∷ [])
+    × (found three-sets 4 ≡ loops 4 ∷ loops 3 ∷ loops 7 ∷ [])
+    × (found three-sets 6 ≡ loops 4 ∷ loops 3 ∷ loops 7 ∷ [])
+unfolding ℕ-discrete member standing-sets same-row members reach holds? finds? found
+sizes-rise = (refl, refl, refl, refl, refl)
+
+-- a set that mixes also loops, by its own mix step; one that loops and has no exit does not mix
+pub mixes-also-loop : (found (Successor 0 7 1 ∷ LeftLimit 3 0 ∷ RightLimit 1 3 ∷ []) 3 ≡ loops 3 ∷ mixes 3 ∷ [])
+    × (found (Successor 0 7 1 ∷ Successor 1 7 0 ∷ LeftLimit 3 0 ∷ []) 3 ≡ loops 3 ∷ [])
+unfolding ℕ-discrete member standing-sets same-row members reach holds? finds? found
+mixes-also-loop = (refl, refl)
+
+-- the verdict looks at the claims of all sets, and at those found alone
+pub risen : (rising? (Initial 0 ∷ Final 2 ∷ Successor 0 7 0 ∷ Successor 1 7 0 ∷ LeftLimit 1 1 ∷ LeftLimit 3 2 ∷ []) ≡ true)
+    × (rising? (Initial 0 ∷ Final 2 ∷ Successor 0 7 0 ∷ LeftLimit 1 1 ∷ LeftLimit 3 2 ∷ []) ≡ false)
+unfolding ℕ-discrete member standing-sets same-row members reach holds? accepts? finds? found rising?
+risen = (refl, refl)

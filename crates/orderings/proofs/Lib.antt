@@ -11,3 +11,4 @@ pub mod Claims
 pub mod MoreRows
 pub mod Gaps
 pub mod Struck
+pub mod Rising

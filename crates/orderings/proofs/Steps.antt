@@ -1,9 +1,14 @@
--- Walks of document 01's steps: joined (`leads-append`, `inside-append`), and the states on them (`on-start`, `on-middle`, `on-end`).
+-- Walks of document 01's steps: joined (`leads-append`, `inside-append`), and the states on them (`on-start`, `on-middle`, `on-end`); walks inside
+-- a set with claims in force (`Runs`, `runs-append`, `leg-of`).
 use Prim.Native.Nat.{ℕ}
-use mathlib.Core.Path.{_≡_, sym}
-use mathlib.Core.Logic.{inl, inr}
-use mathlib.Core.List.{[], _∷_, _++_}
-use Rattle.orderings.specs.Steps.{Walk, Leads, Inside, On}
+use mathlib.Core.Path.{_≡_, sym, subst}
+use mathlib.Core.Logic.{inl, inr, _≢_}
+use mathlib.Core.List.{List, [], _∷_, _++_}
+use Rattle.rows.specs.declared.Row.{Row}
+use Rattle.orderings.specs.Steps.{Claim, Walk, Leads, Inside, On}
+use Rattle.orderings.specs.Claims.{Through}
+use Rattle.orderings.specs.Systems.{Allowed, AtHand}
+use Rattle.orderings.specs.Timelines.{timelines}
 
 pub leads-append : (a : ℕ) (v : Walk) (s : ℕ) (w : Walk) (b : ℕ) → Leads a v s → Leads s w b → Leads a (v ++ w) b
 leads-append a [] s w b h k = rw h k
@@ -24,3 +29,20 @@ on-middle s a (t ∷ v) w h = inr (on-middle s (t .to) v w (h .1))
 pub on-end : (s a : ℕ) (v : Walk) → Leads a v s → On s a v
 on-end s a [] h = sym h
 on-end s a (t ∷ v) h = inr (on-end s (t .to) v (h .1))
+
+module _ (rows : List Row) (In : Claim → Type 0) (P : ℕ) where
+  -- the walk leads from a to b inside P, with the claims in force
+  abbrev pub Runs : ℕ → Walk → ℕ → Type 0
+  Runs a w b = Leads a w b × Allowed (timelines rows) In w × Inside P w
+
+  pub runs-append : (a : ℕ) (v : Walk) (s : ℕ) (w : Walk) (b : ℕ) → Runs a v s → Runs s w b → Runs a (v ++ w) b
+  runs-append a [] s w b h k = subst (λ (x : ℕ). Runs x w b) (sym (h .0)) k
+  runs-append a (t ∷ v) s w b h k =
+      let r = runs-append (t .to) v s w b (h .0 .1, h .1 .2, h .2 .1) k in
+      ((h .0 .0, r .0), (h .1 .0, h .1 .1, r .1), (h .2 .0, r .2))
+
+  abbrev pub leg-of : (a b : ℕ) (w : Walk) → Runs a w b → w ≢ [] → Through (AtHand (timelines rows) In) P a b
+  leg-of a b w r n = (w, ((a, b, r .0), r .1), r .0, r .2, n)
+
+  abbrev pub runs-of : (a b : ℕ) → (t : Through (AtHand (timelines rows) In) P a b) → Runs a (t .0) b
+  runs-of a b t = (t .2, t .1 .1, t .3)

@@ -1,4 +1,4 @@
--- The claims of document 01: more walks show more, and finitely many walks are enough (`lawful`).
+-- The claims of document 01: more walks inside its set show more (`says-inside`), and finitely many walks are enough (`lawful`).
 use Prim.Native.Nat.{ℕ}
 use mathlib.Core.Path.{refl}
 use mathlib.Core.Logic.{_⊎_, inl, inr, ⊎-elim, _↔_}
@@ -9,7 +9,7 @@ use Rattle.lists.proofs.Deciding.{test·, keep·, range-in}
 use Rattle.masks.specs.Mask.{member, _∈_}
 use Rattle.masks.proofs.Member.{member-lt}
 use Rattle.rows.specs.declared.Row.{Row}
-use Rattle.orderings.specs.Steps.{Claim, loops, mixes, Walk, members}
+use Rattle.orderings.specs.Steps.{Claim, loops, mixes, set-of, Walk, Inside, members}
 use Rattle.orderings.specs.Claims.{Through, Piece, OnPiece, Gap, Says}
 use Rattle.orderings.specs.Timelines.{timelines}
 use Rattle.orderings.proofs.Depths.{Lawful}
@@ -18,19 +18,20 @@ pub members-iff : (P s : ℕ) → s among members P ↔ (s ∈ P)
 unfolding members
 members-iff P s = let k = keep· (λ s. test· (member s P)) (range 0 64) s in ((λ m. k .0 m .1), λ h. k .1 (range-in 0 64 s (omega arith) (omega (arith, member-lt s P h)), h))
 
-module _ {W W′ : Walk → Type 0} (f : (w : Walk) → W w → W′ w) where
-  abbrev through-more : (P a b : ℕ) → Through W P a b → Through W′ P a b
-  through-more P a b t = (t .0, f _ (t .1), t .2, t .3, t .4)
+module _ {W W′ : Walk → Type 0} (P : ℕ) (f : (w : Walk) → W w → Inside P w → W′ w) where
+  abbrev through-inside : (a b : ℕ) → Through W P a b → Through W′ P a b
+  through-inside a b t = (t .0, f _ (t .1) (t .3), t .2, t .3, t .4)
 
-  abbrev piece-more : (rows : List Row) (P : ℕ) → Piece rows W P → Piece rows W′ P
-  piece-more rows P k = (k .0, k .1, k .2, k .3, through-more P (k .0) (k .1) (k .4))
+  abbrev piece-inside : (rows : List Row) → Piece rows W P → Piece rows W′ P
+  piece-inside rows k = (k .0, k .1, k .2, k .3, through-inside (k .0) (k .1) (k .4))
 
-  covered-more : (rows : List Row) (P s : ℕ) → OnPiece rows W P s ⊎ Gap rows P s → OnPiece rows W′ P s ⊎ Gap rows P s
-  covered-more rows P s = ⊎-elim (λ o. inl (piece-more rows P (o .0), o .1)) inr
+  covered-inside : (rows : List Row) (s : ℕ) → OnPiece rows W P s ⊎ Gap rows P s → OnPiece rows W′ P s ⊎ Gap rows P s
+  covered-inside rows s = ⊎-elim (λ o. inl (piece-inside rows (o .0), o .1)) inr
 
-  pub says-more : (rows : List Row) (c : Claim) → Says rows W c → Says rows W′ c
-  says-more rows (loops P) h = λ a b p q. through-more P a b (h a b p q)
-  says-more rows (mixes P) h = record { covered = λ s p. covered-more rows P s (h .covered s p); stepped = piece-more rows P (h .stepped) }
+-- what a claim says is said of the walks inside its set
+pub says-inside : {W W′ : Walk → Type 0} (rows : List Row) (c : Claim) → ((w : Walk) → W w → Inside (set-of c) w → W′ w) → Says rows W c → Says rows W′ c
+says-inside rows (loops P) f h = λ a b p q. through-inside P f a b (h a b p q)
+says-inside rows (mixes P) f h = record { covered = λ s p. covered-inside P f rows s (h .covered s p); stepped = piece-inside P f rows (h .stepped) }
 
 -- finitely many of the walks at hand, of which T holds
 module _ (W : Walk → Type 0) where
@@ -67,19 +68,19 @@ module _ (W : Walk → Type 0) where
 
   says-finite : (rows : List Row) (c : Claim) → Says rows W c → Few (λ ws. Says rows (λ w. w among ws) c)
   says-finite rows (loops P) h =
-      let r = few-of P (λ a ws. (b : ℕ) → b ∈ P → Through (λ w. w among ws) P a b) (λ a ws ws′ up g b q. through-more up P a b (g b q))
-      (λ a p. few-of P (λ b ws. Through (λ w. w among ws) P a b) (λ b ws ws′ up. through-more up P a b) (λ b q. one-through P a b (h a b p q))) in
+      let r = few-of P (λ a ws. (b : ℕ) → b ∈ P → Through (λ w. w among ws) P a b) (λ a ws ws′ up g b q. through-inside P (λ w m i. up w m) a b (g b q))
+      (λ a p. few-of P (λ b ws. Through (λ w. w among ws) P a b) (λ b ws ws′ up. through-inside P (λ w m i. up w m) a b) (λ b q. one-through P a b (h a b p q))) in
       (r .0, r .1, λ a b p q. r .2 a p b q)
   says-finite rows (mixes P) h =
-      let r = few-of P (λ s ws. OnPiece rows (λ w. w among ws) P s ⊎ Gap rows P s) (λ s ws ws′ up. covered-more up rows P s) (λ s p. one-covered rows P s (h .covered s p)) in
+      let r = few-of P (λ s ws. OnPiece rows (λ w. w among ws) P s ⊎ Gap rows P s) (λ s ws ws′ up. covered-inside P (λ w m i. up w m) rows s) (λ s p. one-covered rows P s (h .covered s p)) in
       let k = one-piece rows P (h .stepped) in (
         k .0 ++ r .0,
         (λ w m. ⊎-elim (k .1 w) (r .1 w) (List·Memᴰ·append-cases (k .0) m)),
         record {
-          covered = λ s p. covered-more (λ w i. Memᴰ·append-right (k .0) i) rows P s (r .2 s p);
-          stepped = piece-more (λ w i. Memᴰ·append-left (r .0) i) rows P (k .2);
+          covered = λ s p. covered-inside P (λ w m i. Memᴰ·append-right (k .0) m) rows s (r .2 s p);
+          stepped = piece-inside P (λ w m i. Memᴰ·append-left (r .0) m) rows (k .2);
         },
       )
 
 pub lawful : (rows : List Row) → Lawful (timelines rows)
-lawful rows = record { more = λ f c. says-more f rows c; finite = λ {W} c. says-finite W rows c }
+lawful rows = record { more = λ f c. says-inside rows c (λ w m i. f w m); finite = λ {W} c. says-finite W rows c }

@@ -1,5 +1,5 @@
 // Random automata with nested limits, and spoiled batches, from a fixed seed: the engine's sheet or refusal against that of the plain
-// second search.
+// second search, and its verdict by rising size against that sheet's.
 mod batches;
 mod dice;
 mod generator;
@@ -16,6 +16,12 @@ fn try_pair(batch: &[u8], other: &[u8], told: usize, counts: &mut [u64]) -> plai
     tally::tell(
         batch,
         first(&ours, shown.length),
+        first(&theirs, sheet.length),
+        told,
+        counts,
+    );
+    tally::tell_verdict(
+        checker::verdict(batch),
         first(&theirs, sheet.length),
         told,
         counts,

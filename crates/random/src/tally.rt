@@ -1,6 +1,8 @@
 // Comparing sheets, and counting what they say. The counts: from 0 on the non-empty by rounds, from 40 on the empty, from 80 on the
-// refused by number; then those repeated, different, pairs of different batches, those of them that were told different, those with a gap, and those
-// with a strike.
+// refused by number; then those repeated, different, pairs of different batches, those of them that were told different, those with a gap, those
+// with a strike; verdicts that are not the sheet's, and those of them in pairs.
+use machine::Answer;
+use machine::Verdict;
 use program_output::say;
 use program_output::say_count;
 
@@ -22,6 +24,10 @@ pub const TOLD: usize = 93;
 const GAPS: usize = 94;
 
 const STRIKES: usize = 95;
+
+const OTHER_VERDICTS: usize = 96;
+
+const TOLD_VERDICTS: usize = 97;
 
 // The byte at `i`, 0 past the end.
 pub fn byte(text: &[u8], i: usize) -> u8 {
@@ -143,8 +149,10 @@ pub fn report(counts: &[u64]) {
         get(counts, STRIKES),
     );
     say_count(b"different: ", get(counts, DIFFERENT));
+    say_count(b"other verdicts: ", get(counts, OTHER_VERDICTS));
     say_count(b"pairs of different batches: ", get(counts, PAIRS));
     say_count(b"told different: ", get(counts, TOLD));
+    say_count(b"with other verdicts: ", get(counts, TOLD_VERDICTS));
 }
 
 // A difference: the batch and both sheets.
@@ -174,6 +182,40 @@ pub fn tell(batch: &[u8], ours: &[u8], theirs: &[u8], told: usize, counts: &mut 
         place_of(ours)
     } else {
         PAIRS
+    };
+    add(counts, at);
+}
+
+// Does the sheet say the verdict? Its first byte is that of `verdict`, and its ninth tells the two apart.
+fn says_verdict(sheet: &[u8], verdict: Verdict) -> bool {
+    if byte(sheet, 0) != b'v' {
+        return false;
+    }
+    match verdict {
+        Verdict::NonEmpty => byte(sheet, 8) == b'n',
+        Verdict::Empty => byte(sheet, 8) == b'e',
+    }
+}
+
+// Does the sheet say the verdict, or the refusal's number?
+fn says(sheet: &[u8], answer: Answer) -> bool {
+    match answer {
+        Answer::Decided(verdict) => says_verdict(sheet, verdict),
+        Answer::Refused(number, _) => byte(sheet, 0) == b'r'
+            && value(byte(sheet, 8)) == number as usize,
+        _ => false,
+    }
+}
+
+// Counts a verdict that is not the sheet's.
+pub fn tell_verdict(answer: Answer, sheet: &[u8], told: usize, counts: &mut [u64]) {
+    if says(sheet, answer) {
+        return;
+    }
+    let at = if told == DIFFERENT {
+        OTHER_VERDICTS
+    } else {
+        TOLD_VERDICTS
     };
     add(counts, at);
 }

@@ -19,7 +19,6 @@ ghost use Rattle.masks.specs.Mask.{_∈_};
 ghost use Rattle.machine.specs.declared.Phase.the-variants.{Running};
 ghost use Rattle.machine.specs.Machine.{judged};
 ghost use Rattle.search.specs.Graph.{graph-of, Indexed};
-ghost use Rattle.search.specs.Hops.{WithNew};
 ghost use Rattle.search.specs.Promises.{OpensBelow};
 ghost use Rattle.rounds.specs.Arrays.{OpenPlaces, Marks};
 ghost use Rattle.rounds.specs.Promises.{closed-as, Closes, DoesRound, Unaccepted, Settles};
@@ -61,16 +60,6 @@ fn nothing(a: Places, b: Places) -> bool
     ensures { λ r. ⌜ Decides r ((t : ℕ) → (¬ (t ∈ a)) × (¬ (t ∈ b))) ⌝ }
 {
     masks::union(a, b) == 0
-}
-
-// The claims in force, and new ones.
-fn with_new(force: Claims, new: Claims) -> Claims
-    ensures { λ r. ⌜ WithNew force new r ⌝ }
-{
-    Claims {
-        loops: masks::union(force.loops, new.loops),
-        mixes: masks::union(force.mixes, new.mixes),
-    }
 }
 
 // The places below `n` whose round is not 0.
@@ -157,7 +146,7 @@ pub fn round(
     let mixes = open_mask(&mix_rounds, set_count);
     let force = Claims { loops, mixes };
     let new = opened(graph, force, set_count);
-    let all = with_new(force, new);
+    let all = openings::with_new(force, new);
     let accepted = searches::accepts(graph, all, initials, finals);
     let phase = judge(accepted, nothing(new.loops, new.mixes));
     let count = before.rounds + 1;
@@ -197,7 +186,7 @@ fn run_rounds(graph: &Masks, initials: Set, finals: Set, set_count: usize, reach
         }
         openings::add_ends(&mut to, &mut from, graph, &back, new, set_count);
         new = openings::open_next(graph, &back, force, &to, &from, set_count);
-        force = with_new(force, new);
+        force = openings::with_new(force, new);
         seen = searches::reached_more(graph, force, new, initials, seen);
         phase = judge(
             searches::accepted(initials, seen, finals),

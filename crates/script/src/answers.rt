@@ -10,8 +10,8 @@ use program_output::say_number;
 
 fn say_verdict(verdict: Verdict) {
     match verdict {
-        Verdict::NonEmpty => say(b"ok nonempty"),
-        Verdict::Empty => say(b"ok empty"),
+        Verdict::NonEmpty => say(b"nonempty"),
+        Verdict::Empty => say(b"empty"),
     }
 }
 
@@ -20,7 +20,10 @@ fn say_phase(phase: Phase) {
     match phase {
         Phase::Open => say(b"ok"),
         Phase::Running => say(b"ok running"),
-        Phase::Settled(verdict) => say_verdict(verdict),
+        Phase::Settled(verdict) => {
+            say(b"ok ");
+            say_verdict(verdict);
+        }
     }
 }
 
@@ -33,6 +36,10 @@ fn say_refused(number: u8, place: usize) {
 
 fn say_done(answer: Answer, phase: Phase) {
     match answer {
+        Answer::Decided(verdict) => {
+            say(b"verdict ");
+            say_verdict(verdict);
+        }
         Answer::Refused(number, place) => say_refused(number, place),
         _ => say_phase(phase),
     }

@@ -26,6 +26,7 @@ fn go(session: Session, call: Move) -> Reply {
         Move::Close => session.close(),
         Move::Round => session.round(),
         Move::Reopen => session.reopen(),
+        Move::Verdict => session.verdict(),
     }
 }
 

@@ -4,11 +4,11 @@ use mathlib.Core.Path.{_≡_, refl, sym, subst}
 use mathlib.Core.Logic.{_⊎_, inl, inr, ⊎-elim, _≢_}
 use mathlib.Core.List.{List, [], _∷_, _++_, cons≢nil, append-ne-nil-of-right-ne-nil}
 use Rattle.rows.specs.declared.Row.{Row}
-use Rattle.orderings.specs.Steps.{Claim, Step, Walk, Leads, Inside, On}
+use Rattle.orderings.specs.Steps.{Claim, Step, Walk, On}
 use Rattle.orderings.specs.Claims.{Through}
-use Rattle.orderings.specs.Systems.{Allowed, AtHand}
+use Rattle.orderings.specs.Systems.{AtHand}
 use Rattle.orderings.specs.Timelines.{timelines}
-use Rattle.orderings.proofs.Steps.{on-start, on-middle, on-end}
+use Rattle.orderings.proofs.Steps.{on-start, on-middle, on-end, Runs, runs-append, leg-of}
 use Rattle.search.specs.Masked.{StepInside}
 use Rattle.search.specs.Hops.{Chain, one, more, Between}
 use Rattle.search.proofs.Chains.{chain-append}
@@ -17,46 +17,33 @@ module _ (rows : List Row) (In : Claim → Type 0) (P : ℕ) where
   abbrev Link : ℕ → ℕ → Type 0
   Link a b = StepInside rows In P a b
 
-  -- the walk leads from a to b inside P, with the claims in force
-  abbrev Runs : ℕ → Walk → ℕ → Type 0
-  Runs a w b = Leads a w b × Allowed (timelines rows) In w × Inside P w
-
   abbrev Leg : ℕ → ℕ → Type 0
   Leg a b = Through (AtHand (timelines rows) In) P a b
 
-  runs-append : (a : ℕ) (v : Walk) (s : ℕ) (w : Walk) (b : ℕ) → Runs a v s → Runs s w b → Runs a (v ++ w) b
-  runs-append a [] s w b h k = subst (λ (x : ℕ). Runs x w b) (sym (h .0)) k
-  runs-append a (t ∷ v) s w b h k =
-      let r = runs-append (t .to) v s w b (h .0 .1, h .1 .2, h .2 .1) k in
-      ((h .0 .0, r .0), (h .1 .0, h .1 .1, r .1), (h .2 .0, r .2))
-
-  runs-step : (a b : ℕ) → Link a b → (w : Walk) × Runs a w b × (w ≢ [])
+  runs-step : (a b : ℕ) → Link a b → (w : Walk) × Runs rows In P a w b × (w ≢ [])
   runs-step a b (l, can, force, within) = (record { from = a; label = l; to = b } ∷ [], ((refl, refl), (can, force, tt), (within, tt)), cons≢nil)
 
-  chain-runs : {a b : ℕ} → Chain Link a b → (w : Walk) × Runs a w b × (w ≢ [])
+  chain-runs : {a b : ℕ} → Chain Link a b → (w : Walk) × Runs rows In P a w b × (w ≢ [])
   chain-runs {a} {b} (one e) = runs-step a b e
   chain-runs {a} {b} (more {b = k} c e) =
       let v = chain-runs c in
       let w = runs-step k b e in
-      (v .0 ++ w .0, runs-append a (v .0) k (w .0) b (v .1) (w .1), append-ne-nil-of-right-ne-nil (v .0) (w .2))
-
-  abbrev leg-of : (a b : ℕ) (w : Walk) → Runs a w b → w ≢ [] → Leg a b
-  leg-of a b w r n = (w, ((a, b, r .0), r .1), r .0, r .2, n)
+      (v .0 ++ w .0, runs-append rows In P a (v .0) k (w .0) b (v .1) (w .1), append-ne-nil-of-right-ne-nil (v .0) (w .2))
 
   pub chain-leg : (a b : ℕ) → Chain Link a b → Leg a b
-  chain-leg a b c = let w = chain-runs c in leg-of a b (w .0) (w .1) (w .2)
+  chain-leg a b c = let w = chain-runs c in leg-of rows In P a b (w .0) (w .1) (w .2)
 
-  first : (a : ℕ) (t : Step) (w : Walk) (b : ℕ) → Runs a (t ∷ w) b → Link a (t .to)
+  first : (a : ℕ) (t : Step) (w : Walk) (b : ℕ) → Runs rows In P a (t ∷ w) b → Link a (t .to)
   first a t w b r = subst (λ (x : ℕ). Link x (t .to)) (r .0 .0) (t .label, r .1 .0, r .1 .1, r .2 .0)
 
   then : (a k b : ℕ) → Link a k → (k ≡ b) ⊎ Chain Link k b → Chain Link a b
   then a k b e = ⊎-elim (λ q. subst (Chain Link a) q (one e)) (chain-append (one e))
 
-  pub rest-of : (a : ℕ) (w : Walk) (b : ℕ) → Runs a w b → (a ≡ b) ⊎ Chain Link a b
+  pub rest-of : (a : ℕ) (w : Walk) (b : ℕ) → Runs rows In P a w b → (a ≡ b) ⊎ Chain Link a b
   rest-of a [] b r = inl (r .0)
   rest-of a (t ∷ w) b r = inr (then a (t .to) b (first a t w b r) (rest-of (t .to) w b (r .0 .1, r .1 .2, r .2 .1)))
 
-  runs-chain : (a : ℕ) (w : Walk) (b : ℕ) → Runs a w b → w ≢ [] → Chain Link a b
+  runs-chain : (a : ℕ) (w : Walk) (b : ℕ) → Runs rows In P a w b → w ≢ [] → Chain Link a b
   runs-chain a [] b r n = absurd (n refl)
   runs-chain a (t ∷ w) b r n = then a (t .to) b (first a t w b r) (rest-of (t .to) w b (r .0 .1, r .1 .2, r .2 .1))
 
@@ -64,12 +51,12 @@ module _ (rows : List Row) (In : Claim → Type 0) (P : ℕ) where
   leg-chain a b t = runs-chain a (t .0) b (t .2, t .1 .1, t .3) (t .4)
 
   -- a walk cut at a state on it
-  cut : (s a : ℕ) (w : Walk) (b : ℕ) → Runs a w b → On s a w → (s ≡ a) ⊎ (Chain Link a s × ((s ≡ b) ⊎ Chain Link s b))
+  cut : (s a : ℕ) (w : Walk) (b : ℕ) → Runs rows In P a w b → On s a w → (s ≡ a) ⊎ (Chain Link a s × ((s ≡ b) ⊎ Chain Link s b))
   cut s a [] b r o = inl o
   cut s a (t ∷ w) b r (inl e) = inl e
   cut s a (t ∷ w) b r (inr o) =
       let e = first a t w b r in
-      let r′ : Runs (t .to) w b = (r .0 .1, r .1 .2, r .2 .1) in
+      let r′ : Runs rows In P (t .to) w b = (r .0 .1, r .1 .2, r .2 .1) in
       inr (⊎-elim
       (λ q. (then a (t .to) s e (inl (sym q)), subst (λ (x : ℕ). (x ≡ b) ⊎ Chain Link x b) (sym q) (rest-of (t .to) w b r′)))
       (λ k. (then a (t .to) s e (inr (k .0)), k .1)) (cut s (t .to) w b r′ o))
@@ -81,13 +68,13 @@ module _ (rows : List Row) (In : Claim → Type 0) (P : ℕ) where
   pub between-leg : (a b s : ℕ) → Between Link a b s → (t : Leg a b) × On s a (t .0)
   between-leg a b s (inl k) =
       let w = chain-runs (subst (λ (x : ℕ). Chain Link x b) (k .0) (k .1)) in
-      (leg-of a b (w .0) (w .1) (w .2), on-start s a (w .0) (k .0))
+      (leg-of rows In P a b (w .0) (w .1) (w .2), on-start s a (w .0) (k .0))
   between-leg a b s (inr (c, inl e)) =
       let w = chain-runs c in
-      (leg-of a b (w .0) (subst (Runs a (w .0)) e (w .1)) (w .2), on-end s a (w .0) (w .1 .0))
+      (leg-of rows In P a b (w .0) (subst (Runs rows In P a (w .0)) e (w .1)) (w .2), on-end s a (w .0) (w .1 .0))
   between-leg a b s (inr (c, inr d)) =
       let v = chain-runs c in
       let w = chain-runs d in (
-        leg-of a b (v .0 ++ w .0) (runs-append a (v .0) s (w .0) b (v .1) (w .1)) (append-ne-nil-of-right-ne-nil (v .0) (w .2)),
+        leg-of rows In P a b (v .0 ++ w .0) (runs-append rows In P a (v .0) s (w .0) b (v .1) (w .1)) (append-ne-nil-of-right-ne-nil (v .0) (w .2)),
         on-middle s a (v .0) (w .0) (v .1 .0),
       )

@@ -25,7 +25,7 @@ ghost use Rattle.search.specs.Graph.{graph-of, Indexed};
 ghost use Rattle.search.specs.Hops.{Lettered, Looping, Mixing, Claimed, Touched, Hop, Onward, Inner, InnerClaims};
 
 // The place `i` alone where `b` is true, else nothing.
-pub(crate) fn marked(b: bool, i: u8) -> Places
+pub fn marked(b: bool, i: u8) -> Places
     requires { ⌜ i < 64 ⌝ }
     ensures { λ r. ⌜ ((t : ℕ) → (t ∈ r) ↔ ((t ≡ i) × (b ≡ true))) ⌝ }
 {
@@ -48,7 +48,7 @@ fn inside(graph: &Masks, places: Places, p: Set) -> Places
 }
 
 // The claims about parts of `p`.
-pub(crate) fn inner(graph: &Masks, force: Claims, p: Set) -> Claims
+pub fn inner(graph: &Masks, force: Claims, p: Set) -> Claims
     ensures { λ r. ⌜ InnerClaims (graph-of (now (graph .entry))) force p r ⌝ }
 {
     let loops = inside(graph, force.loops, p);
@@ -57,7 +57,7 @@ pub(crate) fn inner(graph: &Masks, force: Claims, p: Set) -> Claims
 }
 
 // The states to which a letter leads from the states `m`.
-pub(crate) fn lettered(graph: &Masks, m: Set) -> Set
+pub fn lettered(graph: &Masks, m: Set) -> Set
     ensures { λ r. ⌜ Onward (Lettered (graph-of (now (graph .entry)))) m r ⌝ }
 {
     masks::targets(graph, m)

@@ -26,11 +26,11 @@ ghost use Rattle.lists.specs.Tests.{Decides};
 ghost use Rattle.masks.specs.Mask.{_⊆_};
 ghost use lib.ListN.{length};
 ghost use Rattle.search.specs.Graph.{graph-of, TurnedGraph, BothWays};
-ghost use Rattle.search.specs.Hops.{Hop, Ends, EndsBelow, Joined, Covered, Threaded};
+ghost use Rattle.search.specs.Hops.{Hop, Ends, EndsBelow, Joined, Covered, Threaded, WithNew};
 ghost use Rattle.search.specs.Promises.{AddsEnds, EndsAt, EndsBoth, OpensAt, OpensBelow};
 
 // Does a walk of one or more steps inside `p` lead from each state of `p` to each? `back` is the graph turned round.
-fn joined(graph: &Masks, back: &Masks, force: Claims, p: Set) -> bool
+pub fn joined(graph: &Masks, back: &Masks, force: Claims, p: Set) -> bool
     requires { ⌜ BothWays (now graph) (now back) ⌝ }
     ensures { λ r. ⌜ Decides r (Joined (Hop (graph-of (now (graph .entry))) force p) p) ⌝ }
 {
@@ -46,7 +46,7 @@ fn joined(graph: &Masks, back: &Masks, force: Claims, p: Set) -> bool
 
 // Does a walk of one or more steps inside `p` lead from a state of `m` to one of `n`, and is each state of `p` on such a walk or both
 // in `m` and in `n`?
-fn covered(graph: &Masks, back: &Masks, force: Claims, p: Set, m: Set, n: Set) -> bool
+pub fn covered(graph: &Masks, back: &Masks, force: Claims, p: Set, m: Set, n: Set) -> bool
     requires { ⌜ BothWays (now graph) (now back) ⌝ }
     ensures { λ r. ⌜ Decides r (Covered (Hop (graph-of (now (graph .entry))) force p) m n p) ⌝ }
 {
@@ -66,6 +66,16 @@ fn ends(graph: &Masks, force: Claims, p: Set) -> Set
 {
     let parts = inner(graph, force, p);
     targets(graph, parts, p, p)
+}
+
+// The claims in force, and new ones.
+pub fn with_new(force: Claims, new: Claims) -> Claims
+    ensures { λ r. ⌜ WithNew force new r ⌝ }
+{
+    Claims {
+        loops: union(force.loops, new.loops),
+        mixes: union(force.mixes, new.mixes),
+    }
 }
 
 // Writes for each of the `n` sets the ends of all steps inside it.

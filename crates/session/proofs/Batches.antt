@@ -5,7 +5,7 @@ use mathlib.Core.List.{List, []}
 use Rattle.rows.specs.declared.Row.{Row}
 use Rattle.rows.specs.Batch.{Turn, Fed, fed, failed, feed}
 use Rattle.machine.specs.declared.Answer.{Answer}
-use Rattle.machine.specs.declared.Answer.the-variants.{Done}
+use Rattle.machine.specs.declared.Answer.the-variants.{Done, Wrote, Decided, Refused}
 use Rattle.machine.specs.declared.Phase.{Phase}
 use Rattle.machine.specs.declared.Phase.the-variants.{Open}
 use Rattle.machine.specs.Machine.{Machine}
@@ -40,6 +40,13 @@ pub takes-done : (s : Session) (high low sets : List ℕ) (n k : ℕ) (slots : L
       rounds = s .rounds;
     }) a)
 takes-done s high low sets n k slots h e = rw e (λ rows t f. rw (h rows (t .fit) (f .0), f .0 .count, f .1 .sets-are, f .1 .count))
+
+-- the record as it was, where the batch is not done
+pub takes-kept : (s : Session) (Has : List Row → Type 0) (a : Answer) → (a ≡ Done → ⊥) → TakesTable s Has a (reply s a)
+takes-kept s Has Done d = absurd (d refl)
+takes-kept s Has (Wrote n) d = refl
+takes-kept s Has (Decided v) d = refl
+takes-kept s Has (Refused n place) d = refl
 
 -- what the batch comes to in the arrays, it comes to in the machine
 batch-keeps : {c : Call} {rule : Row → List Row → Turn (List Row)} {batch : List ℕ} → Feeds c rule batch → (s : Session) → HasState s IsOpen → (a : Answer) (Has Then : List Row → Type 0)

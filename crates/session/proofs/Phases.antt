@@ -1,26 +1,30 @@
--- Close, round and reopen: what the machine does, and what the session does.
+-- Close, round, reopen and verdict: what the machine does, and what the session does.
 use Prim.Native.Nat.{_<_}
 use mathlib.Core.Path.{_≡_, refl}
 use mathlib.Core.List.{[]}
 use lib.ListN.{replicate}
 use native.Mathlib.Omega.{arith}
-use Rattle.machine.specs.declared.Answer.the-variants.{Done}
+use Rattle.machine.specs.declared.Answer.the-variants.{Done, Decided}
+use Rattle.machine.specs.declared.Verdict.{Verdict}
 use Rattle.machine.specs.declared.Phase.the-variants.{Open}
 use Rattle.machine.specs.Machine.{closed, next-round, reopened}
-use Rattle.machine.specs.Calls.{close, round, reopen}
+use Rattle.machine.specs.Calls.{close, round, reopen, verdict, verdict-of, decide}
 use Rattle.machine.specs.Causes.{NotOpen}
+use Rattle.machine.proofs.Answers.{tells-decided}
+use Rattle.machine.proofs.Outcomes.{deciding}
 use Rattle.machine.proofs.Phases.{open-closes, running-rounds, not-open-reopens}
 use Rattle.automaton.specs.declared.Automaton.{Automaton}
 use Rattle.search.specs.Graph.{graph-of}
 use Rattle.rounds.specs.declared.Progress.{Progress}
 use Rattle.rounds.specs.Promises.{Closes, DoesRound}
+use Rattle.rising.specs.Promises.{Judges}
 use Rattle.session.specs.declared.Session.{Session}
 use Rattle.session.specs.declared.Reply.{Reply}
 use Rattle.session.specs.declared.State.the-variants.{Open as IsOpen, Running as IsRunning}
 use Rattle.session.specs.Promise.{Ranged, Promised, HasState}
 use Rattle.session.specs.Standing.{reply, rounds-in, with-rounds, Reads}
-use Rattle.session.proofs.Gate.{done-in}
-use Rattle.session.proofs.Rounded.{closed-record, reopened-record, round-record}
+use Rattle.session.proofs.Gate.{does-as, promised, done-in}
+use Rattle.session.proofs.Rounded.{given-of, closed-record, reopened-record, round-record}
 
 module _ (s : Session) (a : Automaton) (reads : Reads s a) (now : Progress) {r : Reply} (made : r ≡ reply (with-rounds s now) Done) where
   pub close-done : HasState s IsOpen → Closes (graph-of (a .graph)) (a .initials) (a .finals) now → Promised s close [] [] r
@@ -39,3 +43,8 @@ pub reopen-done : (s : Session) {r : Reply} → Ranged s → NotOpen (s .phase)
     → r ≡ reply (with-rounds s (record { «loop_rounds» = replicate 64 0; «mix_rounds» = replicate 64 0; phase = Open; rounds = 0 })) Done
     → Promised s reopen [] [] r
 reopen-done s g n made = done-in s reopened (g, refl) (λ m p e. not-open-reopens n m) (λ m p. reopened-record m s p) made
+
+pub decides-rows : (s : Session) → Ranged s → (a : Automaton) → Reads s a → (v : Verdict) → Judges (graph-of (a .graph)) (a .initials) (a .finals) (s .«set_count») v
+    → Promised s verdict [] [] (reply s (Decided v))
+decides-rows s ranged a reads v h = promised ranged refl
+    (λ m p. does-as m verdict (decide m) (deciding m) (p .whole) (rw (h (m .rows) (given-of m s p a reads)) (tells-decided (verdict-of (m .rows)) [])))

@@ -17,7 +17,7 @@ use Rattle.session.proofs.Whole.{sets-in-of}
 
 module _ (m : Machine) (s : Session) (p : Represents m s) where
   -- the masks of the machine's rows
-  given-of : (a : Automaton) → Reads s a → Given (m .rows) (graph-of (a .graph)) (a .initials) (a .finals) (s .«set_count»)
+  pub given-of : (a : Automaton) → Reads s a → Given (m .rows) (graph-of (a .graph)) (a .initials) (a .finals) (s .«set_count»)
   given-of a h = given-rows (p .formed .table) (sets-in-of m s p) (h m p)
 
   pub kept-of : Mirrors m (s .«loop_rounds») (s .«mix_rounds») (s .phase) (s .rounds)

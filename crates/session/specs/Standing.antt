@@ -6,7 +6,7 @@ use lib.ListN.{length, take}
 use Rattle.rows.specs.declared.Row.{Row}
 use Rattle.rows.specs.Rows.{AllFit, standing-sets}
 use Rattle.machine.specs.declared.Answer.{Answer}
-use Rattle.machine.specs.declared.Answer.the-variants.{Done, Wrote, Refused}
+use Rattle.machine.specs.declared.Answer.the-variants.{Done, Wrote, Decided, Refused}
 use Rattle.machine.specs.Machine.{Machine}
 use Rattle.machine.specs.WellFormed.{Table}
 use Rattle.row_table.specs.Arrays.{padded, Keyed}
@@ -69,6 +69,7 @@ Slotted highs lows n r = (rows : List Row) → AllFit rows → Keyed rows highs 
 abbrev pub TakesTable : Session → (List Row → Type 0) → Answer → Reply → Type 0
 TakesTable s Has Done r = (rows : List Row) → Table rows → Has rows → r ≡ reply (with-table s rows) Done
 TakesTable s Has (Wrote n) r = r ≡ reply s (Wrote n)
+TakesTable s Has (Decided v) r = r ≡ reply s (Decided v)
 TakesTable s Has (Refused n place) r = r ≡ reply s (Refused n place)
 
 -- the masks of the rows of the machine that the session represents

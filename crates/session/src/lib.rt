@@ -5,6 +5,7 @@ mod replies;
 mod running;
 mod saving;
 mod tables;
+mod verdicts;
 
 use machine::Answer;
 use machine::MOST_ROWS;

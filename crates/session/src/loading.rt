@@ -40,11 +40,7 @@ impl Session {
                 };
                 Reply { session, answer }
             }
-            Answer::Wrote(_) => Reply {
-                session: self,
-                answer,
-            },
-            Answer::Refused(_, _) => Reply {
+            Answer::Wrote(_) | Answer::Decided(_) | Answer::Refused(_, _) => Reply {
                 session: self,
                 answer,
             },

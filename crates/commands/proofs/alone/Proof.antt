@@ -35,10 +35,14 @@ unfolding words
 returns-7 c = simp (c .match .keys7)
 
 returns-8 : tie.Need-returns-8
+unfolding words
+returns-8 c = simp (c .match .keys8)
+
+returns-9 : tie.Need-returns-9
 unfolding words Past
-returns-8 c = ap command-of (sym (past-words words (c .before .args .place) (at-least 7 (c .before .args .place) (c .match .rest))))
+returns-9 c = ap command-of (sym (past-words words (c .before .args .place) (at-least 8 (c .before .args .place) (c .match .rest))))
 
 pub alone-spec : {M : Type 1} → statement M
 alone-spec =
     tie.close
-    (tie.spec returns returns-2 returns-3 returns-4 returns-5 returns-6 returns-7 returns-8)
+    (tie.spec returns returns-2 returns-3 returns-4 returns-5 returns-6 returns-7 returns-8 returns-9)

@@ -1,0 +1,5 @@
+-- The laws that the proofs of `rising` share.
+pub mod Sizes
+pub mod Visiting
+pub mod Gathering
+pub mod Levels

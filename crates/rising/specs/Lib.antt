@@ -1,0 +1,2 @@
+-- What a verdict by rising size promises.
+pub mod Promises
