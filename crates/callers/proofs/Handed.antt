@@ -1,5 +1,5 @@
 -- Callers: each call goes on a list of calls from a fresh session (`one-more`), and what holds at every call holds at it (`at-call`). The
--- lists: rounds until settled, and a print (`prints-after`); refusals (`refuses-first`); verdicts (`foretells`); save and load (`saves-again`,
+-- lists: rounds until settled, and a print (`prints-after`); refusals (`refuses-first`); verdicts (`judges-twice`); save and load (`saves-again`,
 -- `saves-short`).
 use Prim.Native.Nat.{ℕ, zero, suc, _+_, _≤_, _<_}
 use mathlib.Core.Path.{_≡_, refl, ap, sym, _∙_, subst}
@@ -36,7 +36,7 @@ use Rattle.session.proofs.Whole.{phase-of}
 use Rattle.demands.specs.Trace.{Exchange, Trace, given, Served, onward, plain-after, exchange}
 use Rattle.demands.specs.Demands.{EveryCall, Answered, PrintsTrue, SavesRows, ExactPrint}
 use Rattle.demands.specs.Requests.{OneRound, OneVerdict, Printed, SheetsGrow}
-use Rattle.callers.specs.Handed.{HandedBack, FirstCall, RoundsAfter, worked, PrintedAfter, reworked, AddedLate, RefusedFirst, foretold, VerdictFirst, SavedAgain}
+use Rattle.callers.specs.Handed.{HandedBack, FirstCall, RoundsAfter, worked, PrintedAfter, reworked, AddedLate, RefusedFirst, judged-and-worked, VerdictFirst, SavedAgain}
 use Rattle.demands.proofs.Reached.{Stands, told, step, fresh-is, reached}
 use Rattle.demands.proofs.Demand1.{demand-1}
 use Rattle.demands.proofs.Demand2.{demand-2}
@@ -317,20 +317,20 @@ rounds-no-batch zero = tt
 rounds-no-batch (suc k) = (tt, rounds-no-batch k)
 
 -- a verdict before the close changes nothing
-pub foretold-not-open : (batch : List ℕ) → NotOpen (run fresh (load batch ∷ verdict ∷ close ∷ []) .phase)
-foretold-not-open batch = subst (λ (x : Next). NotOpen (call (x .machine) close .machine .phase)) (sym (deciding (call fresh (load batch) .machine))) (closed-not-open batch)
+pub asked-not-open : (batch : List ℕ) → NotOpen (run fresh (load batch ∷ verdict ∷ close ∷ []) .phase)
+asked-not-open batch = subst (λ (x : Next). NotOpen (call (x .machine) close .machine .phase)) (sym (deciding (call fresh (load batch) .machine))) (closed-not-open batch)
 
 module _ (batch : List ℕ) (l v : Reply) (first : FirstCall (load batch) [] [] l) (k : Served (l .session) (exchange verdict [] [] v)) where
   loads : HandedBack (load batch ∷ []) (l .session)
   loads = first-handed (load batch) [] [] l first
 
-  pub foretold-handed : (c : Reply) → Served (v .session) (exchange close [] [] c) → HandedBack (load batch ∷ verdict ∷ close ∷ []) (c .session)
-  foretold-handed c d = one-more (load batch ∷ verdict ∷ []) (v .session) (one-more (load batch ∷ []) (l .session) loads (exchange verdict [] [] v) k) (exchange close [] [] c) d
+  pub asked-handed : (c : Reply) → Served (v .session) (exchange close [] [] c) → HandedBack (load batch ∷ verdict ∷ close ∷ []) (c .session)
+  asked-handed c d = one-more (load batch ∷ verdict ∷ []) (v .session) (one-more (load batch ∷ []) (l .session) loads (exchange verdict [] [] v) k) (exchange close [] [] c) d
 
-  pub foretells : (t : Session) (w : Reply) → RoundsAfter (load batch ∷ verdict ∷ close ∷ []) t → Served t (exchange verdict [] [] w)
+  pub judges-twice : (t : Session) (w : Reply) → RoundsAfter (load batch ∷ verdict ∷ close ∷ []) t → Served t (exchange verdict [] [] w)
       → VerdictFirst batch (record { first = v .answer; again = w })
-  foretells t w x d =
-      let cs = foretold batch (x .count) in
+  judges-twice t w x d =
+      let cs = judged-and-worked batch (x .count) in
       let a = verdict-at (load batch ∷ []) (l .session) loads v k in
       let b = verdict-at cs t (x .handed) w d in
       let phase : t .phase ≡ Settled (x .verdict) = phase-of (run fresh cs) t (handed-is cs t (x .handed)) ∙ x .settled in

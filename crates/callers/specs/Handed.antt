@@ -15,7 +15,7 @@ use Rattle.session.specs.declared.Reply.{Reply}
 use Rattle.session.specs.Record.{record-of}
 use Rattle.session.specs.Standing.{reply}
 use Rattle.callers.specs.declared.Added.{Added}
-use Rattle.callers.specs.declared.Foretold.{Foretold}
+use Rattle.callers.specs.declared.TwoVerdicts.{TwoVerdicts}
 use Rattle.callers.specs.declared.Refusals.{Refusals}
 use Rattle.demands.specs.Trace.{Exchange, Trace, given, Served, onward, exchange}
 use Rattle.demands.specs.Demands.{Answered, PrintsTrue, ExactPrint}
@@ -88,14 +88,14 @@ pub record RefusedFirst (batch old new : List ℕ) (r : Refusals) : Type 0 where
   pub load-answered : Answered fresh (record-of fresh) (exchange (load batch) [] [] (r .loaded))
 
 -- load, verdict, close and k rounds
-abbrev pub foretold : List ℕ → ℕ → List Call
-foretold batch k = load batch ∷ verdict ∷ close ∷ replicate k round
+abbrev pub judged-and-worked : List ℕ → ℕ → List Call
+judged-and-worked batch k = load batch ∷ verdict ∷ close ∷ replicate k round
 
 -- a verdict after a load, and one again after close and rounds: request C-22 at the two. Both are that with which the session is settled
-pub record VerdictFirst (batch : List ℕ) (r : Foretold) : Type 0 where
+pub record VerdictFirst (batch : List ℕ) (r : TwoVerdicts) : Type 0 where
   pub count : ℕ
   pub few : count ≤ 129
-  pub handed : HandedBack (foretold batch count ++ (verdict ∷ [])) (r .again .session)
+  pub handed : HandedBack (judged-and-worked batch count ++ (verdict ∷ [])) (r .again .session)
   pub settles-with : Verdict
   pub settled : r .again .session .phase ≡ Settled settles-with
   pub first : r .first ≡ Decided settles-with

@@ -19,7 +19,7 @@ pub struct Refusals {
 }
 
 // What the verdicts of `sequences::verdict_first` answered, and the session then.
-pub struct Foretold {
+pub struct TwoVerdicts {
     pub first: Answer,
     pub again: Reply,
 }

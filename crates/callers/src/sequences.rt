@@ -1,7 +1,7 @@
 // Lists of calls, made by a caller: what is promised are the demands at them.
 use crate::Added;
-use crate::Foretold;
 use crate::Refusals;
+use crate::TwoVerdicts;
 use crate::calls::call_close;
 use crate::calls::call_fresh;
 use crate::calls::call_load;
@@ -106,7 +106,7 @@ pub fn refused_first(batch: &[u8], buffer: &mut [u8]) -> Refusals
 }
 
 // Load, and the verdict while open; close, rounds until one is refused, and the verdict again.
-pub fn verdict_first(batch: &[u8]) -> Foretold
+pub fn verdict_first(batch: &[u8]) -> TwoVerdicts
     ensures { λ r. ⌜ VerdictFirst (now (batch .entry)) r ⌝ }
 {
     let l = loaded(batch);
@@ -115,7 +115,7 @@ pub fn verdict_first(batch: &[u8]) -> Foretold
     let c = call_close(v.session);
     let s = rounds_until(c.session);
     let again = call_verdict(s);
-    Foretold { first, again }
+    TwoVerdicts { first, again }
 }
 
 // Load, save, and what was saved loaded into a fresh session.

@@ -18,7 +18,7 @@ pub struct Written {
 }
 
 // What is asked of a batch: its sheet, or its verdict alone.
-pub enum Asked {
+enum Asked {
     Sheet,
     Verdict,
 }

@@ -1,2 +1,3 @@
--- The laws that the proofs of `ffi` share.
+-- The laws that the proofs of `ffi` share, and the codes computed.
 pub mod Calling
+pub mod Pins

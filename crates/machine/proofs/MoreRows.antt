@@ -20,12 +20,12 @@ use Rattle.orderings.proofs.Verdicts.{least-depth, least-depth-unique}
 use Rattle.orderings.proofs.MoreRows.{depths-grow, accepts-grows, least-grows}
 use Rattle.machine.specs.declared.Verdict.{Verdict}
 use Rattle.machine.specs.declared.Verdict.the-variants.{NonEmpty, Empty}
-use Rattle.machine.specs.Machine.{Opening, Machine, fresh, load-row, closed, next-round}
-use Rattle.machine.specs.Calls.{Call, load, withdraw, close, round, reopen, verdict, print, save, Outcome, done, wrote, decided, refused, call, run}
+use Rattle.machine.specs.Machine.{Opening, Machine, fresh, load-row}
+use Rattle.machine.specs.Calls.{Call, call, run}
 use Rattle.machine.specs.WellFormed.{WellFormed}
 use Rattle.machine.specs.Statements.{Listed, Number, said, SaysNoLess, NeverLess, MoreRows}
 use Rattle.machine.proofs.Tables.{load-sets}
-use Rattle.machine.proofs.Outcomes.{EachCall, Done, load-done, withdraw-done, close-done, round-done, reopen-done, Comes, comes}
+use Rattle.machine.proofs.Outcomes.{EachCall, OfBatch, RowsAfter, kept-rows, loaded-rows, withdrawn-rows, rows-after}
 use Rattle.machine.proofs.History.{fresh-formed}
 use Rattle.machine.proofs.Statements.{settled-number, settled-listed}
 
@@ -96,34 +96,18 @@ fed-grows rows rows′ l b n f = let o = feed-runs load-row rows rows′ l b .0 
 
 -- calls that withdraw nothing and strike nothing, with batches of bytes
 abbrev OnlyAdds : Call → Type 0
-OnlyAdds (load l) = Bytes l × StrikesNothing l
-OnlyAdds (withdraw l) = ⊥
-OnlyAdds close = Unit {0}
-OnlyAdds round = Unit {0}
-OnlyAdds reopen = Unit {0}
-OnlyAdds verdict = Unit {0}
-OnlyAdds (print size) = Unit {0}
-OnlyAdds (save size) = Unit {0}
+OnlyAdds c = OfBatch (λ l. Bytes l × StrikesNothing l) (λ l. ⊥) c
 
 abbrev pub EachOnlyAdds : List Call → Type 0
 EachOnlyAdds cs = EachCall OnlyAdds cs
 
 call-grows : (m : Machine) (c : Call) → OnlyAdds c → Grows (m .rows) (call m c .machine .rows)
-unfolding closed next-round
-call-grows m c n = by (call m c .answer) (call m c .machine) (comes m c (call m c .answer) refl)
+call-grows m c n = by (rows-after m c) n
   where
-    done-grows : {c : Call} {m′ : Machine} → Done m c m′ → OnlyAdds c → Grows (m .rows) (m′ .rows)
-    done-grows (load-done l rows e f) b = fed-grows (m .rows) rows l (b .0) (b .1) f
-    done-grows (withdraw-done l rows e f) b = absurd b
-    done-grows (close-done e) b = same-grows (m .rows)
-    done-grows (round-done e) b = same-grows (m .rows)
-    done-grows (reopen-done e) b = same-grows (m .rows)
-
-    by : (a : Outcome) (m′ : Machine) → Comes m c m′ a → Grows (m .rows) (m′ .rows)
-    by done m′ d = done-grows d n
-    by (wrote l) m′ k = rw (k .0) (same-grows (m .rows))
-    by (decided v) m′ k = rw (k .0) (same-grows (m .rows))
-    by (refused p place) m′ k = rw (k .0) (same-grows (m .rows))
+    by : {c : Call} {rows : List Row} → RowsAfter m c rows → OnlyAdds c → Grows (m .rows) rows
+    by (kept-rows c) n = same-grows (m .rows)
+    by (loaded-rows l rows f) n = fed-grows (m .rows) rows l (n .0) (n .1) f
+    by (withdrawn-rows l rows f) n = absurd n
 
 -- they take no row away and strike no state
 pub run-grows : (m : Machine) (cs : List Call) → EachOnlyAdds cs → Grows (m .rows) (run m cs .rows)

@@ -2,7 +2,7 @@
 -- writes or is refused keeps the machine (`writes-keep`, `refused-keeps`), and so does a verdict (`deciding`). A call
 -- that brings no batch keeps the rows (`rows-kept`).
 use Prim.Native.Nat.{ℕ, _≤_, _<_}
-use mathlib.Core.Path.{_≡_, refl, ap, _∙_, subst}
+use mathlib.Core.Path.{_≡_, refl, ap, _∙_, subst, sym}
 use mathlib.Core.Bool.{Bool, true, false, cond}
 use mathlib.Core.List.{List, [], _∷_}
 use lib.Dec.{ltb}
@@ -120,37 +120,54 @@ abbrev pub EachCall : (Call → Type 0) → List Call → Type 0
 EachCall P [] = Unit {0}
 EachCall P (c ∷ cs) = P c × EachCall P cs
 
--- calls that bring no batch
-abbrev NoBatch : Call → Type 0
-NoBatch (load l) = ⊥
-NoBatch (withdraw l) = ⊥
-NoBatch close = Unit {0}
-NoBatch round = Unit {0}
-NoBatch reopen = Unit {0}
-NoBatch verdict = Unit {0}
-NoBatch (print size) = Unit {0}
-NoBatch (save size) = Unit {0}
+-- a call whose batch, if it brings one, is so
+abbrev pub OfBatch : (List ℕ → Type 0) → (List ℕ → Type 0) → Call → Type 0
+OfBatch L W (load l) = L l
+OfBatch L W (withdraw l) = W l
+OfBatch L W close = Unit {0}
+OfBatch L W round = Unit {0}
+OfBatch L W reopen = Unit {0}
+OfBatch L W verdict = Unit {0}
+OfBatch L W (print size) = Unit {0}
+OfBatch L W (save size) = Unit {0}
 
-abbrev pub NoBatches : List Call → Type 0
-NoBatches cs = EachCall NoBatch cs
+-- the rows after a call: those before it, or what a batch makes of them
+pub data RowsAfter (m : Machine) : Call → List Row → Type 0 where
+  kept-rows : (c : Call) → RowsAfter m c (m .rows)
+  loaded-rows : (l : List ℕ) (rows : List Row) → feed load-row (m .rows) l ≡ fed rows → RowsAfter m (load l) rows
+  withdrawn-rows : (l : List ℕ) (rows : List Row) → feed withdraw-row (m .rows) l ≡ fed rows → RowsAfter m (withdraw l) rows
 
--- they keep the rows
-row-kept : (m : Machine) (c : Call) → NoBatch c → call m c .machine .rows ≡ m .rows
+pub rows-after : (m : Machine) (c : Call) → RowsAfter m c (call m c .machine .rows)
 unfolding closed next-round
-row-kept m c n = by (call m c .answer) (call m c .machine) (comes m c (call m c .answer) refl)
+rows-after m c = by (call m c .answer) (call m c .machine) (comes m c (call m c .answer) refl)
   where
-    done-kept : {c : Call} {m′ : Machine} → Done m c m′ → NoBatch c → m′ .rows ≡ m .rows
-    done-kept (load-done l rows e f) b = absurd b
-    done-kept (withdraw-done l rows e f) b = absurd b
-    done-kept (close-done e) b = refl
-    done-kept (round-done e) b = refl
-    done-kept (reopen-done e) b = refl
+    done-rows : {c : Call} {m′ : Machine} → Done m c m′ → RowsAfter m c (m′ .rows)
+    done-rows (load-done l rows e f) = loaded-rows l rows f
+    done-rows (withdraw-done l rows e f) = withdrawn-rows l rows f
+    done-rows (close-done e) = kept-rows close
+    done-rows (round-done e) = kept-rows round
+    done-rows (reopen-done e) = kept-rows reopen
 
-    by : (a : Outcome) (m′ : Machine) → Comes m c m′ a → m′ .rows ≡ m .rows
-    by done m′ d = done-kept d n
-    by (wrote l) m′ k = ap (λ (x : Machine). x .rows) (k .0)
-    by (decided v) m′ k = ap (λ (x : Machine). x .rows) (k .0)
-    by (refused p place) m′ k = ap (λ (x : Machine). x .rows) (k .0)
+    same : (m′ : Machine) → m′ ≡ m → RowsAfter m c (m′ .rows)
+    same m′ e = subst (λ (x : Machine). RowsAfter m c (x .rows)) (sym e) (kept-rows c)
+
+    by : (a : Outcome) (m′ : Machine) → Comes m c m′ a → RowsAfter m c (m′ .rows)
+    by done m′ d = done-rows d
+    by (wrote l) m′ k = same m′ (k .0)
+    by (decided v) m′ k = same m′ (k .0)
+    by (refused p place) m′ k = same m′ (k .0)
+
+-- calls that bring no batch keep the rows
+abbrev pub NoBatches : List Call → Type 0
+NoBatches cs = EachCall (OfBatch (λ l. ⊥) (λ l. ⊥)) cs
+
+row-kept : (m : Machine) (c : Call) → OfBatch (λ l. ⊥) (λ l. ⊥) c → call m c .machine .rows ≡ m .rows
+row-kept m c n = by (rows-after m c) n
+  where
+    by : {c : Call} {rows : List Row} → RowsAfter m c rows → OfBatch (λ l. ⊥) (λ l. ⊥) c → rows ≡ m .rows
+    by (kept-rows c) n = refl
+    by (loaded-rows l rows f) n = absurd n
+    by (withdrawn-rows l rows f) n = absurd n
 
 pub rows-kept : (m : Machine) (cs : List Call) → NoBatches cs → run m cs .rows ≡ m .rows
 rows-kept m [] n = refl

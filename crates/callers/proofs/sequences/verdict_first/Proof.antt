@@ -1,7 +1,7 @@
 -- `verdict_first` meets its contract.
 use mathlib.Core.List.{[], _∷_}
 use Rattle.machine.specs.Calls.{load, close, verdict}
-use Rattle.callers.proofs.Handed.{foretold-not-open, foretold-handed, foretells}
+use Rattle.callers.proofs.Handed.{asked-not-open, asked-handed, judges-twice}
 use borrow.Author.Needs.{needs}
 use Rattle.callers.proofs.sequences.verdict_first.Statement.{statement}
 use Rattle.callers.proofs.sequences.verdict_first.Tie as tie
@@ -13,9 +13,9 @@ returns c =
     let v = d .before in
     let l = v .before in
     let b = l .before .before .args .batch .now in
-    let h = foretold-handed b (l .loaded .result) (v .call-verdict .result) (l .loaded .ensures) (v .call-verdict .ensures) (d .call-close .result) (d .call-close .ensures) in
-    foretells b (l .loaded .result) (v .call-verdict .result) (l .loaded .ensures) (v .call-verdict .ensures) (t .rounds-until .result) (c .call-verdict2 .result)
-    (t .rounds-until .ensures (load b ∷ verdict ∷ close ∷ []) h (foretold-not-open b)) (c .call-verdict2 .ensures)
+    let h = asked-handed b (l .loaded .result) (v .call-verdict .result) (l .loaded .ensures) (v .call-verdict .ensures) (d .call-close .result) (d .call-close .ensures) in
+    judges-twice b (l .loaded .result) (v .call-verdict .result) (l .loaded .ensures) (v .call-verdict .ensures) (t .rounds-until .result) (c .call-verdict2 .result)
+    (t .rounds-until .ensures (load b ∷ verdict ∷ close ∷ []) h (asked-not-open b)) (c .call-verdict2 .ensures)
 
 pub verdict-first-spec : {M : Type 1} → statement M
 verdict-first-spec =
