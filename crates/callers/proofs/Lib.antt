@@ -1,2 +1,3 @@
 -- What calls from a fresh session handed back, one call after another.
 pub mod Handed
+pub mod Variants

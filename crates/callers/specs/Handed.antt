@@ -7,95 +7,98 @@ use Rattle.orderings.specs.MoreRows.{StrikesNothing}
 use Rattle.machine.specs.declared.Answer.the-variants.{Done, Wrote, Decided, Refused}
 use Rattle.machine.specs.declared.Verdict.{Verdict}
 use Rattle.machine.specs.declared.Phase.the-variants.{Settled}
-use Rattle.machine.specs.Machine.{fresh, open-with}
-use Rattle.machine.specs.Calls.{Call, load, close, round, reopen, verdict, print, run, saved}
+use Rattle.machine.specs.Machine.{open-with}
+use Rattle.machine.specs.Calls.{load, close, round, reopen, verdict, print, saved}
 use Rattle.machine.specs.Causes.{NotOpen}
+use Rattle.machine.specs.Marks.{unmarked, fresh-marked, MarkedCall, on, mark, return-to}
+use Rattle.machine.specs.Statements.{after-calls}
 use Rattle.session.specs.declared.Session.{Session}
 use Rattle.session.specs.declared.Reply.{Reply}
 use Rattle.session.specs.Record.{record-of}
-use Rattle.session.specs.Standing.{reply}
+use Rattle.session.specs.Standing.{reply, with-marks}
 use Rattle.callers.specs.declared.Added.{Added}
 use Rattle.callers.specs.declared.TwoVerdicts.{TwoVerdicts}
 use Rattle.callers.specs.declared.Refusals.{Refusals}
+use Rattle.callers.specs.declared.Tried.{Tried}
 use Rattle.demands.specs.Trace.{Exchange, Trace, given, Served, onward, exchange}
 use Rattle.demands.specs.Demands.{Answered, PrintsTrue, ExactPrint}
 use Rattle.demands.specs.Requests.{OneRound, SheetsGrow}
 
 -- the session is what calls from a fresh one handed back
-pub record HandedBack (cs : List Call) (s : Session) : Type 0 where
-  pub exchanges : List (Exchange Call Reply)
+pub record HandedBack (cs : List MarkedCall) (s : Session) : Type 0 where
+  pub exchanges : List (Exchange MarkedCall Reply)
   pub asked-are : map (λ e. e .asked) exchanges ≡ cs
-  pub trace : Trace onward Served (record-of fresh) exchanges
-  pub last : given onward (record-of fresh) exchanges ≡ s
+  pub trace : Trace onward Served (record-of fresh-marked) exchanges
+  pub last : given onward (record-of fresh-marked) exchanges ≡ s
 
 -- the first call, on a fresh session
-abbrev pub FirstCall : Call → List ℕ → List ℕ → Reply → Type 0
-FirstCall c old new r = Served (record-of fresh) (exchange c old new r)
+abbrev pub FirstCall : MarkedCall → List ℕ → List ℕ → Reply → Type 0
+FirstCall c old new r = Served (record-of fresh-marked) (exchange c old new r)
 
 -- a round after any calls: request C-14 at it
 abbrev pub RoundsOn : Session → Reply → Type 0
-RoundsOn s r = (cs : List Call) → HandedBack cs s → OneRound (run fresh cs) s (exchange round [] [] r)
+RoundsOn s r = (cs : List MarkedCall) → HandedBack cs s → OneRound (after-calls cs) s (exchange (on round) [] [] r)
 
 -- rounds after calls, 129 at most, until the plain machine is settled
-pub record RoundsAfter (cs : List Call) (s : Session) : Type 0 where
+pub record RoundsAfter (cs : List MarkedCall) (s : Session) : Type 0 where
   pub count : ℕ
   pub few : count ≤ 129
-  pub handed : HandedBack (cs ++ replicate count round) s
+  pub handed : HandedBack (cs ++ replicate count (on round)) s
   pub verdict : Verdict
-  pub settled : run fresh (cs ++ replicate count round) .phase ≡ Settled verdict
+  pub settled : after-calls (cs ++ replicate count (on round)) .phase ≡ Settled verdict
 
 abbrev pub DoesRounds : Session → Session → Type 0
-DoesRounds s r = (cs : List Call) → HandedBack cs s → NotOpen (run fresh cs .phase) → RoundsAfter cs r
+DoesRounds s r = (cs : List MarkedCall) → HandedBack cs s → NotOpen (after-calls cs .phase) → RoundsAfter cs r
 
 -- load, close and k rounds
-abbrev pub worked : List ℕ → ℕ → List Call
-worked batch k = load batch ∷ close ∷ replicate k round
+abbrev pub worked : List ℕ → ℕ → List MarkedCall
+worked batch k = on (load batch) ∷ on close ∷ replicate k (on round)
 
 -- a print after load, close and rounds: demands 2 and 3 at it
 pub record PrintedAfter (batch old new : List ℕ) (r : Reply) : Type 0 where
   pub count : ℕ
   pub few : count ≤ 129
-  pub handed : HandedBack (worked batch count ++ (print (length old) ∷ [])) (r .session)
+  pub handed : HandedBack (worked batch count ++ (on (print (length old)) ∷ [])) (r .session)
   pub verdict : Verdict
-  pub settled : run fresh (worked batch count) .phase ≡ Settled verdict
-  pub true-sheet : PrintsTrue (run fresh (worked batch count)) old new (r .answer)
-  pub exact : ExactPrint (run fresh (worked batch count)) old new (r .answer)
+  pub settled : after-calls (worked batch count) .phase ≡ Settled verdict
+  pub true-sheet : PrintsTrue (after-calls (worked batch count)) old new (r .answer)
+  pub exact : ExactPrint (after-calls (worked batch count)) old new (r .answer)
 
 -- a print, then reopen, load, close and k rounds
-abbrev pub reworked : ℕ → List ℕ → ℕ → List Call
-reworked size batch k = print size ∷ reopen ∷ load batch ∷ close ∷ replicate k round
+abbrev pub reworked : ℕ → List ℕ → ℕ → List MarkedCall
+reworked size batch k = on (print size) ∷ on reopen ∷ on (load batch) ∷ on close ∷ replicate k (on round)
 
 -- a print after any calls, rows added late, and a print again: request C-15 at the two prints, where the rows are of kinds 1 to 5
-pub record AddedLate (cs : List Call) (batch old new old′ new′ : List ℕ) (r : Added) : Type 0 where
+pub record AddedLate (cs : List MarkedCall) (batch old new old′ new′ : List ℕ) (r : Added) : Type 0 where
   pub count : ℕ
   pub few : count ≤ 129
-  pub handed : HandedBack (cs ++ (reworked (length old) batch count ++ (print (length old′) ∷ []))) (r .again .session)
+  pub handed : HandedBack (cs ++ (reworked (length old) batch count ++ (on (print (length old′)) ∷ []))) (r .again .session)
   pub verdict : Verdict
-  pub settled : run fresh (cs ++ reworked (length old) batch count) .phase ≡ Settled verdict
+  pub settled : after-calls (cs ++ reworked (length old) batch count) .phase ≡ Settled verdict
   pub sheets : StrikesNothing batch → (n n′ : ℕ) → r .printed ≡ Wrote n → r .again .answer ≡ Wrote n′ → SheetsGrow (take n new) (take n′ new′)
 
 abbrev pub AddsLate : Session → List ℕ → List ℕ → List ℕ → List ℕ → List ℕ → Added → Type 0
-AddsLate s batch old new old′ new′ r = (cs : List Call) → HandedBack cs s → AddedLate cs batch old new old′ new′ r
+AddsLate s batch old new old′ new′ r = (cs : List MarkedCall) → HandedBack cs s → AddedLate cs batch old new old′ new′ r
 
 -- print and round on a fresh session, and then a load: demand 1 at each. The first two are refused, and change nothing
 pub record RefusedFirst (batch old new : List ℕ) (r : Refusals) : Type 0 where
-  pub handed : HandedBack (print (length old) ∷ round ∷ load batch ∷ []) (r .loaded .session)
+  pub handed : HandedBack (on (print (length old)) ∷ on round ∷ on (load batch) ∷ []) (r .loaded .session)
   pub printed : r .printed ≡ Refused 9 0
   pub unchanged : new ≡ old
-  pub print-answered : Answered fresh (record-of fresh) (exchange (print (length old)) old new (reply (record-of fresh) (r .printed)))
+  pub print-answered : Answered fresh-marked (record-of fresh-marked) (exchange (on (print (length old))) old new (reply (record-of fresh-marked) (r .printed)))
   pub rounded : r .rounded ≡ Refused 9 0
-  pub round-answered : Answered fresh (record-of fresh) (exchange round [] [] (reply (record-of fresh) (r .rounded)))
-  pub load-answered : Answered fresh (record-of fresh) (exchange (load batch) [] [] (r .loaded))
+  pub round-answered : Answered fresh-marked (record-of fresh-marked) (exchange (on round) [] [] (reply (record-of fresh-marked) (r .rounded)))
+  pub load-answered : Answered fresh-marked (record-of fresh-marked) (exchange (on (load batch)) [] [] (r .loaded))
 
 -- load, verdict, close and k rounds
-abbrev pub judged-and-worked : List ℕ → ℕ → List Call
-judged-and-worked batch k = load batch ∷ verdict ∷ close ∷ replicate k round
+abbrev pub judged-and-worked : List ℕ → ℕ → List MarkedCall
+judged-and-worked batch k = on (load batch) ∷ on verdict ∷ on close ∷ replicate k (on round)
 
 -- a verdict after a load, and one again after close and rounds: request C-22 at the two. Both are that with which the session is settled
 pub record VerdictFirst (batch : List ℕ) (r : TwoVerdicts) : Type 0 where
   pub count : ℕ
   pub few : count ≤ 129
-  pub handed : HandedBack (judged-and-worked batch count ++ (verdict ∷ [])) (r .again .session)
+  pub handed : HandedBack (judged-and-worked batch count ++ (on verdict ∷ [])) (r .again .session)
   pub settles-with : Verdict
   pub settled : r .again .session .phase ≡ Settled settles-with
   pub first : r .first ≡ Decided settles-with
@@ -104,8 +107,17 @@ pub record VerdictFirst (batch : List ℕ) (r : TwoVerdicts) : Type 0 where
 -- a batch is loaded into a fresh session, its rows are saved, and what was saved is loaded into another fresh session: demand 2 at the save
 pub record SavedAgain (batch old new : List ℕ) (r : Reply) : Type 0 where
   -- the buffer begins with the rows; loaded, they are accepted, and the same rows stand
-  pub again : length (saved (run fresh (load batch ∷ []))) ≤ length old
-      → (take (length (saved (run fresh (load batch ∷ [])))) new ≡ saved (run fresh (load batch ∷ [])))
-      × (r .answer ≡ Done) × (r .session ≡ record-of (open-with (run fresh (load batch ∷ []) .rows)))
+  pub again : length (saved (after-calls (on (load batch) ∷ []))) ≤ length old
+      → (take (length (saved (after-calls (on (load batch) ∷ [])))) new ≡ saved (after-calls (on (load batch) ∷ [])))
+      × (r .answer ≡ Done) × (r .session ≡ record-of (unmarked (open-with (after-calls (on (load batch) ∷ []) .rows))))
   -- a buffer too short for them is refused, and stays as it was
-  pub short : length old < length (saved (run fresh (load batch ∷ []))) → (r .answer ≡ Refused 12 0) × (new ≡ old)
+  pub short : length old < length (saved (after-calls (on (load batch) ∷ []))) → (r .answer ≡ Refused 12 0) × (new ≡ old)
+
+-- after any calls a mark, a load that is disliked, and a return: request C-11 at them
+pub record TriedVariant (cs : List MarkedCall) (s : Session) (name batch : List ℕ) (r : Tried) : Type 0 where
+  pub handed : HandedBack (cs ++ (mark name ∷ on (load batch) ∷ return-to name ∷ [])) (r .back .session)
+  -- where the mark was done, the return is, and all but the marks is as it was at the mark
+  pub back : r .marked ≡ Done → (r .back .answer ≡ Done) × (r .back .session ≡ with-marks (r .back .session) s)
+
+abbrev pub TriesVariant : Session → List ℕ → List ℕ → Tried → Type 0
+TriesVariant s name batch r = (cs : List MarkedCall) → HandedBack cs s → TriedVariant cs s name batch r

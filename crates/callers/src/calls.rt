@@ -4,6 +4,7 @@ use session::Session;
 ghost use lib.ListN.{length};
 ghost use mathlib.Core.List.{[]};
 ghost use Rattle.machine.specs.Calls.{load, withdraw, close, round, reopen, verdict, print, save};
+ghost use Rattle.machine.specs.Marks.{on, mark, return-to};
 ghost use Rattle.session.specs.Promise.{Fresh};
 ghost use Rattle.demands.specs.Trace.{Served, exchange};
 
@@ -14,51 +15,63 @@ pub fn call_fresh() -> Session
 }
 
 pub fn call_load(s: Session, batch: &[u8]) -> Reply
-    ensures { λ r. ⌜ Served s (exchange (load (now (batch .entry))) [] [] r) ⌝ }
+    ensures { λ r. ⌜ Served s (exchange (on (load (now (batch .entry)))) [] [] r) ⌝ }
 {
     s.load(batch)
 }
 
 pub fn call_withdraw(s: Session, batch: &[u8]) -> Reply
-    ensures { λ r. ⌜ Served s (exchange (withdraw (now (batch .entry))) [] [] r) ⌝ }
+    ensures { λ r. ⌜ Served s (exchange (on (withdraw (now (batch .entry)))) [] [] r) ⌝ }
 {
     s.withdraw(batch)
 }
 
 pub fn call_close(s: Session) -> Reply
-    ensures { λ r. ⌜ Served s (exchange close [] [] r) ⌝ }
+    ensures { λ r. ⌜ Served s (exchange (on close) [] [] r) ⌝ }
 {
     s.close()
 }
 
 pub fn call_round(s: Session) -> Reply
-    ensures { λ r. ⌜ Served s (exchange round [] [] r) ⌝ }
+    ensures { λ r. ⌜ Served s (exchange (on round) [] [] r) ⌝ }
 {
     s.round()
 }
 
 pub fn call_reopen(s: Session) -> Reply
-    ensures { λ r. ⌜ Served s (exchange reopen [] [] r) ⌝ }
+    ensures { λ r. ⌜ Served s (exchange (on reopen) [] [] r) ⌝ }
 {
     s.reopen()
 }
 
 pub fn call_verdict(s: Session) -> Reply
-    ensures { λ r. ⌜ Served s (exchange verdict [] [] r) ⌝ }
+    ensures { λ r. ⌜ Served s (exchange (on verdict) [] [] r) ⌝ }
 {
     s.verdict()
 }
 
 pub fn call_print(s: Session, buffer: &mut [u8]) -> Reply
-    ensures { λ r. ⌜ Served s (exchange (print (length (now (buffer .entry))))
+    ensures { λ r. ⌜ Served s (exchange (on (print (length (now (buffer .entry)))))
         (now (buffer .entry)) (now (buffer .exit)) r) ⌝ }
 {
     s.print(buffer)
 }
 
 pub fn call_save(s: Session, buffer: &mut [u8]) -> Reply
-    ensures { λ r. ⌜ Served s (exchange (save (length (now (buffer .entry))))
+    ensures { λ r. ⌜ Served s (exchange (on (save (length (now (buffer .entry)))))
         (now (buffer .entry)) (now (buffer .exit)) r) ⌝ }
 {
     s.save(buffer)
+}
+
+pub fn call_mark(s: Session, name: &[u8]) -> Reply
+    ensures { λ r. ⌜ Served s (exchange (mark (now (name .entry))) [] [] r) ⌝ }
+{
+    s.mark(name)
+}
+
+pub fn call_return(s: Session, name: &[u8]) -> Reply
+    ensures { λ r. ⌜ Served s (exchange (return-to (now (name .entry))) [] [] r) ⌝ }
+{
+    s.return_to(name)
 }

@@ -18,6 +18,12 @@ pub struct Refusals {
     pub loaded: Reply,
 }
 
+// What the mark of `sequences::try_variant` answered, and what its return came to.
+pub struct Tried {
+    pub marked: Answer,
+    pub back: Reply,
+}
+
 // What the verdicts of `sequences::verdict_first` answered, and the session then.
 pub struct TwoVerdicts {
     pub first: Answer,

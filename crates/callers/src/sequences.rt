@@ -1,12 +1,15 @@
 // Lists of calls, made by a caller: what is promised are the demands at them.
 use crate::Added;
 use crate::Refusals;
+use crate::Tried;
 use crate::TwoVerdicts;
 use crate::calls::call_close;
 use crate::calls::call_fresh;
 use crate::calls::call_load;
+use crate::calls::call_mark;
 use crate::calls::call_print;
 use crate::calls::call_reopen;
+use crate::calls::call_return;
 use crate::calls::call_round;
 use crate::calls::call_save;
 use crate::calls::call_verdict;
@@ -16,12 +19,13 @@ use session::Reply;
 use session::Session;
 ghost use mathlib.Core.List.{[], _∷_};
 ghost use Rattle.machine.specs.Calls.{load, close};
+ghost use Rattle.machine.specs.Marks.{on};
 ghost use Rattle.callers.specs.Handed.{HandedBack, FirstCall, RoundsOn, DoesRounds};
-ghost use Rattle.callers.specs.Handed.{PrintedAfter, AddsLate, RefusedFirst, VerdictFirst, SavedAgain};
+ghost use Rattle.callers.specs.Handed.{PrintedAfter, AddsLate, RefusedFirst, VerdictFirst, SavedAgain, TriesVariant};
 
 // Load into a fresh session.
 fn loaded(batch: &[u8]) -> Reply
-    ensures { λ r. ⌜ FirstCall (load (now (batch .entry))) [] [] r ⌝ }
+    ensures { λ r. ⌜ FirstCall (on (load (now (batch .entry)))) [] [] r ⌝ }
 {
     let s = call_fresh();
     call_load(s, batch)
@@ -29,7 +33,7 @@ fn loaded(batch: &[u8]) -> Reply
 
 // Load and close.
 fn closed(batch: &[u8]) -> Reply
-    ensures { λ r. ⌜ HandedBack (load (now (batch .entry)) ∷ close ∷ []) (r .session) ⌝ }
+    ensures { λ r. ⌜ HandedBack (on (load (now (batch .entry))) ∷ on close ∷ []) (r .session) ⌝ }
 {
     let r = loaded(batch);
     call_close(r.session)
@@ -131,4 +135,15 @@ pub fn save_again(batch: &[u8], buffer: &mut [u8]) -> Reply
         Answer::Decided(_) => kept,
         Answer::Refused(_, _) => kept,
     }
+}
+
+// A mark, rows that are loaded and then disliked, and a return.
+pub fn try_variant(session: Session, name: &[u8], batch: &[u8]) -> Tried
+    ensures { λ r. ⌜ TriesVariant session (now (name .entry)) (now (batch .entry)) r ⌝ }
+{
+    let m = call_mark(session, name);
+    let marked = m.answer;
+    let l = call_load(m.session, batch);
+    let back = call_return(l.session, name);
+    Tried { marked, back }
 }

@@ -17,11 +17,12 @@ use types.Run.{OneOf, miss}
 use denote.Enum.Declared.{tagOf}
 use Rattle.commands.specs.declared.Change.{Change}
 use Rattle.commands.specs.declared.Report.{Report}
+use Rattle.commands.specs.declared.Naming.{Naming}
 use Rattle.commands.specs.declared.Command.{Command}
 use Rattle.commands.proofs.Command.{the-type}
-use Rattle.commands.specs.declared.Command.the-variants.{Changes, Reports, Moves, Nothing, BadHex, TooLong, Unknown}
+use Rattle.commands.specs.declared.Command.the-variants.{Changes, Reports, Moves, Names, Nothing, BadHex, TooLong, Unknown}
 use Rattle.commands.specs.declared.Found.{Found}
-use Rattle.commands.specs.Meaning.{Meaning, change, report, move, nothing, bad-hex, too-long, unknown, Word, says, words, batch, lends, with-text, starts, behind, called}
+use Rattle.commands.specs.Meaning.{Meaning, change, report, move, named, nothing, bad-hex, too-long, unknown, Word, says, words, batch, lends, with-name, with-text, starts, behind, called}
 use Rattle.commands.specs.Table.{table, alone-at, command-of, ends, further, seek}
 use Rattle.commands.specs.Promise.{Means, Asks, TellsWord, Extends}
 use Rattle.commands.proofs.Texts.{nothing-held}
@@ -162,12 +163,14 @@ past-words [] k h = refl
 past-words (says w m ∷ ws) zero h = absurd (omega arith)
 past-words (says w m ∷ ws) (suc k) h = past-words ws k (omega arith)
 
--- a word alone brings no bytes, and no buffer longer than 6,400
+-- a word alone brings no bytes and no name, and no buffer longer than 6,400
 sound : Meaning → Bool
 sound (change call []) = true
 sound (change call (x ∷ l)) = false
 sound (report call n) = leb n 6400
 sound (move call) = true
+sound (named call []) = true
+sound (named call (x ∷ l)) = false
 sound nothing = true
 sound bad-hex = true
 sound too-long = true
@@ -179,6 +182,8 @@ asks-sound (change call []) e buffer = (nothing-held buffer, refl)
 asks-sound (change call (x ∷ l)) e buffer = never e
 asks-sound (report call n) e buffer = (leb-true n 6400 e, refl)
 asks-sound (move call) e buffer = refl
+asks-sound (named call []) e buffer = (nothing-held buffer, refl)
+asks-sound (named call (x ∷ l)) e buffer = never e
 asks-sound nothing e buffer = refl
 asks-sound bad-hex e buffer = refl
 asks-sound too-long e buffer = refl
@@ -223,10 +228,15 @@ module _ (meant : Meaning) (room : ℕ) (text : List ℕ) where
       → Means (lends call text) buffer answer → Means (with-text meant room text) buffer answer
   extends-report word call n buffer answer e a p = rw (subst (λ x. Asks meant x) e a [] .1) p
 
-  pub extends-other : (word : Command) → OneOf (2 ∷ 3 ∷ 4 ∷ 5 ∷ 6 ∷ []) (tagOf the-type word) → Asks meant word → with-text meant room text ≡ unknown
-  extends-other (Changes call n) k a = absurd (miss (2 ∷ 3 ∷ 4 ∷ 5 ∷ 6 ∷ []) 0 tt k)
-  extends-other (Reports call n) k a = absurd (miss (2 ∷ 3 ∷ 4 ∷ 5 ∷ 6 ∷ []) 1 tt k)
+  pub extends-name : (word : Command) (call : Naming) (n : ℕ) (buffer : List ℕ) (answer : Command) → word ≡ Names call n → Asks meant word
+      → Means (with-name call room text) buffer answer → Means (with-text meant room text) buffer answer
+  extends-name word call n buffer answer e a p = rw (subst (λ x. Asks meant x) e a [] .1) p
+
+  pub extends-other : (word : Command) → OneOf (2 ∷ 4 ∷ 5 ∷ 6 ∷ 7 ∷ []) (tagOf the-type word) → Asks meant word → with-text meant room text ≡ unknown
+  extends-other (Changes call n) k a = absurd (miss (2 ∷ 4 ∷ 5 ∷ 6 ∷ 7 ∷ []) 0 tt k)
+  extends-other (Reports call n) k a = absurd (miss (2 ∷ 4 ∷ 5 ∷ 6 ∷ 7 ∷ []) 1 tt k)
   extends-other (Moves call) k a = rw (a [])
+  extends-other (Names call n) k a = absurd (miss (2 ∷ 4 ∷ 5 ∷ 6 ∷ 7 ∷ []) 3 tt k)
   extends-other Nothing k a = rw (a [])
   extends-other BadHex k a = rw (a [])
   extends-other TooLong k a = rw (a [])

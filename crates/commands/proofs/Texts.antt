@@ -1,17 +1,19 @@
--- Lines and texts: lines passed over (`passed-empty`, `passed-first`), and what a text after a word means (`batch-bytes`, `lent-number`).
+-- Lines and texts: lines passed over (`passed-empty`, `passed-first`), and what a text after a word means (`batch-bytes`, `lent-number`, `name-held`).
 use Prim.Native.Nat.{ℕ, _+_, _/_, _%_, _-_, _<_, _≤_}
-use mathlib.Core.Path.{_≡_, refl, sym}
+use mathlib.Core.Path.{_≡_, refl, ap, sym, _∙_}
 use mathlib.Core.Bool.{true, false}
 use mathlib.Core.List.{List, [], _∷_}
 use lib.Dec.{eqb}
-use lib.ListN.{length, getD, take, drop, length-drop}
-use lib.Seq.{take-all, length-take-le}
+use lib.ListN.{length, getD, take, drop, length-append, length-drop}
+use lib.Seq.{take-all, take-at, length-take-le}
 use native.Mathlib.Omega.{arith}
 use borrow.Author.Tests.{eq-eqb, ne-eqb, le-leb, lt-leb}
+use Rattle.lists.specs.Writing.{Wrote}
 use Rattle.commands.specs.declared.Change.{Change}
 use Rattle.commands.specs.declared.Report.{Report}
+use Rattle.commands.specs.declared.Naming.{Naming}
 use Rattle.commands.specs.Digits.{digits, pairs, bytes, number-from, at-most}
-use Rattle.commands.specs.Meaning.{change, report, unknown, bad-hex, too-long, passed-over, batch, lends}
+use Rattle.commands.specs.Meaning.{change, report, named, unknown, bad-hex, too-long, passed-over, batch, lends, with-name}
 use Rattle.commands.specs.Promise.{FitsIn}
 
 pub passed-empty : (l : List ℕ) → length l ≡ 0 → passed-over l ≡ true
@@ -59,8 +61,19 @@ unfolding lends
 lent-number call [] h e = absurd (omega arith)
 lent-number call (c ∷ l) h e = simp e
 
+pub name-long : (call : Naming) (room : ℕ) (l : List ℕ) → room < length l → with-name call room l ≡ too-long
+unfolding with-name
+name-long call room l h = simp (lt-leb (length l) room h)
+
 pub nothing-held : (buffer : List ℕ) → FitsIn 0 buffer
 nothing-held buffer = record { fits = omega arith; counted = refl }
 
 pub held : (n : ℕ) (buffer : List ℕ) → n ≤ length buffer → FitsIn n buffer
 held n buffer h = record { fits = h; counted = sym (length-take-le n buffer h) }
+
+-- a name that was put at the start of the buffer
+pub name-held : (call : Naming) (l old new : List ℕ) (n : ℕ) → length l ≤ length old → Wrote l old new n → FitsIn n new × (with-name call (length old) l ≡ named call (take n new))
+unfolding with-name
+name-held call l old new n h w =
+    let e : take n new ≡ l = ap (take n) (w .bytes-are) ∙ take-at l (drop (length l) old) n (sym (w .length-is)) in
+    (held n new (omega (arith, simp length-append at (ap length (w .bytes-are)))), rw (le-leb (length l) (length old) h, e))

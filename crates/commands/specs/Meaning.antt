@@ -11,14 +11,17 @@ use Rattle.commands.specs.declared.Report.{Report}
 use Rattle.commands.specs.declared.Report.the-variants.{Print, Save}
 use Rattle.commands.specs.declared.Move.{Move}
 use Rattle.commands.specs.declared.Move.the-variants.{Close, Round, Reopen, Verdict}
+use Rattle.commands.specs.declared.Naming.{Naming}
+use Rattle.commands.specs.declared.Naming.the-variants.{Mark, Return}
 use Rattle.commands.specs.Digits.{digits, pairs, bytes, number-from, at-most}
 
--- a call with its batch, with the length of the buffer that it is lent, or with neither; a line that is passed over; hex digits that
--- are none or not in pairs; a batch for which there is no room; any other line
+-- a call with its batch, with the length of the buffer that it is lent, with neither, or with its name; a line that is passed over; hex
+-- digits that are none or not in pairs; a batch or a name for which there is no room; any other line
 pub data Meaning : Type 0 where
   change : Change → List ℕ → Meaning
   report : Report → ℕ → Meaning
   move : Move → Meaning
+  named : Naming → List ℕ → Meaning
   nothing : Meaning
   bad-hex : Meaning
   too-long : Meaning
@@ -38,6 +41,8 @@ words =
     ∷ says (text "round") (move Round)
     ∷ says (text "reopen") (move Reopen)
     ∷ says (text "verdict") (move Verdict)
+    ∷ says (text "mark") (named Mark [])
+    ∷ says (text "return") (named Return [])
     ∷ []
 
 -- an empty line and a comment
@@ -54,11 +59,16 @@ unfoldable pub lends : Report → List ℕ → Meaning
 lends call [] = unknown
 lends call (c ∷ l) = cond (digits 10 (c ∷ l)) (report call (at-most (number-from 0 (c ∷ l)))) unknown
 
--- the word with a text: a batch or a length, where the call takes one
+-- the call with the text as the name, any bytes, where the batch has room for them
+unfoldable pub with-name : Naming → ℕ → List ℕ → Meaning
+with-name call room l = cond (leb (length l) room) (named call l) too-long
+
+-- the word with a text: a batch, a length or a name, where the call takes one
 abbrev pub with-text : Meaning → ℕ → List ℕ → Meaning
 with-text (change call l) room t = batch call room t
 with-text (report call n) room t = lends call t
 with-text (move call) room t = unknown
+with-text (named call l) room t = with-name call room t
 with-text nothing room t = unknown
 with-text bad-hex room t = unknown
 with-text too-long room t = unknown

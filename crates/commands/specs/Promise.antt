@@ -1,13 +1,13 @@
--- What parsing promises: the command is the meaning, and the batch is in the buffer.
+-- What parsing promises: the command is the meaning, and the batch or the name is in the buffer.
 use Prim.Native.Nat.{ℕ, _+_, _≤_, _<_}
 use mathlib.Core.Path.{_≡_}
 use mathlib.Core.List.{List}
 use lib.ListN.{length, take, drop}
 use Rattle.commands.specs.declared.Command.{Command}
-use Rattle.commands.specs.declared.Command.the-variants.{Changes, Reports, Moves, Nothing, BadHex, TooLong, Unknown}
+use Rattle.commands.specs.declared.Command.the-variants.{Changes, Reports, Moves, Names, Nothing, BadHex, TooLong, Unknown}
 use Rattle.commands.specs.declared.Found.{Found}
 use Rattle.commands.specs.Digits.{encoded}
-use Rattle.commands.specs.Meaning.{Meaning, change, report, move, nothing, bad-hex, too-long, unknown, words, with-text, behind, called}
+use Rattle.commands.specs.Meaning.{Meaning, change, report, move, named, nothing, bad-hex, too-long, unknown, words, with-text, behind, called}
 use Rattle.commands.specs.Table.{alone-at}
 
 -- the first n bytes lie within the buffer, which is said twice, as a caller that lends them is asked both
@@ -15,11 +15,12 @@ pub record FitsIn (n : ℕ) (buffer : List ℕ) : Type 0 where
   pub fits : n ≤ length buffer
   pub counted : n ≡ length (take n buffer)
 
--- for a batch its bytes stand at the start of the buffer
+-- for a batch or a name its bytes stand at the start of the buffer
 abbrev pub Means : Meaning → List ℕ → Command → Type 0
 Means meant buffer (Changes call n) = FitsIn n buffer × (meant ≡ change call (take n buffer))
 Means meant buffer (Reports call n) = (n ≤ 6400) × (meant ≡ report call n)
 Means meant buffer (Moves call) = meant ≡ move call
+Means meant buffer (Names call n) = FitsIn n buffer × (meant ≡ named call (take n buffer))
 Means meant buffer Nothing = meant ≡ nothing
 Means meant buffer BadHex = meant ≡ bad-hex
 Means meant buffer TooLong = meant ≡ too-long

@@ -5,9 +5,9 @@ use mathlib.Core.List.{List, [], _∷_, _++_}
 use lib.ListN.{length, getD}
 use lib.Dec.{eqb, ltb}
 use Rattle.commands.specs.declared.Command.{Command}
-use Rattle.commands.specs.declared.Command.the-variants.{Changes, Reports, Moves, Nothing, BadHex, TooLong, Unknown}
+use Rattle.commands.specs.declared.Command.the-variants.{Changes, Reports, Moves, Names, Nothing, BadHex, TooLong, Unknown}
 use Rattle.commands.specs.declared.Found.{Found}
-use Rattle.commands.specs.Meaning.{Meaning, change, report, move, nothing, bad-hex, too-long, unknown, Word, says}
+use Rattle.commands.specs.Meaning.{Meaning, change, report, move, named, nothing, bad-hex, too-long, unknown, Word, says}
 
 -- the words, each on a line of its own
 unfoldable pub table : List Word → List ℕ
@@ -25,6 +25,7 @@ abbrev pub command-of : Meaning → Command
 command-of (change call l) = Changes call 0
 command-of (report call n) = Reports call n
 command-of (move call) = Moves call
+command-of (named call l) = Names call 0
 command-of nothing = Nothing
 command-of bad-hex = BadHex
 command-of too-long = TooLong

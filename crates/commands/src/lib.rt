@@ -31,12 +31,19 @@ pub enum Move {
     Verdict,
 }
 
-// What a line asks for: a call with the count of bytes at the start of the batch, with the length of the buffer that it lends, or
-// with neither; or none.
+// The calls that a name comes with.
+pub enum Naming {
+    Mark,
+    Return,
+}
+
+// What a line asks for: a call with the count of bytes at the start of the batch (of a name too, which is put there), with the length
+// of the buffer that it lends, or with neither; or none.
 pub enum Command {
     Changes(Change, usize),
     Reports(Report, usize),
     Moves(Move),
+    Names(Naming, usize),
     Nothing,
     BadHex,
     TooLong,
@@ -174,6 +181,16 @@ fn with_length(call: Report, text: &[u8]) -> Command
     Command::Reports(call, number(text))
 }
 
+// The call with a name, which is put to the start of the batch.
+fn with_name(call: Naming, text: &[u8], batch: &mut [u8]) -> Command
+    ensures { λ r. ⌜ Means (m.with-name call (length (now (batch .entry))) (now (text .entry))) (now (batch .exit)) r ⌝ }
+{
+    if text.len() > batch.len() {
+        return Command::TooLong;
+    }
+    Command::Names(call, texts::put_text(batch, text))
+}
+
 // Is the line empty or a comment?
 fn is_passed_over(line: &[u8]) -> bool
     ensures { λ r. ⌜ r ≡ passed-over (now (line .entry)) ⌝ }
@@ -239,7 +256,7 @@ fn find(line: &[u8]) -> Found
 {
     seek(
         line,
-        b"load\nwithdraw\nprint\nsave\nclose\nround\nreopen\nverdict\n",
+        b"load\nwithdraw\nprint\nsave\nclose\nround\nreopen\nverdict\nmark\nreturn\n",
     )
 }
 
@@ -256,6 +273,8 @@ fn alone(place: usize) -> Command
         5 => Command::Moves(Move::Round),
         6 => Command::Moves(Move::Reopen),
         7 => Command::Moves(Move::Verdict),
+        8 => Command::Names(Naming::Mark, 0),
+        9 => Command::Names(Naming::Return, 0),
         _ => Command::Unknown,
     }
 }
@@ -267,6 +286,7 @@ fn with_text(word: Command, text: &[u8], batch: &mut [u8]) -> Command
     match word {
         Command::Changes(call, _) => with_batch(call, text, batch),
         Command::Reports(call, _) => with_length(call, text),
+        Command::Names(call, _) => with_name(call, text, batch),
         _ => Command::Unknown,
     }
 }
@@ -292,7 +312,7 @@ fn called(line: &[u8], batch: &mut [u8]) -> Command
     with_text(word, rest(line, end + 1), batch)
 }
 
-// The command of a line. A batch that the line brings is decoded to the start of `batch`.
+// The command of a line. A batch that the line brings is decoded to the start of `batch`, a name is put there.
 pub fn parse(line: &[u8], batch: &mut [u8]) -> Command
     ensures { λ r. ⌜ Means (meaning (length (now (batch .entry))) (now (line .entry))) (now (batch .exit)) r ⌝ }
 {

@@ -23,6 +23,7 @@ use Rattle.machine.specs.Machine.{Machine, fresh, open-with, open-claims}
 use Rattle.machine.specs.Order.{Found, Candidate}
 use Rattle.machine.specs.Sheet.{verdict-line, opening-line, walk-lines, sheet}
 use Rattle.machine.specs.Calls.{load, print, save, Outcome, wrote, returned, Next, accept, saved, call, buffer-after, Tells}
+use Rattle.machine.specs.Marks.{unmarked, fresh-marked, marked-call}
 use Rattle.machine.specs.WellFormed.{Worked, Made, WellFormed}
 use Rattle.machine.specs.Statements.{Number}
 use Rattle.machine.proofs.Answers.{answer-of, answer-by, wrote-by, text-by}
@@ -83,12 +84,13 @@ module _ (m : Machine) (w : WellFormed m) where
       (h .0, written o old new (l .0) (sheet (h .0) m) n (t .buffer-is) (l .1) (l .2) k, true-sheet (h .0) (h .1))
 
   saves-rows : (old new : List ℕ) (a : Answer) → Tells (call m (save (length old)) .answer) old new a → SavesRows m old new a
+  unfolding marked-call
   saves-rows old new a t n e = (
     bytes,
     λ s r f k.
         let q : call fresh (load (take n new)) ≡ accept (open-with (m .rows)) = ap (λ (x : List ℕ). call fresh (load x)) bytes ∙ loads-back m (w .table) in
-        let d = k fresh (fresh-is s f) in
-        (answer-by (d .tells) ∙ ap (λ (x : Next). answer-of (x .answer)) q, d .session-is ∙ ap (λ (x : Next). record-of (x .machine)) q),
+        let d = k fresh-marked (fresh-is s f) in
+        (answer-by (d .tells) ∙ ap (λ (x : Next). answer-of (x .answer)) q, d .session-is ∙ ap (λ (x : Next). record-of (unmarked (x .machine))) q),
   )
     where
       bytes : take n new ≡ saved m
@@ -97,7 +99,7 @@ module _ (m : Machine) (w : WellFormed m) where
 pub demand-2 : Demand2
 demand-2 = record {
   prints = λ s f es t before later e i size j. let h = reached s f es t before later e i in
-      prints-true (plain-after before) (h .record-is .formed) (e .old) (e .new) (e .reply .answer) (told h print (λ n. refl) size j);
+      prints-true (plain-after before .now) (h .record-is .formed .now-formed) (e .old) (e .new) (e .reply .answer) (told h print (λ n. refl) size j);
   saves = λ s f es t before later e i size j. let h = reached s f es t before later e i in
-      saves-rows (plain-after before) (h .record-is .formed) (e .old) (e .new) (e .reply .answer) (told h save (λ n. refl) size j);
+      saves-rows (plain-after before .now) (h .record-is .formed .now-formed) (e .old) (e .new) (e .reply .answer) (told h save (λ n. refl) size j);
 }

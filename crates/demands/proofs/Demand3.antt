@@ -11,6 +11,7 @@ use Rattle.machine.specs.Machine.{Machine}
 use Rattle.machine.specs.Sheet.{sheet}
 use Rattle.machine.specs.Calls.{verdict, print, Outcome, done, wrote, decided, refused, call, second, buffer-after}
 use Rattle.machine.specs.WellFormed.{WellFormed}
+use Rattle.machine.specs.Marks.{Marked, marked-call}
 use Rattle.machine.proofs.Answers.{answer-of, answer-by}
 use Rattle.machine.proofs.Second.{second-works}
 use Rattle.machine.proofs.Outcomes.{Done, comes}
@@ -62,12 +63,15 @@ module _ (m : Machine) (w : WellFormed m) where
       }
 
 -- the record has the machine's phase and count
-counted : (m : Machine) (s : Session) → Represents m s → Counted m s
-counted m s h v e = let f : m .phase ≡ Settled v = sym (phase-of m s h) ∙ e in let n = settled-number m (h .formed) v f in (f, rw (rounds-count m s h) (n .0), rw (rounds-count m s h) (n .1))
+counted : (x : Marked) (s : Session) → Represents x s → Counted (x .now) s
+counted x s h v e =
+    let f : x .now .phase ≡ Settled v = sym (phase-of x s h) ∙ e in
+    let n = settled-number (x .now) (h .formed .now-formed) v f in
+    (f, rw (rounds-count x s h) (n .0), rw (rounds-count x s h) (n .1))
 
 pub demand-3 : Demand3
 demand-3 = record {
-  prints = λ s f es t before later e i size j. let m = plain-after before in let h = reached s f es t before later e i in let k = told h print (λ n. refl) size j in
-      at-print m (h .record-is .formed) (e .old) (e .new) (call m (print (length (e .old))) .answer) (e .reply .answer) refl (answer-by k) (k .buffer-is);
-  counts = λ s f es t before later e i. counted (call (plain-after before) (e .asked) .machine) (e .reply .session) (step (reached s f es t before later e i));
+  prints = λ s f es t before later e i size j. let m = plain-after before .now in let h = reached s f es t before later e i in let k = told h print (λ n. refl) size j in
+      at-print m (h .record-is .formed .now-formed) (e .old) (e .new) (call m (print (length (e .old))) .answer) (e .reply .answer) refl (answer-by k) (k .buffer-is);
+  counts = λ s f es t before later e i. counted (marked-call (plain-after before) (e .asked) .machine) (e .reply .session) (step (reached s f es t before later e i));
 }

@@ -19,8 +19,8 @@ use Rattle.machine.specs.Machine.{Machine, open-with, open-claims}
 use Rattle.machine.specs.Order.{Found, Best}
 use Rattle.machine.specs.Search.{shortest}
 use Rattle.machine.specs.Sheet.{verdict-line, opening-line, walk-lines, sheet}
-use Rattle.machine.specs.Calls.{Call, load, print, save, wrote, returned, due, call, second}
-use Rattle.machine.specs.Causes.{Cause}
+use Rattle.machine.specs.Calls.{load, print, save, wrote, returned, due, call, second}
+use Rattle.machine.specs.Marks.{Marked, unmarked, MarkedCall, on, marked-call, MarkedCause}
 use Rattle.machine.specs.Statements.{Listed, Number, SecondWorks}
 use Rattle.session.specs.declared.Session.{Session}
 use Rattle.session.specs.declared.Reply.{Reply}
@@ -30,18 +30,18 @@ use Rattle.demands.specs.Trace.{Exchange, Trace, given, Buffered, Served
 
 -- a call at its place among calls from a fresh session: what holds of the plain machine that was fed the calls before it, and of the
 -- session that was handed to it
-abbrev pub EveryCall : (Machine → Session → Exchange Call Reply → Type 0) → Type 0
+abbrev pub EveryCall : (Marked → Session → Exchange MarkedCall Reply → Type 0) → Type 0
 EveryCall Then =
-    (s : Session) → Fresh s → (es : List (Exchange Call Reply)) → Trace onward Served s es
-    → (before later : List (Exchange Call Reply)) (e : Exchange Call Reply) → es ≡ before ++ (e ∷ later)
+    (s : Session) → Fresh s → (es : List (Exchange MarkedCall Reply)) → Trace onward Served s es
+    → (before later : List (Exchange MarkedCall Reply)) (e : Exchange MarkedCall Reply) → es ≡ before ++ (e ∷ later)
     → Then (plain-after before) (given onward s before) e
 
--- a call on the session s, where the plain machine that was fed the calls before it is m
-pub record Answered (m : Machine) (s : Session) (e : Exchange Call Reply) : Type 0 where
+-- a call on the session s, where the plain machine that was fed the calls before it is x
+pub record Answered (x : Marked) (s : Session) (e : Exchange MarkedCall Reply) : Type 0 where
   -- the call gets a result: the number and values that are due for what the plain machine comes to
-  pub result : returned (e .reply .answer) ≡ due (call m (e .asked) .answer)
-  -- refused with a number and at a place exactly where document 01's table has that cause
-  pub refused : (n place : ℕ) → (e .reply .answer ≡ Refused n place) ↔ Cause m (e .asked) n place
+  pub result : returned (e .reply .answer) ≡ due (marked-call x (e .asked) .answer)
+  -- refused with a number and at a place exactly where the table, document 01's with the numbers of request C-11, has that cause
+  pub refused : (n place : ℕ) → (e .reply .answer ≡ Refused n place) ↔ MarkedCause x (e .asked) n place
   -- a refusal hands the session back unchanged, and changes no byte of a buffer
   pub unchanged : (n place : ℕ) → e .reply .answer ≡ Refused n place → (e .reply .session ≡ s) × (e .new ≡ e .old)
   -- whatever came of it, the buffer is the one that the call names
@@ -76,11 +76,11 @@ PrintsTrue m old new a = (n : ℕ) → a ≡ Wrote n → (v : Verdict) × (new �
 abbrev pub SavesRows : Machine → List ℕ → List ℕ → Answer → Type 0
 SavesRows m old new a = (n : ℕ) → a ≡ Wrote n
     → (take n new ≡ batch-of (sort-by row-bytes (m .rows)))
-    × ((t : Session) (r : Reply) → Fresh t → Keeps t (load (take n new)) [] [] r → (r .answer ≡ Done) × (r .session ≡ record-of (open-with (m .rows))))
+    × ((t : Session) (r : Reply) → Fresh t → Keeps t (on (load (take n new))) [] [] r → (r .answer ≡ Done) × (r .session ≡ record-of (unmarked (open-with (m .rows)))))
 
 pub record Demand2 : Type 0 where
-  pub prints : EveryCall (λ m s e. (size : ℕ) → e .asked ≡ print size → PrintsTrue m (e .old) (e .new) (e .reply .answer))
-  pub saves : EveryCall (λ m s e. (size : ℕ) → e .asked ≡ save size → SavesRows m (e .old) (e .new) (e .reply .answer))
+  pub prints : EveryCall (λ x s e. (size : ℕ) → e .asked ≡ on (print size) → PrintsTrue (x .now) (e .old) (e .new) (e .reply .answer))
+  pub saves : EveryCall (λ x s e. (size : ℕ) → e .asked ≡ on (save size) → SavesRows (x .now) (e .old) (e .new) (e .reply .answer))
 
 -- a print, where the plain machine that was fed the calls before it is m; the second machine loads the standing rows sorted, closes and
 -- does rounds until settled
@@ -106,6 +106,6 @@ abbrev pub Counted : Machine → Session → Type 0
 Counted m s = (v : Verdict) → s .phase ≡ Settled v → (m .phase ≡ Settled v) × Number (m .rows) v (s .rounds) × (s .rounds ≤ 129)
 
 pub record Demand3 : Type 0 where
-  pub prints : EveryCall (λ m s e. (size : ℕ) → e .asked ≡ print size → ExactPrint m (e .old) (e .new) (e .reply .answer))
+  pub prints : EveryCall (λ x s e. (size : ℕ) → e .asked ≡ on (print size) → ExactPrint (x .now) (e .old) (e .new) (e .reply .answer))
   -- of every session that a call hands back
-  pub counts : EveryCall (λ m s e. Counted (call m (e .asked) .machine) (e .reply .session))
+  pub counts : EveryCall (λ x s e. Counted (marked-call x (e .asked) .machine .now) (e .reply .session))

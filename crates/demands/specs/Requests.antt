@@ -1,9 +1,10 @@
 -- What the requests for changes ask of every list of calls from a fresh session.
 use Prim.Native.Nat.{ℕ, suc, _≤_}
 use mathlib.Core.Path.{_≡_}
-use mathlib.Core.Logic.{_↔_}
-use mathlib.Core.List.{List}
+use mathlib.Core.Logic.{_↔_, _≢_}
+use mathlib.Core.List.{List, [], _∷_, _++_, map}
 use lib.ListN.{take}
+use Rattle.lists.specs.Tests.{_among_}
 use Rattle.orderings.specs.MoreRows.{Grows, KeepsDepths}
 use Rattle.orderings.specs.Systems.{Accepts}
 use Rattle.orderings.specs.Timelines.{timelines}
@@ -12,27 +13,30 @@ use Rattle.machine.specs.declared.Verdict.{Verdict}
 use Rattle.machine.specs.declared.Verdict.the-variants.{NonEmpty}
 use Rattle.machine.specs.declared.Phase.the-variants.{Running, Settled}
 use Rattle.machine.specs.Machine.{Machine}
-use Rattle.machine.specs.Calls.{Call, round, verdict, print, second}
+use Rattle.machine.specs.Calls.{round, verdict, print, second}
+use Rattle.machine.specs.Marks.{MarkedCall, on, mark, return-to}
 use Rattle.machine.specs.Statements.{RoundsEnd, Said, SaysNoLess, SheetSays, SecondWorks}
 use Rattle.session.specs.declared.Session.{Session}
 use Rattle.session.specs.declared.Reply.{Reply}
-use Rattle.demands.specs.Trace.{Exchange}
+use Rattle.session.specs.Promise.{Fresh}
+use Rattle.session.specs.Standing.{with-marks}
+use Rattle.demands.specs.Trace.{Exchange, Trace, given, Served, onward, plain-after}
 use Rattle.demands.specs.Demands.{EveryCall}
 
 -- C-14, at a round on the session s, where the plain machine that was fed the calls before it is m
-pub record OneRound (m : Machine) (s : Session) (e : Exchange Call Reply) : Type 0 where
+pub record OneRound (m : Machine) (s : Session) (e : Exchange MarkedCall Reply) : Type 0 where
   -- it is done exactly when the machine runs: nothing refuses a running one
   pub accepted : (e .reply .answer ≡ Done) ↔ (m .phase ≡ Running)
   -- then it is one more than s has done, and never the 130th
   pub counted : e .reply .answer ≡ Done → (e .reply .session .rounds ≡ suc (s .rounds)) × (e .reply .session .rounds ≤ 129)
 
 pub record Request14 : Type 0 where
-  pub rounds : EveryCall (λ m s e. e .asked ≡ round → OneRound m s e)
+  pub rounds : EveryCall (λ x s e. e .asked ≡ on round → OneRound (x .now) s e)
   -- whatever the call, on the way to it every round but the last opened something, and the session that it hands back has done at most 129
-  pub ends : EveryCall (λ m s e. RoundsEnd m × (e .reply .session .rounds ≤ 129))
+  pub ends : EveryCall (λ x s e. RoundsEnd (x .now) × (e .reply .session .rounds ≤ 129))
 
 -- C-22, at a verdict on the session s, where the plain machine that was fed the calls before it is m
-pub record OneVerdict (m : Machine) (s : Session) (e : Exchange Call Reply) : Type 0 where
+pub record OneVerdict (m : Machine) (s : Session) (e : Exchange MarkedCall Reply) : Type 0 where
   -- it is never refused, and hands back the session as it was
   pub answers : (v : Verdict) × (e .reply .answer ≡ Decided v)
   pub kept : e .reply .session ≡ s
@@ -45,12 +49,12 @@ pub record OneVerdict (m : Machine) (s : Session) (e : Exchange Call Reply) : Ty
   pub meaning : (e .reply .answer ≡ Decided NonEmpty) ↔ Accepts (timelines (m .rows))
 
 abbrev pub Request22 : Type 0
-Request22 = EveryCall (λ m s e. e .asked ≡ verdict → OneVerdict m s e)
+Request22 = EveryCall (λ x s e. e .asked ≡ on verdict → OneVerdict (x .now) s e)
 
 -- an accepted print, and the bytes that it wrote
-pub record Printed (e : Exchange Call Reply) (l : List ℕ) : Type 0 where
+pub record Printed (e : Exchange MarkedCall Reply) (l : List ℕ) : Type 0 where
   pub size : ℕ
-  pub asked-is : e .asked ≡ print size
+  pub asked-is : e .asked ≡ on (print size)
   pub count : ℕ
   pub answer-is : e .reply .answer ≡ Wrote count
   pub bytes-are : take count (e .new) ≡ l
@@ -63,5 +67,37 @@ pub record SheetsGrow (l l′ : List ℕ) : Type 0 where
 
 -- at two calls, in two lists of calls, where the rows of the one plain machine stand in the other, which strikes no more states
 pub record Request15 : Type 0 where
-  pub claims : EveryCall (λ m s e. EveryCall (λ m′ s′ e′. Grows (m .rows) (m′ .rows) → KeepsDepths (m .rows) (m′ .rows)))
-  pub sheets : EveryCall (λ m s e. EveryCall (λ m′ s′ e′. Grows (m .rows) (m′ .rows) → (l l′ : List ℕ) → Printed e l → Printed e′ l′ → SheetsGrow l l′))
+  pub claims : EveryCall (λ x s e. EveryCall (λ x′ s′ e′. Grows (x .now .rows) (x′ .now .rows) → KeepsDepths (x .now .rows) (x′ .now .rows)))
+  pub sheets : EveryCall (λ x s e. EveryCall (λ x′ s′ e′. Grows (x .now .rows) (x′ .now .rows) → (l l′ : List ℕ) → Printed e l → Printed e′ l′ → SheetsGrow l l′))
+
+-- ---- C-11
+
+-- among calls from a fresh session, a mark under a name that was accepted, and later a return to the name; between them none marks under it
+pub record ReturnLater (s : Session) (es : List (Exchange MarkedCall Reply)) : Type 0 where
+  pub name : List ℕ
+  pub before : List (Exchange MarkedCall Reply)
+  pub marking : Exchange MarkedCall Reply
+  pub between : List (Exchange MarkedCall Reply)
+  pub returning : Exchange MarkedCall Reply
+  pub later : List (Exchange MarkedCall Reply)
+  pub calls-are : es ≡ before ++ (marking ∷ (between ++ (returning ∷ later)))
+  pub marks : marking .asked ≡ mark name
+  pub accepted : marking .reply .answer ≡ Done
+  pub none-marks : ¬ (mark name among map (λ e. e .asked) between)
+  pub returns : returning .asked ≡ return-to name
+
+-- the return is accepted, and all that was marked is back: rows, phase, verdict, round count and openings with their rounds; the marks stay
+pub record BackAgain (s : Session) {es : List (Exchange MarkedCall Reply)} (r : ReturnLater s es) : Type 0 where
+  pub accepted : r .returning .reply .answer ≡ Done
+  pub back : r .returning .reply .session ≡ with-marks (given onward s (r .before ++ (r .marking ∷ r .between))) (given onward s (r .before))
+  -- so is the plain machine
+  pub plain-back : plain-after (r .before ++ (r .marking ∷ (r .between ++ (r .returning ∷ [])))) .now ≡ plain-after (r .before) .now
+  -- a return right after the mark hands back the session that the mark handed back
+  pub same : r .between ≡ [] → r .returning .reply .session ≡ r .marking .reply .session
+
+pub record Request11 : Type 0 where
+  pub back : (s : Session) → Fresh s → (es : List (Exchange MarkedCall Reply)) → Trace onward Served s es → (r : ReturnLater s es) → BackAgain s r
+  -- all calls but a mark keep the marks
+  pub kept : EveryCall (λ x s e. ((name : List ℕ) → e .asked ≢ mark name) → e .reply .session .marks ≡ s .marks)
+  -- whatever marks and returns led to them, a sheet depends on the rows then standing alone
+  pub sheets : EveryCall (λ x s e. EveryCall (λ x′ s′ e′. x .now .rows ≡ x′ .now .rows → (l l′ : List ℕ) → Printed e l → Printed e′ l′ → l ≡ l′))

@@ -3,7 +3,7 @@ use Prim.Native.Nat.{ℕ}
 use mathlib.Core.Path.{_≡_}
 use mathlib.Core.List.{List, [], _∷_, map}
 use lib.ListN.{length}
-use Rattle.machine.specs.Calls.{Call, Brings}
+use Rattle.machine.specs.Marks.{MarkedCall, MarkedBrings}
 use Rattle.session.specs.declared.Session.{Session}
 use Rattle.session.specs.declared.Reply.{Reply}
 use Rattle.session.specs.Promise.{Fresh}
@@ -11,22 +11,22 @@ use Rattle.demands.specs.Trace.{Exchange, Trace, lent, Served, onward}
 
 -- what a caller has before a call: what it asks, and its buffer
 abbrev pub Ask : Type 0
-Ask = Call × List ℕ
+Ask = MarkedCall × List ℕ
 
-abbrev pub asks : List (Exchange Call Reply) → List Ask
+abbrev pub asks : List (Exchange MarkedCall Reply) → List Ask
 asks es = map (λ e. (e .asked, e .old)) es
 
 -- batches hold bytes, and each buffer has the length that its call names
 abbrev pub Proper : List Ask → Type 0
 Proper [] = Unit {0}
-Proper (a ∷ l) = Brings (a .0) × (length (a .1) ≡ lent (a .0)) × Proper l
+Proper (a ∷ l) = MarkedBrings (a .0) × (length (a .1) ≡ lent (a .0)) × Proper l
 
 -- the one trace from the session s with these calls and buffers
 pub record OneTrace (s : Session) (l : List Ask) : Type 0 where
-  pub exchanges : List (Exchange Call Reply)
+  pub exchanges : List (Exchange MarkedCall Reply)
   pub asked-are : asks exchanges ≡ l
   pub trace : Trace onward Served s exchanges
-  pub only : (es : List (Exchange Call Reply)) → asks es ≡ l → Trace onward Served s es → es ≡ exchanges
+  pub only : (es : List (Exchange MarkedCall Reply)) → asks es ≡ l → Trace onward Served s es → es ≡ exchanges
 
 -- from a fresh session every list of calls has one result
 abbrev pub ResultExists : Type 0

@@ -3,8 +3,8 @@ use Prim.Native.Nat.{ℕ}
 use mathlib.Core.Path.{_≡_}
 use mathlib.Core.List.{List, [], _∷_, map}
 use lib.ListN.{length}
-use Rattle.machine.specs.Machine.{Machine, fresh}
-use Rattle.machine.specs.Calls.{Call, load, withdraw, close, round, reopen, verdict, print, save, run, Brings}
+use Rattle.machine.specs.Calls.{load, withdraw, close, round, reopen, verdict, print, save}
+use Rattle.machine.specs.Marks.{Marked, fresh-marked, MarkedCall, on, mark, return-to, marked-run, MarkedBrings}
 use Rattle.session.specs.declared.Session.{Session}
 use Rattle.session.specs.declared.Reply.{Reply}
 use Rattle.session.specs.Promise.{Keeps}
@@ -29,34 +29,38 @@ given next s (e ∷ es) = given next (next (e .reply)) es
 -- ---- calls on a session
 
 -- the length of the buffer that a caller lends: print and save name it, the other calls have none
-abbrev pub lent : Call → ℕ
-lent (load l) = 0
-lent (withdraw l) = 0
-lent close = 0
-lent round = 0
-lent reopen = 0
-lent verdict = 0
-lent (print size) = size
-lent (save size) = size
+abbrev pub lent : MarkedCall → ℕ
+lent (on (load l)) = 0
+lent (on (withdraw l)) = 0
+lent (on close) = 0
+lent (on round) = 0
+lent (on reopen) = 0
+lent (on verdict) = 0
+lent (on (print size)) = size
+lent (on (save size)) = size
+lent (mark name) = 0
+lent (return-to name) = 0
 
 -- print and save have a buffer of the length that they name, before and after; the other calls have none
-abbrev pub Buffered : Call → List ℕ → List ℕ → Type 0
-Buffered (load l) old new = (old ≡ []) × (new ≡ [])
-Buffered (withdraw l) old new = (old ≡ []) × (new ≡ [])
-Buffered close old new = (old ≡ []) × (new ≡ [])
-Buffered round old new = (old ≡ []) × (new ≡ [])
-Buffered reopen old new = (old ≡ []) × (new ≡ [])
-Buffered verdict old new = (old ≡ []) × (new ≡ [])
-Buffered (print size) old new = (length old ≡ size) × (length new ≡ size)
-Buffered (save size) old new = (length old ≡ size) × (length new ≡ size)
+abbrev pub Buffered : MarkedCall → List ℕ → List ℕ → Type 0
+Buffered (on (load l)) old new = (old ≡ []) × (new ≡ [])
+Buffered (on (withdraw l)) old new = (old ≡ []) × (new ≡ [])
+Buffered (on close) old new = (old ≡ []) × (new ≡ [])
+Buffered (on round) old new = (old ≡ []) × (new ≡ [])
+Buffered (on reopen) old new = (old ≡ []) × (new ≡ [])
+Buffered (on verdict) old new = (old ≡ []) × (new ≡ [])
+Buffered (on (print size)) old new = (length old ≡ size) × (length new ≡ size)
+Buffered (on (save size)) old new = (length old ≡ size) × (length new ≡ size)
+Buffered (mark name) old new = (old ≡ []) × (new ≡ [])
+Buffered (return-to name) old new = (old ≡ []) × (new ≡ [])
 
 -- one call with its buffer before and after and its reply
-abbrev pub exchange : Call → List ℕ → List ℕ → Reply → Exchange Call Reply
+abbrev pub exchange : MarkedCall → List ℕ → List ℕ → Reply → Exchange MarkedCall Reply
 exchange c old new r = record { asked = c; old = old; new = new; reply = r }
 
 -- the call brought bytes, was lent its buffer, and kept the promise of a session that calls make, the first of its method's `ensures`
-pub record Served (s : Session) (e : Exchange Call Reply) : Type 0 where
-  pub brings : Brings (e .asked)
+pub record Served (s : Session) (e : Exchange MarkedCall Reply) : Type 0 where
+  pub brings : MarkedBrings (e .asked)
   pub lends : length (e .old) ≡ lent (e .asked)
   pub keeps : Keeps s (e .asked) (e .old) (e .new) (e .reply)
 
@@ -64,6 +68,6 @@ pub record Served (s : Session) (e : Exchange Call Reply) : Type 0 where
 abbrev pub onward : Reply → Session
 onward r = r .session
 
--- the plain machine that was fed the calls
-abbrev pub plain-after : List (Exchange Call Reply) → Machine
-plain-after es = run fresh (map (λ e. e .asked) es)
+-- the plain machine with marks that was fed the calls
+abbrev pub plain-after : List (Exchange MarkedCall Reply) → Marked
+plain-after es = marked-run fresh-marked (map (λ e. e .asked) es)

@@ -1,7 +1,11 @@
 // Records that no calls make. Where a count is outside the arrays, or more rounds are done than calls lead to, every call is refused as 24, and
-// all is as it was; on others the answer is free, and what is run is that each call ends.
+// all is as it was; so is a return to a mark that keeps such a thing. On others the answer is free, and what is run is that each call ends.
+use machine::MOST_ROWS;
 use machine::Phase;
 use machine::Verdict;
+use marks::Kept;
+use marks::MOST_MARKS;
+use marks::Marks;
 use program_output::say;
 use session::Session;
 
@@ -29,12 +33,18 @@ fn try_reports(record: Session) {
     try_call(record, b"save");
 }
 
+fn try_names(record: Session) {
+    try_call(record, b"mark a");
+    try_call(record, b"return a");
+}
+
 // Every call on the record.
 fn try_all(name: &[u8], record: Session) {
     say(name);
     try_changes(record);
     try_moves(record);
     try_reports(record);
+    try_names(record);
 }
 
 // A record with these counts, and nothing else.
@@ -110,11 +120,76 @@ fn settled() {
     );
 }
 
+// A record with so many marks, all of one name and with the same kept: keys of zeros, which no row has.
+fn marked(count: usize, row_count: usize, phase: Phase, rounds: u8) -> Session {
+    let fresh = Session::fresh();
+    let high = [0u64; MOST_ROWS];
+    let low = [0u16; MOST_ROWS];
+    let one = Kept {
+        high,
+        low,
+        row_count,
+        phase,
+        rounds,
+    };
+    let names = [b'a' as u64; MOST_MARKS];
+    let kept = [one; MOST_MARKS];
+    let marks = Marks { names, kept, count };
+    Session { marks, ..fresh }
+}
+
+// More marks than a session has.
+fn too_many_marks() {
+    try_all(b"# 5 marks\n", marked(5, 0, Phase::Open, 0));
+    try_all(b"# 2^64 - 1 marks\n", marked(usize::MAX, 0, Phase::Open, 0));
+}
+
+// The two calls on a record whose marks keep what no mark keeps.
+fn try_kept(name: &[u8], row_count: usize, phase: Phase, rounds: u8) {
+    say(name);
+    try_names(marked(4, row_count, phase, rounds));
+}
+
+// Returns that are refused as 24: more rows than there are keys, more rounds than any session has done.
+fn kept_outside() {
+    try_kept(b"# kept: 257 rows\n", 257, Phase::Open, 0);
+    try_kept(b"# kept: 2^64 - 1 rows\n", usize::MAX, Phase::Running, 0);
+    try_kept(b"# kept: 130 rounds\n", 0, Phase::Running, 130);
+    try_kept(
+        b"# kept: 200 rounds\n",
+        0,
+        Phase::Settled(Verdict::Empty),
+        200,
+    );
+}
+
+// Returns that are answered freely: 256 keys of no row, rounds while open, more rounds than settle, another verdict.
+fn kept_within() {
+    try_kept(b"# kept: keys of no row\n", 256, Phase::Open, 0);
+    try_kept(b"# kept: keys of no row, running\n", 256, Phase::Running, 0);
+    try_kept(b"# kept: open after 129 rounds\n", 0, Phase::Open, 129);
+    try_kept(
+        b"# kept: running after 129 rounds\n",
+        0,
+        Phase::Running,
+        129,
+    );
+    try_kept(
+        b"# kept: settled as non-empty, without rows\n",
+        0,
+        Phase::Settled(Verdict::NonEmpty),
+        0,
+    );
+}
+
 pub fn run() {
     outside();
     far_outside();
+    too_many_marks();
     too_many_rounds();
     within();
     unsorted();
     settled();
+    kept_outside();
+    kept_within();
 }

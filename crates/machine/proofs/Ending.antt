@@ -15,14 +15,14 @@ use Rattle.orderings.specs.Timelines.{timelines}
 use Rattle.orderings.proofs.Verdicts.{Opened}
 use Rattle.machine.specs.declared.Phase.{Phase}
 use Rattle.machine.specs.declared.Phase.the-variants.{Open, Running, Settled}
-use Rattle.machine.specs.Machine.{Opening, Machine, open-with, fresh}
-use Rattle.machine.specs.Calls.{round, done, run}
+use Rattle.machine.specs.Machine.{Opening, Machine, open-with}
+use Rattle.machine.specs.Calls.{round, done}
 use Rattle.machine.specs.WellFormed.{after, Worked, Made, most-done, WellFormed}
-use Rattle.machine.specs.Statements.{RoundsEnd, NeverThe130th}
+use Rattle.machine.specs.Statements.{after-calls, RoundsEnd, NeverThe130th}
 use Rattle.machine.proofs.Settling.{after-after, running-opened}
 use Rattle.machine.proofs.Openings.{openings-few}
 use Rattle.machine.proofs.Outcomes.{Done, round-done, comes}
-use Rattle.machine.proofs.History.{fresh-formed}
+use Rattle.machine.proofs.Marks.{calls-formed}
 
 -- a round is done where the machine runs
 pub rounds-from : (m : Machine) {m′ : Machine} → Done m round m′ → m .phase ≡ Running
@@ -114,4 +114,4 @@ module _ (m : Machine) (w : WellFormed m) where
 
 -- request C-14
 pub never-the-130th : NeverThe130th
-never-the-130th cs b = rounds-end (run fresh cs) (fresh-formed cs b)
+never-the-130th cs b = rounds-end (after-calls cs) (calls-formed cs b)

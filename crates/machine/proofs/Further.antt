@@ -1,7 +1,9 @@
 -- Further sheets, computed: the order of openings (`openings`), each place of the order of walks (`kinds-first`, `values-first`, `targets`,
--- `starts-first`), struck states (`struck-walks`), refusals (`refused-lines`, `phases`), and verdicts by rising size (`verdicts`).
+-- `starts-first`), struck states (`struck-walks`), refusals (`refused-lines`, `phases`), verdicts by rising size (`verdicts`), and marks (`names`, `marks`,
+-- `returns`, `marks-anew`).
 use Prim.Native.Nat.{ℕ}
 use mathlib.Core.Path.{_≡_, refl}
+use mathlib.Core.Bool.{true, false}
 use mathlib.Core.List.{List, [], _∷_}
 use native.Mathlib.Decide.{ℕ-discrete}
 use Rattle.masks.specs.Mask.{member}
@@ -20,6 +22,7 @@ use Rattle.machine.specs.Text.{text, hex, decimal}
 use Rattle.machine.specs.Sheet.{sheet}
 use Rattle.machine.specs.Calls.{Call, load, withdraw, close, round, reopen, verdict, print, save, Outcome, done, wrote, decided, refused, verdict-of, call-in, call, run}
 use Rattle.machine.specs.Program.{after-load, batch-verdict, program}
+use Rattle.machine.specs.Marks.{name?, Marked, fresh-marked, MarkedCall, on, mark, return-to, marked-call}
 
 abbrev on-rows : List Row → List ℕ
 on-rows rows = program (batch-of rows)
@@ -209,3 +212,46 @@ pub verdicts : (answer-after [] verdict ≡ decided Empty)
     × (batch-verdict (1 ∷ 0 ∷ 0 ∷ []) ≡ refused 2 2)
 unfolding ℕ-discrete member row-bytes standing-sets same-row set-at row-at row-cause read-row on-turn on-read feed-from feed members reach holds? accepts? finds? found rising? load-row closed opened-next next-round verdict-of call-in after-load
 verdicts = (refl, refl, refl, refl, refl, refl, refl, refl, refl, refl, refl)
+
+-- request C-11: names of 0, 1, 8 and 9 bytes, the bytes beside a and z, and capitals
+pub names : (name? [] ≡ false)
+    × (name? (text "a") ≡ true)
+    × (name? (text "z") ≡ true)
+    × (name? (text "abcdwxyz") ≡ true)
+    × (name? (text "abcdwxyza") ≡ false)
+    × (name? (text "`") ≡ false)
+    × (name? (text "{") ≡ false)
+    × (name? (text "aAa") ≡ false)
+    × (name? (text "a a") ≡ false)
+unfolding name?
+names = (refl, refl, refl, refl, refl, refl, refl, refl, refl)
+
+-- what the calls of a list answer
+abbrev answers : Marked → List MarkedCall → List Outcome
+answers x [] = []
+answers x (c ∷ cs) = marked-call x c .answer ∷ answers (marked-call x c .machine) cs
+
+-- four names and no fifth, the same name anew at four; 14 before 15 and 16; no other call is needed between
+pub marks : answers fresh-marked
+    (return-to (text "a") ∷ mark (text "a") ∷ mark (text "b") ∷ mark (text "c") ∷ mark (text "d") ∷ mark (text "e") ∷ mark (text "a") ∷ mark (text "A") ∷ return-to (text "e") ∷ return-to [] ∷ return-to (text "d") ∷ [])
+    ≡ refused 15 0 ∷ done ∷ done ∷ done ∷ done ∷ refused 16 0 ∷ done ∷ refused 14 0 ∷ refused 15 0 ∷ refused 14 0 ∷ done ∷ []
+unfolding name? marked-call
+marks = refl
+
+-- what is marked when open, running and settled is back from every phase, with its rows, its rounds and its openings; a sheet then is that of these rows
+pub returns : answers fresh-marked
+    (mark (text "o") ∷ on (load (1 ∷ 0 ∷ 2 ∷ 0 ∷ [])) ∷ on close ∷ mark (text "s") ∷ return-to (text "o") ∷ on (save 4) ∷ on close ∷ mark (text "r") ∷ return-to (text "s") ∷ on (print 99)
+    ∷ return-to (text "r") ∷ on (print 99) ∷ on round ∷ on (print 99) ∷ return-to (text "s") ∷ on (save 4) ∷ return-to (text "o") ∷ on (print 99)
+    ∷ on (load (batch-of (Successor 0 7 0 ∷ LeftLimit 1 1 ∷ []))) ∷ on close ∷ on round ∷ on round ∷ mark (text "e") ∷ on (print 99) ∷ return-to (text "s") ∷ return-to (text "e") ∷ on (print 99) ∷ [])
+    ≡ done ∷ done ∷ done ∷ done ∷ done ∷ wrote [] ∷ done ∷ done ∷ done ∷ wrote (text "verdict nonempty rounds 0\nstart 0\n")
+    ∷ done ∷ refused 11 0 ∷ done ∷ wrote (text "verdict empty rounds 1\n") ∷ done ∷ wrote (1 ∷ 0 ∷ 2 ∷ 0 ∷ []) ∷ done ∷ refused 9 0
+    ∷ done ∷ done ∷ done ∷ done ∷ done ∷ wrote (text "verdict empty rounds 2\nopen 1 loop 0000000000000001\n") ∷ done ∷ done ∷ wrote (text "verdict empty rounds 2\nopen 1 loop 0000000000000001\n") ∷ []
+unfolding ℕ-discrete member row-bytes standing-sets same-row set-at row-at row-cause read-row on-turn on-read feed-from feed members reach holds? accepts? load-row withdraw-row closed opened-next next-round walk-of least shortest hex decimal sheet call-in name? marked-call
+returns = refl
+
+-- the same name marks anew: what was kept under it is gone, and other names keep theirs
+pub marks-anew : answers fresh-marked
+    (mark (text "b") ∷ mark (text "a") ∷ on (load (1 ∷ 3 ∷ [])) ∷ mark (text "a") ∷ on (load (2 ∷ 3 ∷ [])) ∷ return-to (text "a") ∷ on (save 9) ∷ return-to (text "b") ∷ on (save 9) ∷ [])
+    ≡ done ∷ done ∷ done ∷ done ∷ done ∷ done ∷ wrote (1 ∷ 3 ∷ []) ∷ done ∷ wrote [] ∷ []
+unfolding ℕ-discrete member row-bytes standing-sets same-row set-at row-at row-cause read-row on-turn on-read feed-from feed load-row call-in name? marked-call
+marks-anew = refl

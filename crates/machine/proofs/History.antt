@@ -1,9 +1,9 @@
 -- Whatever calls led to a settled machine, it is the machine that its rows, loaded in one batch, lead to: calls make well-formed machines
--- (`call-formed`, `fresh-formed`), and rounds until settled come to as many as the rows take (`settle-runs`, `as-many`).
+-- (`call-formed`, `run-formed`), and rounds come to as many as the rows take, or as are called for (`work-runs`, `settle-runs`, `as-many`).
 use Prim.Native.Nat.{ℕ, zero, suc, _≤_, _<_, _+_}
 use mathlib.Core.Path.{_≡_, refl, ap, sym, _∙_, subst}
 use mathlib.Core.Bool.{Bool, true, false}
-use mathlib.Core.Logic.{⊎-elim}
+use mathlib.Core.Logic.{_⊎_, inr, ⊎-elim}
 use mathlib.Core.List.{List, [], _∷_, List·Memᴰ·head, List·Memᴰ·tail}
 use lib.ListN.{replicate}
 use native.Mathlib.Omega.{arith}
@@ -15,11 +15,11 @@ use Rattle.orderings.specs.Decide.{accepts?}
 use Rattle.machine.specs.declared.Verdict.{Verdict}
 use Rattle.machine.specs.declared.Phase.{Phase}
 use Rattle.machine.specs.declared.Phase.the-variants.{Open, Running, Settled}
-use Rattle.machine.specs.Machine.{most-rounds, Machine, open-with, fresh, judged, closed, opened-next, nothing?, next-round, open-claims}
-use Rattle.machine.specs.Calls.{Call, round, Outcome, done, wrote, decided, refused, call-in, call, run, Brings, settle}
+use Rattle.machine.specs.Machine.{most-rounds, Machine, open-with, judged, closed, opened-next, nothing?, next-round, open-claims}
+use Rattle.machine.specs.Calls.{Call, close, round, Outcome, done, wrote, decided, refused, call-in, call, run, Brings, settle}
 use Rattle.machine.specs.WellFormed.{Table, after, Worked, Made, WellFormed}
 use Rattle.machine.proofs.Settling.{below-next, Settles, settles, few-rounds}
-use Rattle.machine.proofs.Tables.{no-rows, load-keeps, withdraw-keeps}
+use Rattle.machine.proofs.Tables.{load-keeps, withdraw-keeps}
 use Rattle.machine.proofs.Outcomes.{Done, load-done, withdraw-done, close-done, round-done, reopen-done, Comes, comes}
 
 -- a machine that was worked on is made, whatever its judgement
@@ -76,32 +76,42 @@ pub run-formed : (m : Machine) (cs : List Call) → ((c : Call) → c among cs �
 run-formed m [] b w = w
 run-formed m (c ∷ cs) b w = run-formed (call m c .machine) cs (λ x i. b x (List·Memᴰ·tail i)) (call-formed m c (b c (List·Memᴰ·head refl)) w)
 
--- the machines that calls make from a fresh one are well formed
-pub fresh-formed : (cs : List Call) → ((c : Call) → c among cs → Brings c) → WellFormed (run fresh cs)
-fresh-formed cs b = run-formed fresh cs b (opened-formed [] no-rows)
-
 pub not-both : {p : Phase} {v : Verdict} {B : Type 0} → p ≡ Running → p ≡ Settled v → B
 not-both e f = let z : _≡_ {A = ℕ} 0 1 = cc in absurd (omega arith)
 
--- rounds until settled
+-- another machine than a running one refuses rounds
+rounds-stay : (m : Machine) → ¬ (m .phase ≡ Running) → (n : ℕ) → run m (replicate n round) ≡ m
+unfolding call-in
+rounds-stay m h zero = refl
+rounds-stay m h (suc n) = ap (λ (x : Machine). run x (replicate n round)) (by (m .phase) h) ∙ rounds-stay m h n
+  where
+    by : (p : Phase) → ¬ (p ≡ Running) → call-in p m round .machine ≡ m
+    by Open h = refl
+    by Running h = absurd (h refl)
+    by (Settled v) h = refl
+
+-- running before each of k rounds, and no more after them, or as many done as are called for
+module _ (rows : List Row) (most k : ℕ) (few : k ≤ most) (before : (j : ℕ) → j < k → after rows j .phase ≡ Running)
+    (ended : (k ≡ most) ⊎ (¬ (after rows k .phase ≡ Running))) where
+  round-goes : (j : ℕ) → j < k → call (after rows j) round .machine ≡ after rows (suc j)
+  unfolding call-in
+  round-goes j l = ap (λ (p : Phase). call-in p (after rows j) round .machine) (before j l)
+
+  run-rounds : (n j : ℕ) → j + n ≡ most → j ≤ k → run (after rows j) (replicate n round) ≡ after rows k
+  run-rounds zero j e l = let i : j ≡ k = omega arith in ap (after rows) i
+  run-rounds (suc n) j e l = ⊎-elim
+      (λ i. subst (λ (x : ℕ). run (after rows x) (replicate (suc n) round) ≡ after rows k) (sym i) (rounds-stay (after rows k) (⊎-elim (λ f. absurd (omega arith)) (λ h. h) ended) (suc n)))
+      (λ i. ap (λ (m : Machine). run m (replicate n round)) (round-goes j i) ∙ run-rounds n (suc j) (omega arith) i)
+      (eq-or-lt-of-le l)
+
+  -- closed, and called for the most rounds, it does k
+  pub work-runs : run (open-with rows) (close ∷ replicate most round) ≡ after rows k
+  unfolding call-in
+  work-runs = run-rounds most 0 (omega arith) (omega arith)
+
 module _ (rows : List Row) (s : Settles rows) where
   abbrev K : ℕ
   K = s .rounds
-
-  round-goes : (k : ℕ) → k < K → call (after rows k) round .machine ≡ after rows (suc k)
-  unfolding call-in
-  round-goes k l = ap (λ (p : Phase). call-in p (after rows k) round .machine) (s .before k l)
-
-  round-stays : call (after rows K) round .machine ≡ after rows K
-  unfolding call-in
-  round-stays = ap (λ (p : Phase). call-in p (after rows K) round .machine) (s .phase)
-
-  run-rounds : (n k : ℕ) → k ≤ K → K ≤ k + n → run (after rows k) (replicate n round) ≡ after rows K
-  run-rounds zero k l h = let e : k ≡ K = omega arith in ap (after rows) e
-  run-rounds (suc n) k l h = ⊎-elim
-      (λ e. ap (λ m. run m (replicate n round)) (subst (λ i. call (after rows i) round .machine ≡ after rows i) (sym e) round-stays) ∙ run-rounds n k l (omega arith))
-      (λ i. ap (λ m. run m (replicate n round)) (round-goes k i) ∙ run-rounds n (suc k) i (omega arith))
-      (eq-or-lt-of-le l)
 
   -- a machine that was worked on has done no more rounds, and as many where it is settled
   pub no-more : (k : ℕ) → ((j : ℕ) → j < k → after rows j .phase ≡ Running) → k ≤ K
@@ -112,5 +122,5 @@ module _ (rows : List Row) (s : Settles rows) where
 
 -- closed, and rounds until settled: 129 are enough
 pub settle-runs : (rows : List Row) → Table rows → run (open-with rows) settle ≡ after rows (settles rows .rounds)
-unfolding call-in
-settle-runs rows t = run-rounds rows (settles rows) most-rounds 0 (omega arith) (omega (arith, few-rounds rows (t .few-sets)))
+settle-runs rows t = let s = settles rows in
+    work-runs rows most-rounds (s .rounds) (few-rounds rows (t .few-sets)) (s .before) (inr (λ e. not-both e (s .phase)))

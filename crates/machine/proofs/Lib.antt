@@ -18,6 +18,7 @@ pub mod Outcomes
 pub mod Loading
 pub mod Causes
 pub mod History
+pub mod Marks
 pub mod Statements
 pub mod Ending
 pub mod MoreRows

@@ -20,13 +20,13 @@ use Rattle.orderings.proofs.Verdicts.{least-depth, least-depth-unique}
 use Rattle.orderings.proofs.MoreRows.{depths-grow, accepts-grows, least-grows}
 use Rattle.machine.specs.declared.Verdict.{Verdict}
 use Rattle.machine.specs.declared.Verdict.the-variants.{NonEmpty, Empty}
-use Rattle.machine.specs.Machine.{Opening, Machine, fresh, load-row}
+use Rattle.machine.specs.Machine.{Opening, Machine, load-row}
 use Rattle.machine.specs.Calls.{Call, call, run}
 use Rattle.machine.specs.WellFormed.{WellFormed}
-use Rattle.machine.specs.Statements.{Listed, Number, said, SaysNoLess, NeverLess, MoreRows}
+use Rattle.machine.specs.Statements.{after-calls, Listed, Number, said, SaysNoLess, NeverLess, MoreRows}
 use Rattle.machine.proofs.Tables.{load-sets}
 use Rattle.machine.proofs.Outcomes.{EachCall, OfBatch, RowsAfter, kept-rows, loaded-rows, withdrawn-rows, rows-after}
-use Rattle.machine.proofs.History.{fresh-formed}
+use Rattle.machine.proofs.Marks.{calls-formed}
 use Rattle.machine.proofs.Statements.{settled-number, settled-listed}
 
 module _ (m m′ : Machine) (w : WellFormed m) (w′ : WellFormed m′) (up : Grows (m .rows) (m′ .rows)) where
@@ -58,7 +58,7 @@ module _ (m m′ : Machine) (w : WellFormed m) (w′ : WellFormed m′) (up : Gr
 
 -- request C-15
 pub more-rows : MoreRows
-more-rows cs ds b d up = never-less (run fresh cs) (run fresh ds) (fresh-formed cs b) (fresh-formed ds d) up
+more-rows cs ds b d up = never-less (after-calls cs) (after-calls ds) (calls-formed cs b) (calls-formed ds d) up
 
 -- no less both ways is the same: the verdict, the number of a non-empty one, and what both list
 module _ (m m′ : Machine) (l : Listed m) (v v′ : Verdict) (n : SaysNoLess (said v m) (said v′ m′)) (n′ : SaysNoLess (said v′ m′) (said v m)) where

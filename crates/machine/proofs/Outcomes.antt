@@ -1,12 +1,12 @@
 -- What each call comes to, in each phase: it is done, it writes, it gives a verdict, or it has a cause that refuses it (`comes`); what
 -- writes or is refused keeps the machine (`writes-keep`, `refused-keeps`), and so does a verdict (`deciding`). A call
 -- that brings no batch keeps the rows (`rows-kept`).
-use Prim.Native.Nat.{ℕ, _≤_, _<_}
+use Prim.Native.Nat.{ℕ, zero, suc, _≤_, _<_}
 use mathlib.Core.Path.{_≡_, refl, ap, _∙_, subst, sym}
 use mathlib.Core.Bool.{Bool, true, false, cond}
 use mathlib.Core.List.{List, [], _∷_}
 use lib.Dec.{ltb}
-use lib.ListN.{length}
+use lib.ListN.{length, replicate}
 use native.Mathlib.Omega.{arith}
 use Rattle.lists.specs.Tests.{Decides}
 use Rattle.lists.proofs.Deciding.{yes·, no·, ltb·}
@@ -160,6 +160,10 @@ rows-after m c = by (call m c .answer) (call m c .machine) (comes m c (call m c 
 -- calls that bring no batch keep the rows
 abbrev pub NoBatches : List Call → Type 0
 NoBatches cs = EachCall (OfBatch (λ l. ⊥) (λ l. ⊥)) cs
+
+pub rounds-no-batch : (k : ℕ) → NoBatches (replicate k round)
+rounds-no-batch zero = tt
+rounds-no-batch (suc k) = (tt, rounds-no-batch k)
 
 row-kept : (m : Machine) (c : Call) → OfBatch (λ l. ⊥) (λ l. ⊥) c → call m c .machine .rows ≡ m .rows
 row-kept m c n = by (rows-after m c) n

@@ -16,12 +16,12 @@ use Rattle.orderings.proofs.Rising.{rising·}
 use Rattle.machine.specs.declared.Verdict.{Verdict}
 use Rattle.machine.specs.declared.Verdict.the-variants.{NonEmpty, Empty}
 use Rattle.machine.specs.declared.Phase.the-variants.{Settled}
-use Rattle.machine.specs.Machine.{Machine, fresh}
-use Rattle.machine.specs.Calls.{verdict, decided, Next, verdict-of, call, run, second}
+use Rattle.machine.specs.Machine.{Machine}
+use Rattle.machine.specs.Calls.{verdict, decided, Next, verdict-of, call, second}
 use Rattle.machine.specs.WellFormed.{WellFormed}
-use Rattle.machine.specs.Statements.{Number, VerdictOfRounds, EveryVerdict}
+use Rattle.machine.specs.Statements.{after-calls, Number, VerdictOfRounds, EveryVerdict}
 use Rattle.machine.proofs.Outcomes.{deciding}
-use Rattle.machine.proofs.History.{fresh-formed}
+use Rattle.machine.proofs.Marks.{calls-formed}
 use Rattle.machine.proofs.Statements.{settled-number}
 use Rattle.machine.proofs.Second.{second-works}
 
@@ -66,4 +66,4 @@ module _ (m : Machine) (w : WellFormed m) where
   }
 
 pub every-verdict : EveryVerdict
-every-verdict cs b = verdict-of-rounds (run fresh cs) (fresh-formed cs b)
+every-verdict cs b = verdict-of-rounds (after-calls cs) (calls-formed cs b)

@@ -22,7 +22,7 @@ use Rattle.machine.specs.Sheet.{sheet}
 use Rattle.machine.specs.Calls.{load, print, Outcome, wrote, refused, Next, call-in, call, run, settle, second}
 use Rattle.machine.specs.Causes.{Writes, sheets}
 use Rattle.machine.specs.WellFormed.{Table, after, Worked, Made, WellFormed}
-use Rattle.machine.specs.Statements.{SomeWalk, Number, Listed, Prints, EveryPrint}
+use Rattle.machine.specs.Statements.{after-calls, SomeWalk, Number, Listed, Prints, EveryPrint}
 use Rattle.machine.proofs.Settling.{after-after, settled-walk, Settles, settles, few-rounds}
 use Rattle.machine.proofs.Openings.{after-listed, openings-few}
 use Rattle.machine.proofs.Search.{shortest-best}
@@ -30,7 +30,8 @@ use Rattle.machine.proofs.Walks.{best-short}
 use Rattle.machine.proofs.Sheet.{sheet-short}
 use Rattle.machine.proofs.Loading.{loads-back}
 use Rattle.machine.proofs.Outcomes.{comes}
-use Rattle.machine.proofs.History.{fresh-formed, settle-runs, no-more, as-many}
+use Rattle.machine.proofs.History.{settle-runs, no-more, as-many}
+use Rattle.machine.proofs.Marks.{calls-formed}
 
 -- a table of rows, loaded in one batch, sorted
 pub load-sorted : (rows : List Row) → Table rows → call fresh (load (batch-of (sort-by row-bytes rows))) .machine ≡ open-with rows
@@ -105,4 +106,4 @@ module _ (m : Machine) (w : WellFormed m) where
 
 -- demand 3 of the plain machine
 pub every-print : EveryPrint
-every-print cs b size = prints (run fresh cs) (fresh-formed cs b) size
+every-print cs b size = prints (after-calls cs) (calls-formed cs b) size

@@ -8,4 +8,5 @@ pub mod Calls
 pub mod Causes
 pub mod Program
 pub mod WellFormed
+pub mod Marks
 pub mod Statements

@@ -20,7 +20,8 @@ use Rattle.machine.specs.declared.Phase.the-variants.{Open, Running, Set
 use Rattle.machine.specs.Machine.{most-sets, most-rounds, Opening, Machine, open-with, fresh, open-claims}
 use Rattle.machine.specs.Order.{Found}
 use Rattle.machine.specs.Sheet.{verdict-line, opening-line, walk-lines, sheet}
-use Rattle.machine.specs.Calls.{Call, load, round, verdict, print, done, wrote, decided, accept, call, run, second, Brings}
+use Rattle.machine.specs.Calls.{load, round, verdict, print, done, wrote, decided, accept, call, second}
+use Rattle.machine.specs.Marks.{Marked, fresh-marked, MarkedCall, mark, return-to, marked-call, marked-run, MarkedBrings}
 
 -- a walk of zero or more steps, with letter steps and steps of the claims l, leads from an initial to a final state
 abbrev pub SomeWalk : List Row → List Claim → Type 0
@@ -109,6 +110,32 @@ Loaded m l m′ = (batch : List Row) × AllFit batch × (l ≡ batch-of batch) �
 abbrev pub Withdrawn : Machine → List ℕ → Machine → Type 0
 Withdrawn m l m′ = (batch : List Row) × AllFit batch × (l ≡ batch-of batch) × ((r : Row) → r among m′ .rows ↔ (r among m .rows × ¬ (r among batch)))
 
+-- ---- lists of calls from a fresh machine, marks and returns among them
+
+-- each brings what it should
+abbrev pub AllBring : List MarkedCall → Type 0
+AllBring cs = (c : MarkedCall) → c among cs → MarkedBrings c
+
+-- the machine as it is after them
+abbrev pub after-calls : List MarkedCall → Machine
+after-calls cs = marked-run fresh-marked cs .now
+
+-- request C-11, of a return on y to what was marked on x: it is accepted, brings back the whole machine, and keeps the marks
+pub record Returns (x : Marked) (name : List ℕ) (y : Marked) : Type 0 where
+  pub accepted : marked-call y (return-to name) .answer ≡ done
+  pub now-is : marked-call y (return-to name) .machine .now ≡ x .now
+  pub marks-are : marked-call y (return-to name) .machine .marks ≡ y .marks
+
+-- after a mark, whatever is called but a mark under the same name
+abbrev pub EveryReturn : Type 0
+EveryReturn = (x : Marked) (name : List ℕ) (cs : List MarkedCall) → marked-call x (mark name) .answer ≡ done → ¬ (mark name among cs)
+    → Returns x name (marked-run (marked-call x (mark name) .machine) cs)
+
+-- mark and then return is the same
+abbrev pub MarkAndReturn : Type 0
+MarkAndReturn = (x : Marked) (name : List ℕ) → marked-call x (mark name) .answer ≡ done
+    → marked-call (marked-call x (mark name) .machine) (return-to name) .machine ≡ marked-call x (mark name) .machine
+
 -- request C-14, of a machine that calls make: rounds end, since every round but the last opens something
 pub record RoundsEnd (m : Machine) : Type 0 where
   pub opened : (k : ℕ) → 1 ≤ k → k < m .rounds → (o : Opening) × (o .round ≡ k) × o among m .openings
@@ -124,7 +151,7 @@ pub record RoundsEnd (m : Machine) : Type 0 where
 
 -- from any list of calls a round is never the 130th
 abbrev pub NeverThe130th : Type 0
-NeverThe130th = (cs : List Call) → ((c : Call) → c among cs → Brings c) → RoundsEnd (run fresh cs)
+NeverThe130th = (cs : List MarkedCall) → AllBring cs → RoundsEnd (after-calls cs)
 
 -- request C-22, of a machine that calls make: the verdict by rising size is that of the rounds
 pub record VerdictOfRounds (m : Machine) : Type 0 where
@@ -140,7 +167,7 @@ pub record VerdictOfRounds (m : Machine) : Type 0 where
 
 -- after any list of calls
 abbrev pub EveryVerdict : Type 0
-EveryVerdict = (cs : List Call) → ((c : Call) → c among cs → Brings c) → VerdictOfRounds (run fresh cs)
+EveryVerdict = (cs : List MarkedCall) → AllBring cs → VerdictOfRounds (after-calls cs)
 
 -- what a sheet says beside its walk: the verdict, the round number and the openings
 pub record Said : Type 0 where
@@ -168,8 +195,8 @@ pub record NeverLess (m m′ : Machine) : Type 0 where
 
 -- after any two lists of calls
 abbrev pub MoreRows : Type 0
-MoreRows = (cs ds : List Call) → ((c : Call) → c among cs → Brings c) → ((c : Call) → c among ds → Brings c)
-    → Grows (run fresh cs .rows) (run fresh ds .rows) → NeverLess (run fresh cs) (run fresh ds)
+MoreRows = (cs ds : List MarkedCall) → AllBring cs → AllBring ds
+    → Grows (after-calls cs .rows) (after-calls ds .rows) → NeverLess (after-calls cs) (after-calls ds)
 
 -- the bytes are a sheet that says so: they are its lines, and a set is a number of eight bytes
 pub record SheetSays (l : List ℕ) (s : Said) : Type 0 where
@@ -188,7 +215,7 @@ pub record Prints (m : Machine) (size : ℕ) : Type 0 where
 
 -- demand 3 of the plain machine: at every print of every list of calls
 abbrev pub EveryPrint : Type 0
-EveryPrint = (cs : List Call) → ((c : Call) → c among cs → Brings c) → (size : ℕ) → Prints (run fresh cs) size
+EveryPrint = (cs : List MarkedCall) → AllBring cs → (size : ℕ) → Prints (after-calls cs) size
 
 -- saved rows, loaded into a fresh machine, give the same rows
 pub record Saves (m : Machine) (l : List ℕ) : Type 0 where

@@ -1,5 +1,5 @@
 -- The laws that the proofs of `rounds` share.
 pub mod OpenClaims
-pub mod Marking
+pub mod Noting
 pub mod Turn
 pub mod Settled

@@ -1,12 +1,11 @@
 -- The rounds in arrays are the machine's, from closed (`closed-kept`) through each round (`stage-start`, `stage-more`, `round-kept`) to the end
--- of its rounds (`kept-settled`, `closed-settled`).
+-- of its rounds (`stage-end`, `closed-end`).
 use Prim.Native.Nat.{ℕ, suc, _+_, _<_, _≤_}
 use mathlib.Core.Path.{_≡_, refl, ap, sym, _∙_, subst}
 use mathlib.Core.Bool.{Bool, true, false}
-use mathlib.Core.Logic.{_⊎_, inr, ⊎-elim, _↔_}
-use mathlib.Core.List.{List, []}
+use mathlib.Core.Logic.{_⊎_, inl, inr, ⊎-elim, _↔_}
+use mathlib.Core.List.{List, [], _∷_}
 use lib.ListN.{getD, replicate}
-use native.Mathlib.Nat.{eq-or-lt-of-le}
 use native.Mathlib.Omega.{arith}
 use Rattle.lists.specs.Tests.{Decides, _among_}
 use Rattle.masks.specs.Mask.{_∈_}
@@ -15,17 +14,17 @@ use Rattle.orderings.specs.Steps.{Claim, loops, mixes}
 use Rattle.machine.specs.declared.Phase.{Phase}
 use Rattle.machine.specs.declared.Phase.the-variants.{Running}
 use Rattle.machine.specs.Machine.{Machine, open-with, judged, closed, open-claims, next-round}
-use Rattle.machine.specs.Calls.{run, settle}
-use Rattle.machine.specs.WellFormed.{Table, after, WellFormed}
-use Rattle.machine.proofs.Settling.{below-next, settles, few-rounds, after-after}
-use Rattle.machine.proofs.History.{settle-runs, no-more}
+use Rattle.machine.specs.Calls.{close, round, run}
+use Rattle.machine.specs.WellFormed.{after, WellFormed}
+use Rattle.machine.proofs.Settling.{below-next, after-after}
+use Rattle.machine.proofs.History.{work-runs}
 use Rattle.search.specs.declared.Claims.{Claims}
 use Rattle.search.specs.Graph.{Graph}
 use Rattle.search.specs.Hops.{WithNew, EndsBelow}
 use Rattle.search.specs.Masked.{Forced}
 use Rattle.search.specs.Promises.{AcceptsRight, OpensBelow}
 use Rattle.row_table.specs.Arrays.{SetsIn}
-use Rattle.rounds.specs.Arrays.{rounds-of, OpenPlaces, Marks}
+use Rattle.rounds.specs.Arrays.{rounds-of, OpenPlaces, Notes}
 use Rattle.rounds.specs.Promises.{Given, Mirrors, no-claims}
 use Rattle.rounds.proofs.OpenClaims.{set-at, open-iff, no-rounds}
 use Rattle.rounds.proofs.Turn.{none-forced, walk-test, Turn, turn-kept, turn-forced}
@@ -62,22 +61,22 @@ forced-of m w g n d loop-rounds mix-rounds is-l is-m force f h = record {
         (open-iff m w claim mask (subst (λ (c : ℕ). OpenPlaces (rounds-of m claim) c mask) (d .count) k) i))
 
 -- what a round comes to, with the claims in force, those that it opens, and both
-pub record Round (g : Graph) (initials finals n : ℕ) (force new all : Claims) (k : ℕ) (loop-rounds mix-rounds : List ℕ) (accepted vain : Bool) (loop-marks mix-marks : List ℕ) : Type 0 where
+pub record Round (g : Graph) (initials finals n : ℕ) (force new all : Claims) (k : ℕ) (loop-rounds mix-rounds : List ℕ) (accepted vain : Bool) (loop-notes mix-notes : List ℕ) : Type 0 where
   pub opens : OpensBelow g force n n new
   pub with-new : WithNew force new all
   pub tested : AcceptsRight g all initials finals accepted
   pub vain-iff : Decides vain ((t : ℕ) → (¬ (t ∈ new .loops)) × (¬ (t ∈ new .mixes)))
-  pub loop-marked : Marks loop-rounds (new .loops) (k + 1) loop-marks
-  pub mix-marked : Marks mix-rounds (new .mixes) (k + 1) mix-marks
+  pub loop-noted : Notes loop-rounds (new .loops) (k + 1) loop-notes
+  pub mix-noted : Notes mix-rounds (new .mixes) (k + 1) mix-notes
 
 module _ (m : Machine) {g : Graph} {initials finals n : ℕ} (given : Given (m .rows) g initials finals n)
     {force new all : Claims} {loop-rounds mix-rounds : List ℕ} {phase : Phase} {k : ℕ} (kept : Mirrors m loop-rounds mix-rounds phase k)
-    (forced : Forced (λ c. c among open-claims m) g n force) {accepted vain : Bool} {loop-marks mix-marks : List ℕ}
-    (r : Round g initials finals n force new all k loop-rounds mix-rounds accepted vain loop-marks mix-marks) where
-  marks : (claim : ℕ → Claim) (old now : List ℕ) (places : ℕ) → old ≡ rounds-of m claim → Marks old places (k + 1) now → Marks (rounds-of m claim) places (m .rounds + 1) now
-  marks claim old now places is h = subst (λ (l : List ℕ). Marks l places (m .rounds + 1) now) is (subst (λ (i : ℕ). Marks old places (i + 1) now) (kept .count-is) h)
+    (forced : Forced (λ c. c among open-claims m) g n force) {accepted vain : Bool} {loop-notes mix-notes : List ℕ}
+    (r : Round g initials finals n force new all k loop-rounds mix-rounds accepted vain loop-notes mix-notes) where
+  notes : (claim : ℕ → Claim) (old now : List ℕ) (places : ℕ) → old ≡ rounds-of m claim → Notes old places (k + 1) now → Notes (rounds-of m claim) places (m .rounds + 1) now
+  notes claim old now places is h = subst (λ (l : List ℕ). Notes l places (m .rounds + 1) now) is (subst (λ (i : ℕ). Notes old places (i + 1) now) (kept .count-is) h)
 
-  turn : Turn m g initials finals n force new all accepted vain loop-marks mix-marks
+  turn : Turn m g initials finals n force new all accepted vain loop-notes mix-notes
   turn = record {
     given = given;
     forced = forced;
@@ -85,13 +84,13 @@ module _ (m : Machine) {g : Graph} {initials finals n : ℕ} (given : Given (m .
     with-new = r .with-new;
     tested = r .tested;
     vain-iff = r .vain-iff;
-    loop-marked = marks loops loop-rounds loop-marks (new .loops) (kept .loops-are) (r .loop-marked);
-    mix-marked = marks mixes mix-rounds mix-marks (new .mixes) (kept .mixes-are) (r .mix-marked);
+    loop-noted = notes loops loop-rounds loop-notes (new .loops) (kept .loops-are) (r .loop-noted);
+    mix-noted = notes mixes mix-rounds mix-notes (new .mixes) (kept .mixes-are) (r .mix-noted);
   }
 
-  pub next-kept : Mirrors (next-round m) loop-marks mix-marks (judged accepted vain) (k + 1)
+  pub next-kept : Mirrors (next-round m) loop-notes mix-notes (judged accepted vain) (k + 1)
   next-kept = let e : m .rounds + 1 ≡ k + 1 = omega (arith, kept .count-is) in
-      subst (Mirrors (next-round m) loop-marks mix-marks (judged accepted vain)) e (turn-kept turn)
+      subst (Mirrors (next-round m) loop-notes mix-notes (judged accepted vain)) e (turn-kept turn)
 
 -- ---- from round to round
 
@@ -117,14 +116,14 @@ module _ (rows : List Row) {g : Graph} {initials finals n : ℕ} (given : Given 
     before = λ j l. absurd (omega arith);
   }
 
-  pub stage-more : {force new all : Claims} {loop-rounds mix-rounds : List ℕ} {phase : Phase} {k : ℕ} {accepted vain : Bool} {loop-marks mix-marks : List ℕ}
-      → Stage rows g n force loop-rounds mix-rounds phase k → phase ≡ Running → Round g initials finals n force new all k loop-rounds mix-rounds accepted vain loop-marks mix-marks
-      → Stage rows g n all loop-marks mix-marks (judged accepted vain) (k + 1)
-  stage-more {all = all} {k = k} {accepted} {vain} {loop-marks} {mix-marks} s running r =
+  pub stage-more : {force new all : Claims} {loop-rounds mix-rounds : List ℕ} {phase : Phase} {k : ℕ} {accepted vain : Bool} {loop-notes mix-notes : List ℕ}
+      → Stage rows g n force loop-rounds mix-rounds phase k → phase ≡ Running → Round g initials finals n force new all k loop-rounds mix-rounds accepted vain loop-notes mix-notes
+      → Stage rows g n all loop-notes mix-notes (judged accepted vain) (k + 1)
+  stage-more {all = all} {k = k} {accepted} {vain} {loop-notes} {mix-notes} s running r =
       let e : suc k ≡ k + 1 = omega arith in
       let here = subst (λ (l : List Row). Given l g initials finals n) (sym (after-after rows k .same-rows)) given in
-      subst (λ (j : ℕ). Stage rows g n all loop-marks mix-marks (judged accepted vain) j) e (record {
-        kept = subst (Mirrors (next-round (after rows k)) loop-marks mix-marks (judged accepted vain)) (sym e) (next-kept (after rows k) here (s .kept) (s .forced) r);
+      subst (λ (j : ℕ). Stage rows g n all loop-notes mix-notes (judged accepted vain) j) e (record {
+        kept = subst (Mirrors (next-round (after rows k)) loop-notes mix-notes (judged accepted vain)) (sym e) (next-kept (after rows k) here (s .kept) (s .forced) r);
         forced = turn-forced (turn (after rows k) here (s .kept) (s .forced) r);
         before = below-next {P = λ i. after rows i .phase ≡ Running} k (s .before) (sym (s .kept .phase-is) ∙ running);
       })
@@ -132,24 +131,20 @@ module _ (rows : List Row) {g : Graph} {initials finals n : ℕ} (given : Given 
 -- a round of a machine that calls made, whose claims in force are read from the arrays
 pub round-kept : (m : Machine) → WellFormed m → {g : Graph} {initials finals n : ℕ} → Given (m .rows) g initials finals n
     → (force new all : Claims) {loop-rounds mix-rounds : List ℕ} {phase : Phase} {k : ℕ} → Mirrors m loop-rounds mix-rounds phase k
-    → OpenPlaces loop-rounds n (force .loops) → OpenPlaces mix-rounds n (force .mixes) → {accepted vain : Bool} {loop-marks mix-marks : List ℕ}
-    → Round g initials finals n force new all k loop-rounds mix-rounds accepted vain loop-marks mix-marks → Mirrors (next-round m) loop-marks mix-marks (judged accepted vain) (k + 1)
+    → OpenPlaces loop-rounds n (force .loops) → OpenPlaces mix-rounds n (force .mixes) → {accepted vain : Bool} {loop-notes mix-notes : List ℕ}
+    → Round g initials finals n force new all k loop-rounds mix-rounds accepted vain loop-notes mix-notes → Mirrors (next-round m) loop-notes mix-notes (judged accepted vain) (k + 1)
 round-kept m w {g} {n = n} given force new all {loop-rounds} {mix-rounds} kept is-l is-m r =
     next-kept m given kept (forced-of m w g n (given .sets-in) loop-rounds mix-rounds (kept .loops-are) (kept .mixes-are) force is-l is-m) r
 
--- running before each of k rounds, and no more after them or 129 of them done
-pub kept-settled : (rows : List Row) → Table rows → (k : ℕ) (loop-rounds mix-rounds : List ℕ) (phase : Phase) (count : ℕ)
-    → ((j : ℕ) → j < k → after rows j .phase ≡ Running) → (129 ≤ k) ⊎ (¬ (phase ≡ Running))
-    → Mirrors (after rows k) loop-rounds mix-rounds phase count → Mirrors (run (open-with rows) settle) loop-rounds mix-rounds phase count
-kept-settled rows t k loop-rounds mix-rounds phase count before ended kept =
-    subst (λ (m : Machine). Mirrors m loop-rounds mix-rounds phase count) (ap (after rows) all-done ∙ sym (settle-runs rows t)) kept
-  where
-    all-done : k ≡ settles rows .rounds
-    all-done = let s = settles rows in let l = no-more rows s k before in
-        ⊎-elim (λ h. omega (arith, l, few-rounds rows (t .few-sets))) (λ h. ⊎-elim (λ e. e) (λ i. absurd (h (kept .phase-is ∙ s .before k i))) (eq-or-lt-of-le l)) ended
+-- running no more after k rounds, or as many done as were called for
+pub stage-end : {rows : List Row} {g : Graph} {n : ℕ} {force : Claims} {loop-rounds mix-rounds : List ℕ} {phase : Phase} {k : ℕ}
+    → Stage rows g n force loop-rounds mix-rounds phase k → (most : ℕ) → k ≤ most → (k ≡ most) ⊎ (¬ (phase ≡ Running))
+    → Mirrors (run (open-with rows) (close ∷ replicate most round)) loop-rounds mix-rounds phase k
+stage-end {rows} {loop-rounds = loop-rounds} {mix-rounds} {phase} {k} s most few ended =
+    subst (λ (m : Machine). Mirrors m loop-rounds mix-rounds phase k)
+    (sym (work-runs rows most k few (s .before) (⊎-elim inl (λ h. inr (λ e. h (s .kept .phase-is ∙ e))) ended))) (s .kept)
 
 -- settled as it is closed
-pub closed-settled : (rows : List Row) {g : Graph} {initials finals n : ℕ} → Given rows g initials finals n → AcceptsRight g no-claims initials finals true
-    → Mirrors (run (open-with rows) settle) (replicate 64 0) (replicate 64 0) (judged true false) 0
-closed-settled rows given r = let s = stage-start rows given true r in
-    kept-settled rows (given .table) 0 (replicate 64 0) (replicate 64 0) (judged true false) 0 (s .before) (inr (λ e. let z : _≡_ {A = ℕ} 0 1 = cc in absurd (omega arith))) (s .kept)
+pub closed-end : (rows : List Row) {g : Graph} {initials finals n : ℕ} → Given rows g initials finals n → AcceptsRight g no-claims initials finals true
+    → (most : ℕ) → Mirrors (run (open-with rows) (close ∷ replicate most round)) (replicate 64 0) (replicate 64 0) (judged true false) 0
+closed-end rows given r most = stage-end (stage-start rows given true r) most (omega arith) (inr (λ e. let z : _≡_ {A = ℕ} 0 1 = cc in absurd (omega arith)))

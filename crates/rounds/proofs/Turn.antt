@@ -25,10 +25,10 @@ use Rattle.search.specs.Graph.{Graph}
 use Rattle.search.specs.Hops.{WithNew}
 use Rattle.search.specs.Masked.{Forced}
 use Rattle.search.specs.Promises.{AcceptsRight, NewlyHolds, Opened}
-use Rattle.rounds.specs.Arrays.{rounds-of, Marks}
+use Rattle.rounds.specs.Arrays.{rounds-of, Notes}
 use Rattle.rounds.specs.Promises.{Given, Mirrors, no-claims}
 use Rattle.rounds.proofs.OpenClaims.{set-at}
-use Rattle.rounds.proofs.Marking.{marked}
+use Rattle.rounds.proofs.Noting.{noted}
 
 none· : {A : Type 0} (l : List A) → Decides (nothing? l) ((x : A) → ¬ (x among l))
 none· [] = record { to = λ e x. List·Memᴰ·not-nil; of = λ h. refl }
@@ -60,19 +60,19 @@ walk-test rows {n = n} given claims b f r = alike
 -- ---- a round
 
 -- what a round does with the claims in force, and with the rounds of the claims
-pub record Turn (m : Machine) (g : Graph) (initials finals n : ℕ) (force new all : Claims) (accepted vain : Bool) (loop-marks mix-marks : List ℕ) : Type 0 where
+pub record Turn (m : Machine) (g : Graph) (initials finals n : ℕ) (force new all : Claims) (accepted vain : Bool) (loop-notes mix-notes : List ℕ) : Type 0 where
   pub given : Given (m .rows) g initials finals n
   pub forced : Forced (λ c. c among open-claims m) g n force
   pub opened : Opened g (m .rows) (open-claims m) n new
   pub with-new : WithNew force new all
   pub tested : AcceptsRight g all initials finals accepted
   pub vain-iff : Decides vain ((t : ℕ) → (¬ (t ∈ new .loops)) × (¬ (t ∈ new .mixes)))
-  pub loop-marked : Marks (rounds-of m loops) (new .loops) (m .rounds + 1) loop-marks
-  pub mix-marked : Marks (rounds-of m mixes) (new .mixes) (m .rounds + 1) mix-marks
+  pub loop-noted : Notes (rounds-of m loops) (new .loops) (m .rounds + 1) loop-notes
+  pub mix-noted : Notes (rounds-of m mixes) (new .mixes) (m .rounds + 1) mix-notes
 
 -- what it comes to: the rounds of the claims, the phase and the claims in force of the machine after the round
-module _ {m : Machine} {g : Graph} {initials finals n : ℕ} {force new all : Claims} {accepted vain : Bool} {loop-marks mix-marks : List ℕ}
-    (d : Turn m g initials finals n force new all accepted vain loop-marks mix-marks) where
+module _ {m : Machine} {g : Graph} {initials finals n : ℕ} {force new all : Claims} {accepted vain : Bool} {loop-notes mix-notes : List ℕ}
+    (d : Turn m g initials finals n force new all accepted vain loop-notes mix-notes) where
   -- the set at a place
   abbrev P : ℕ → ℕ
   P i = getD (g .sets) i 0
@@ -126,23 +126,23 @@ module _ {m : Machine} {g : Graph} {initials finals n : ℕ} {force new all : Cl
   apart : (c : Claim) → c among opened-next m → ¬ (c among open-claims m)
   apart c k = opened-next-iff m c .0 k .1
 
-  -- the marks of the round are those of the machine
-  marks-next : (claim : ℕ → Claim) (mask : ℕ) (marks : List ℕ) → ((i : ℕ) → (i ∈ mask) ↔ ((i < n) × claim (P i) among opened-next m))
-      → Marks (rounds-of m claim) mask (m .rounds + 1) marks → marks ≡ rounds-of (next-round m) claim
+  -- the notes of the round are those of the machine
+  notes-next : (claim : ℕ → Claim) (mask : ℕ) (notes : List ℕ) → ((i : ℕ) → (i ∈ mask) ↔ ((i < n) × claim (P i) among opened-next m))
+      → Notes (rounds-of m claim) mask (m .rounds + 1) notes → notes ≡ rounds-of (next-round m) claim
   unfolding next-round
-  marks-next claim mask marks h is =
+  notes-next claim mask notes h is =
       let e : m .rounds + 1 ≡ suc (m .rounds) = omega arith in
-      marked m (d .given .table .few-sets) claim (suc (m .rounds)) mask (opened-next m) (nothing? (opened-next m)) (λ i. place i (h i)) apart marks
-      (subst (λ (k : ℕ). Marks (rounds-of m claim) mask k marks) e is)
+      noted m (d .given .table .few-sets) claim (suc (m .rounds)) mask (opened-next m) (nothing? (opened-next m)) (λ i. place i (h i)) apart notes
+      (subst (λ (k : ℕ). Notes (rounds-of m claim) mask k notes) e is)
     where
       place : (i : ℕ) → (i ∈ mask) ↔ ((i < n) × claim (P i) among opened-next m) → (i ∈ mask) ↔ ((i < length (standing-sets (m .rows))) × claim (set-at m i) among opened-next m)
       place i f = rw (d .given .sets-in .count, ap (λ (l : List ℕ). getD l i 0) (d .given .sets-in .sets-are)) at f
 
-  pub turn-kept : Mirrors (next-round m) loop-marks mix-marks (judged accepted vain) (m .rounds + 1)
+  pub turn-kept : Mirrors (next-round m) loop-notes mix-notes (judged accepted vain) (m .rounds + 1)
   unfolding next-round
   turn-kept = record {
-    loops-are = marks-next loops (new .loops) loop-marks new-loops (d .loop-marked);
-    mixes-are = marks-next mixes (new .mixes) mix-marks new-mixes (d .mix-marked);
+    loops-are = notes-next loops (new .loops) loop-notes new-loops (d .loop-noted);
+    mixes-are = notes-next mixes (new .mixes) mix-notes new-mixes (d .mix-noted);
     phase-is = phase-next;
     count-is = omega arith;
   }

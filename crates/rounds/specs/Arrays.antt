@@ -26,6 +26,6 @@ abbrev pub OpenPlaces : List ℕ → ℕ → ℕ → Type 0
 OpenPlaces rounds n r = (i : ℕ) → (i ∈ r) ↔ ((i < n) × (0 < getD rounds i 0))
 
 -- round k at the places that opened, and elsewhere the round that was there
-pub record Marks (old : List ℕ) (opened k : ℕ) (new : List ℕ) : Type 0 where
+pub record Notes (old : List ℕ) (opened k : ℕ) (new : List ℕ) : Type 0 where
   pub length-is : length new ≡ length old
   pub rounds-are : length old ≡ 64 → (i : ℕ) → i < 64 → getD new i 0 ≡ cond (member i opened) k (getD old i 0)

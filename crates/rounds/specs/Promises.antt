@@ -2,13 +2,13 @@
 use Prim.Native.Nat.{ℕ}
 use mathlib.Core.Path.{_≡_}
 use mathlib.Core.Bool.{Bool, false}
-use mathlib.Core.List.{List}
+use mathlib.Core.List.{List, _∷_}
 use lib.ListN.{replicate}
 use Rattle.rows.specs.declared.Row.{Row}
 use Rattle.orderings.specs.Steps.{loops, mixes}
 use Rattle.machine.specs.declared.Phase.{Phase}
-use Rattle.machine.specs.Machine.{Machine, open-with, judged, closed, next-round}
-use Rattle.machine.specs.Calls.{run, settle}
+use Rattle.machine.specs.Machine.{most-rounds, Machine, open-with, judged, closed, next-round}
+use Rattle.machine.specs.Calls.{close, round, run}
 use Rattle.machine.specs.WellFormed.{Table, WellFormed}
 use Rattle.search.specs.declared.Claims.{Claims}
 use Rattle.search.specs.Graph.{Graph}
@@ -58,7 +58,11 @@ pub record Unaccepted (g : Graph) (initials finals reached : ℕ) : Type 0 where
   pub reached-are : Reached g no-claims initials reached
   pub tested : AcceptsRight g no-claims initials finals false
 
+-- they are those of the machine with these rows, closed and after rounds until it is settled, k at most
+abbrev pub WorksUpTo : Graph → ℕ → ℕ → ℕ → ℕ → Progress → Type 0
+WorksUpTo g initials finals n k r = (rows : List Row) → Given rows g initials finals n
+    → Mirrors (run (open-with rows) (close ∷ replicate k round)) (r .«loop_rounds») (r .«mix_rounds») (r .phase) (r .rounds)
+
 -- they are those of the machine with these rows, closed and settled
 abbrev pub Settles : Graph → ℕ → ℕ → ℕ → Progress → Type 0
-Settles g initials finals n r = (rows : List Row) → Given rows g initials finals n
-    → Mirrors (run (open-with rows) settle) (r .«loop_rounds») (r .«mix_rounds») (r .phase) (r .rounds)
+Settles g initials finals n r = WorksUpTo g initials finals n most-rounds r

@@ -20,8 +20,8 @@ ghost use Rattle.machine.specs.declared.Phase.the-variants.{Running};
 ghost use Rattle.machine.specs.Machine.{judged};
 ghost use Rattle.search.specs.Graph.{graph-of, Indexed};
 ghost use Rattle.search.specs.Promises.{OpensBelow};
-ghost use Rattle.rounds.specs.Arrays.{OpenPlaces, Marks};
-ghost use Rattle.rounds.specs.Promises.{closed-as, Closes, DoesRound, Unaccepted, Settles};
+ghost use Rattle.rounds.specs.Arrays.{OpenPlaces, Notes};
+ghost use Rattle.rounds.specs.Promises.{closed-as, Closes, DoesRound, Unaccepted, WorksUpTo, Settles};
 
 // The rounds in which the loop and the mix of each set opened, 0 for not open; the phase and the count of rounds.
 pub struct Progress {
@@ -79,8 +79,8 @@ pub fn open_mask(rounds: &[u8; MOST_SETS], set_count: usize) -> Places
 }
 
 // Round `k` at the places of `opened`, and at the others what `rounds` had.
-fn mark(rounds: &mut [u8; MOST_SETS], opened: Places, round: u8)
-    ensures { λ _. ⌜ Marks (now (rounds .entry)) opened round (now (rounds .exit)) ⌝ }
+fn note(rounds: &mut [u8; MOST_SETS], opened: Places, round: u8)
+    ensures { λ _. ⌜ Notes (now (rounds .entry)) opened round (now (rounds .exit)) ⌝ }
 {
     let mut rest = opened;
     while rest != 0 {
@@ -150,8 +150,8 @@ pub fn round(
     let accepted = searches::accepts(graph, all, initials, finals);
     let phase = judge(accepted, nothing(new.loops, new.mixes));
     let count = before.rounds + 1;
-    mark(&mut loop_rounds, new.loops, count);
-    mark(&mut mix_rounds, new.mixes, count);
+    note(&mut loop_rounds, new.loops, count);
+    note(&mut mix_rounds, new.mixes, count);
     Progress {
         loop_rounds,
         mix_rounds,
@@ -160,11 +160,18 @@ pub fn round(
     }
 }
 
-// Rounds until the automaton is settled, where letters alone, which lead to the states `reached`, do not settle it: none needs more than 129.
-fn run_rounds(graph: &Masks, initials: Set, finals: Set, set_count: usize, reached: Set) -> Progress
-    requires { ⌜ («set_count» ≤ 64) × Indexed (now graph)
+// Rounds until the automaton is settled, `most` at most, where letters alone, which lead to the states `reached`, do not settle it.
+fn run_rounds(
+    graph: &Masks,
+    initials: Set,
+    finals: Set,
+    set_count: usize,
+    reached: Set,
+    most: u8,
+) -> Progress
+    requires { ⌜ («set_count» ≤ 64) × (most ≤ 129) × Indexed (now graph)
         × Unaccepted (graph-of (now graph)) initials finals reached ⌝ }
-    ensures { λ r. ⌜ Settles (graph-of (now (graph .entry))) initials finals «set_count» r ⌝ }
+    ensures { λ r. ⌜ WorksUpTo (graph-of (now (graph .entry))) initials finals «set_count» most r ⌝ }
 {
     let mut back = [0u64; MASKS];
     graphs::turn_indexed(graph, &mut back);
@@ -180,7 +187,7 @@ fn run_rounds(graph: &Masks, initials: Set, finals: Set, set_count: usize, reach
     let mut loop_rounds = [0u8; MOST_SETS];
     let mut mix_rounds = [0u8; MOST_SETS];
     let mut count: u8 = 0;
-    while count < MOST_ROUNDS {
+    while count < most {
         if !is_running(phase) {
             break;
         }
@@ -193,8 +200,8 @@ fn run_rounds(graph: &Masks, initials: Set, finals: Set, set_count: usize, reach
             nothing(new.loops, new.mixes),
         );
         count += 1;
-        mark(&mut loop_rounds, new.loops, count);
-        mark(&mut mix_rounds, new.mixes, count);
+        note(&mut loop_rounds, new.loops, count);
+        note(&mut mix_rounds, new.mixes, count);
     }
     Progress {
         loop_rounds,
@@ -204,15 +211,23 @@ fn run_rounds(graph: &Masks, initials: Set, finals: Set, set_count: usize, reach
     }
 }
 
-// Close, and rounds until the automaton is settled. The graph is turned round only where a round is done.
-pub fn settle(graph: &Masks, initials: Set, finals: Set, set_count: usize) -> Progress
-    requires { ⌜ («set_count» ≤ 64) × Indexed (now graph) ⌝ }
-    ensures { λ r. ⌜ Settles (graph-of (now (graph .entry))) initials finals «set_count» r ⌝ }
+// Close, and rounds until the automaton is settled, `most` at most. The graph is turned round only where a round is done.
+pub fn work(graph: &Masks, initials: Set, finals: Set, set_count: usize, most: u8) -> Progress
+    requires { ⌜ («set_count» ≤ 64) × (most ≤ 129) × Indexed (now graph) ⌝ }
+    ensures { λ r. ⌜ WorksUpTo (graph-of (now (graph .entry))) initials finals «set_count» most r ⌝ }
 {
     let none = Claims { loops: 0, mixes: 0 };
     let reached = searches::reached(graph, none, initials);
     if searches::accepted(initials, reached, finals) {
         return without_rounds(true);
     }
-    run_rounds(graph, initials, finals, set_count, reached)
+    run_rounds(graph, initials, finals, set_count, reached, most)
+}
+
+// Close, and rounds until the automaton is settled: none needs more than 129.
+pub fn settle(graph: &Masks, initials: Set, finals: Set, set_count: usize) -> Progress
+    requires { ⌜ («set_count» ≤ 64) × Indexed (now graph) ⌝ }
+    ensures { λ r. ⌜ Settles (graph-of (now (graph .entry))) initials finals «set_count» r ⌝ }
+{
+    work(graph, initials, finals, set_count, MOST_ROUNDS)
 }

@@ -1,4 +1,4 @@
--- A row's key: it gives the row back (`key-back`, `key-apart`), and it has the order of the row's bytes (`key-order`). The letter rows from
+-- A row's key: it gives the row back (`key-back`, `key-apart`), its second word has two bytes (`low-short`), and it has the order of the row's bytes (`key-order`). The letter rows from
 -- one state stand together, by letter and then by target (`letter-least`, `letter-between`, `letter-order`).
 use Prim.Native.Nat.{ℕ, zero, suc, _-_, _<_, _≤_, _+_, _*_, _/_, _%_, _^_}
 use mathlib.Core.Path.{_≡_, refl, ap, sym, _∙_}
@@ -53,6 +53,16 @@ key-back (Strike s) f =
 -- rows that fit and have one key are one row
 pub key-apart : (r s : Row) → Fits r → Fits s → high r ≡ high s → low r ≡ low s → r ≡ s
 key-apart r s f g h l = let a = key-back r f in let b = key-back s g in cc
+
+-- the second word has two bytes
+pub low-short : (r : Row) → Fits r → low r < 65536
+unfolding low
+low-short (Initial s) f = omega arith
+low-short (Final s) f = omega arith
+low-short (Successor p a q) f = omega arith
+low-short (LeftLimit P q) f = omega arith
+low-short (RightLimit q P) f = omega arith
+low-short (Strike s) f = omega arith
 
 -- zeros up to ten bytes
 abbrev fill : Row → List ℕ

@@ -11,7 +11,7 @@ use Rattle.rows.specs.declared.Row.{Row}
 use Rattle.rows.specs.declared.Row.the-variants.{Initial, Final, Successor, LeftLimit, RightLimit, Strike}
 use Rattle.rows.specs.Rows.{numbers, same-numbers, same-row, stands?}
 
-same-numbers· : (l m : List ℕ) → Decides (same-numbers l m) (l ≡ m)
+pub same-numbers· : (l m : List ℕ) → Decides (same-numbers l m) (l ≡ m)
 same-numbers· [] [] = record { to = λ t. refl; of = λ e. refl }
 same-numbers· [] (y ∷ m) = record { to = λ t. absurd (false≢true t); of = λ e. cc }
 same-numbers· (x ∷ l) [] = record { to = λ t. absurd (false≢true t); of = λ e. cc }

@@ -66,10 +66,11 @@ fn say_report(call: Report, answer: Answer, phase: Phase, buffer: &[u8]) {
     }
 }
 
-// Writes the answer to the call of a command.
+// Writes the answer to the call of a command. A mark and a return are answered with `ok` in any phase: neither tells where rounds led.
 pub(crate) fn say_answer(command: Command, answer: Answer, phase: Phase, buffer: &[u8]) {
     match command {
         Command::Reports(call, _) => say_report(call, answer, phase, buffer),
+        Command::Names(_, _) => say_done(answer, Phase::Open),
         _ => say_done(answer, phase),
     }
 }

@@ -5,6 +5,7 @@ use crate::checks::say_kept;
 use commands::Change;
 use commands::Command;
 use commands::Move;
+use commands::Naming;
 use commands::Report;
 use machine::Answer;
 use machine::LONGEST_SHEET;
@@ -27,6 +28,13 @@ fn go(session: Session, call: Move) -> Reply {
         Move::Round => session.round(),
         Move::Reopen => session.reopen(),
         Move::Verdict => session.verdict(),
+    }
+}
+
+fn by_name(session: Session, call: Naming, name: &[u8]) -> Reply {
+    match call {
+        Naming::Mark => session.mark(name),
+        Naming::Return => session.return_to(name),
     }
 }
 
@@ -58,6 +66,7 @@ fn act(session: Session, command: Command, batch: &[u8], buffer: &mut [u8]) -> R
         Command::Changes(call, n) => change(session, call, first(batch, n)),
         Command::Reports(call, n) => lend(session, call, n, buffer),
         Command::Moves(call) => go(session, call),
+        Command::Names(call, n) => by_name(session, call, first(batch, n)),
         _ => Reply {
             session,
             answer: Answer::Done,
@@ -110,13 +119,14 @@ fn is_call(command: Command) -> bool {
         Command::Changes(_, _) => true,
         Command::Reports(_, _) => true,
         Command::Moves(_) => true,
+        Command::Names(_, _) => true,
         _ => false,
     }
 }
 
 // Runs a line: the call that it asks for, or none.
 pub(crate) fn run_line(session: Session, line: &[u8], checks: bool) -> Session {
-    // Room for the batch of any line that is held.
+    // Room for the batch of any line that is held; a name that has none is too long.
     let mut batch = [0u8; 70000];
     let command = commands::parse(line, &mut batch);
     if is_call(command) {

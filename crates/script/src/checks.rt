@@ -5,6 +5,9 @@ use machine::MOST_ROWS;
 use machine::MOST_SETS;
 use machine::Phase;
 use machine::Verdict;
+use marks::Kept;
+use marks::MOST_MARKS;
+use marks::Marks;
 use program_output::beyond;
 use program_output::first;
 use program_output::same;
@@ -65,13 +68,15 @@ fn phase_number(phase: Phase) -> u64 {
     }
 }
 
-// The digest of the rows: save shows every place, those too that are not used.
+// The digest of the rows: a save of them in a record that is else fresh shows every place, those too that are not used.
 fn rows_digest(session: Session) -> u64 {
     let mut buffer = [0u8; LONGEST_SHEET];
+    let rows = session.rows;
+    let fresh = Session::fresh();
     let whole = Session {
+        rows,
         row_count: MOST_ROWS,
-        set_count: 0,
-        ..session
+        ..fresh
     };
     whole.save(&mut buffer);
     with_bytes(1, &buffer)
@@ -91,9 +96,45 @@ fn sets_digest(session: Session) -> u64 {
     with_bytes(loops, &session.mix_rounds)
 }
 
+fn wide_word(x: u16) -> u64 {
+    x as u64
+}
+
+// The digest goes on with the keys of rows, those too that are not used.
+fn with_keys(digest: u64, high: &[u64; MOST_ROWS], low: &[u16; MOST_ROWS]) -> u64 {
+    let mut found = digest;
+    let mut i = 0;
+    while i < MOST_ROWS {
+        found = mixed(mixed(found, high[i]), wide_word(low[i]));
+        i += 1;
+    }
+    found
+}
+
+// The digest of what is kept under a name.
+fn kept_digest(kept: Kept) -> u64 {
+    let phase = kept.phase;
+    let high = kept.high;
+    let low = kept.low;
+    let counts = mixed(kept.row_count as u64, kept.rounds as u64);
+    with_keys(mixed(counts, phase_number(phase)), &high, &low)
+}
+
+// The digest of the marks: of every place, those too that are not used.
+fn marks_digest(marks: Marks) -> u64 {
+    let mut found = with_sets(marks.count as u64, &marks.names);
+    let mut i = 0;
+    while i < MOST_MARKS {
+        found = mixed(found, kept_digest(marks.kept_at(i)));
+        i += 1;
+    }
+    found
+}
+
 fn digest(session: Session) -> u64 {
+    let marks = session.marks;
     let numbers = mixed(rows_digest(session), numbers_digest(session));
-    mixed(numbers, sets_digest(session))
+    mixed(mixed(numbers, sets_digest(session)), marks_digest(marks))
 }
 
 // Are the bytes as they were lent?

@@ -91,6 +91,12 @@ fn finish(session: Session, line: &[u8], held: usize, checks: bool) -> State {
     }
 }
 
+// Runs all lines of a text.
+pub(crate) fn run_text(session: Session, text: &[u8], line: &mut [u8]) {
+    let state = run_lines(session, text, line, 0, false);
+    finish(state.session, line, state.held, false);
+}
+
 // Says why a read failed, and ends.
 fn stop(session: Session) -> State {
     os::fail(b"standard input");

@@ -7,13 +7,21 @@ mod input;
 use machine::LONGEST_BATCH;
 use session::Session;
 
+// A batch of 65,536 bytes in hex and the word before it have 131,081 bytes at most.
+const LONGEST_LINE: usize = 140000;
+
 // Runs the lines of standard input on a fresh session. Where it checks, comments are written out, and the answer to a call says whether
 // the session and the buffer are as they were.
 pub fn run(checks: bool) {
     let mut read = [0u8; LONGEST_BATCH];
-    // A batch of 65,536 bytes in hex and the word before it have 131,081 bytes at most.
-    let mut line = [0u8; 140000];
+    let mut line = [0u8; LONGEST_LINE];
     input::run(Session::fresh(), &mut read, &mut line, checks);
+}
+
+// Runs the lines of a text on a fresh session.
+pub fn run_text(text: &[u8]) {
+    let mut line = [0u8; LONGEST_LINE];
+    input::run_text(Session::fresh(), text, &mut line);
 }
 
 // Runs one line on any record, with the checks.

@@ -8,7 +8,7 @@ use Rattle.machine.specs.declared.Answer.{Answer}
 use Rattle.machine.specs.declared.Answer.the-variants.{Done, Wrote, Decided, Refused}
 use Rattle.machine.specs.declared.Phase.{Phase}
 use Rattle.machine.specs.declared.Phase.the-variants.{Open}
-use Rattle.machine.specs.Machine.{Machine}
+use Rattle.machine.specs.Marks.{Marked, on}
 use Rattle.machine.specs.Calls.{Call, load, withdraw, with-rows, call-in, call}
 use Rattle.machine.specs.WellFormed.{Table}
 use Rattle.machine.proofs.Phases.{Feeds, load-feeds, withdraw-feeds}
@@ -38,6 +38,7 @@ pub takes-done : (s : Session) (high low sets : List ℕ) (n k : ℕ) (slots : L
       «mix_rounds» = s .«mix_rounds»;
       phase = s .phase;
       rounds = s .rounds;
+      marks = s .marks;
     }) a)
 takes-done s high low sets n k slots h e = rw e (λ rows t f. rw (h rows (t .fit) (f .0), f .0 .count, f .1 .sets-are, f .1 .count))
 
@@ -50,29 +51,29 @@ takes-kept s Has (Refused n place) d = refl
 
 -- what the batch comes to in the arrays, it comes to in the machine
 batch-keeps : {c : Call} {rule : Row → List Row → Turn (List Row)} {batch : List ℕ} → Feeds c rule batch → (s : Session) → HasState s IsOpen → (a : Answer) (Has Then : List Row → Type 0)
-    → ((m : Machine) → Represents m s → Comes Has (feed rule (m .rows) batch) a) → ((rows : List Row) → Table rows → Has rows → Then rows)
-    → {r : Reply} → TakesTable s Then a r → Promised s c [] [] r
-batch-keeps {c} {rule} {batch} feeds s state a Has Then comes then {r} takes = promised (state .0) refl (λ m p. by m p (in-phase m s p (state .1)))
+    → ((x : Marked) → Represents x s → Comes Has (feed rule (x .now .rows) batch) a) → ((rows : List Row) → Table rows → Has rows → Then rows)
+    → {r : Reply} → TakesTable s Then a r → Promised s (on c) [] [] r
+batch-keeps {c} {rule} {batch} feeds s state a Has Then comes then {r} takes = promised (state .0) refl (λ x p. by x p (in-phase x s p (state .1)))
   where
-    by : (m : Machine) → Represents m s → m .phase ≡ Open → Does m c [] [] r
-    by m p e = go (feed rule (m .rows) batch) refl (comes m p)
+    by : (x : Marked) → Represents x s → x .now .phase ≡ Open → Does x (on c) [] [] r
+    by x p e = go (feed rule (x .now .rows) batch) refl (comes x p)
       where
-        fed-call : (x : Fed (List Row)) → feed rule (m .rows) batch ≡ x → call m c ≡ with-rows m x
-        fed-call x f = ap (λ (p : Phase). call-in p m c) e ∙ feeds .in-open m ∙ ap (with-rows m) f
+        fed-call : (y : Fed (List Row)) → feed rule (x .now .rows) batch ≡ y → call (x .now) c ≡ with-rows (x .now) y
+        fed-call y f = ap (λ (p : Phase). call-in p (x .now) c) e ∙ feeds .in-open (x .now) ∙ ap (with-rows (x .now)) f
 
-        go : (x : Fed (List Row)) → feed rule (m .rows) batch ≡ x → Comes Has x a → Does m c [] [] r
-        go (fed rows) f h = does-done m c [] (fed-call (fed rows) f) (rows-table m s p e rows (h .1))
+        go : (y : Fed (List Row)) → feed rule (x .now .rows) batch ≡ y → Comes Has y a → Does x (on c) [] [] r
+        go (fed rows) f h = does-done x c [] (fed-call (fed rows) f) (rows-table x s p e rows (h .1))
             (subst (λ (b : Answer). TakesTable s Then b r) (h .0) takes rows (h .1) (then rows (h .1) (h .2)))
-        go (failed n place) f h = does-refused m c [] p (fed-call (failed n place) f) (subst (λ (b : Answer). TakesTable s Then b r) h takes)
+        go (failed n place) f h = does-refused x c [] p (fed-call (failed n place) f) (subst (λ (b : Answer). TakesTable s Then b r) h takes)
 
 module _ (s : Session) (state : HasState s IsOpen) (high low : List ℕ) (keyed : Keyed (standing s) high low (s .«row_count»)) (batch : List ℕ) {r : Reply} where
   pub load-keeps : (Has : ℕ → ℕ → List Row → Type 0) (l : LoadedRows) → LoadsRows (Filed high low (s .sets) (s .«row_count») (s .«set_count»)) Has batch l
-      → TakesTable s (Has (l .rows) (l .sets)) (l .answer) r → Promised s (load batch) [] [] r
+      → TakesTable s (Has (l .rows) (l .sets)) (l .answer) r → Promised s (on (load batch)) [] [] r
   load-keeps Has l h = let has = Has (l .rows) (l .sets) in
-      batch-keeps (load-feeds batch) s state (l .answer) has has (λ m p. h .comes (m .rows) (p .formed .table) (keyed-of m s p high low keyed, sets-in-of m s p)) (λ rows t k. k)
+      batch-keeps (load-feeds batch) s state (l .answer) has has (λ x p. h .comes (x .now .rows) (p .formed .now-formed .table) (keyed-of x s p high low keyed, sets-in-of x s p)) (λ rows t k. k)
 
   pub withdraw-keeps : (high′ low′ : List ℕ) (w : WithdrawnRows) → WithdrawsRows (λ rows. Keyed rows high low (s .«row_count»)) (λ n rows. Keyed rows high′ low′ n) batch w
-      → (f : FoundSets) → CollectsSets high′ low′ (w .rows) f → TakesTable s (Filed high′ low′ (f .sets) (w .rows) (f .count)) (w .answer) r → Promised s (withdraw batch) [] [] r
+      → (f : FoundSets) → CollectsSets high′ low′ (w .rows) f → TakesTable s (Filed high′ low′ (f .sets) (w .rows) (f .count)) (w .answer) r → Promised s (on (withdraw batch)) [] [] r
   withdraw-keeps high′ low′ w h f g =
       batch-keeps (withdraw-feeds batch) s state (w .answer) (λ rows. Keyed rows high′ low′ (w .rows)) (Filed high′ low′ (f .sets) (w .rows) (f .count))
-      (λ m p. h .comes (m .rows) (p .formed .table) (keyed-of m s p high low keyed)) (λ rows t k. (k, g .holds rows t k))
+      (λ x p. h .comes (x .now .rows) (p .formed .now-formed .table) (keyed-of x s p high low keyed)) (λ rows t k. (k, g .holds rows t k))

@@ -12,6 +12,7 @@ use Rattle.machine.specs.declared.Verdict.{Verdict}
 use Rattle.machine.specs.declared.Phase.{Phase}
 use Rattle.machine.specs.declared.Phase.the-variants.{Open, Running, Settled}
 use Rattle.machine.specs.Machine.{Machine}
+use Rattle.machine.specs.Marks.{Marked, MarkedCall, on, marked-call}
 use Rattle.machine.specs.Calls.{Call, Next, accept, refuse, refuse-at, call-in, call, Tells}
 use Rattle.machine.specs.Causes.{foreign-record, NotOpen, running, settled}
 use Rattle.machine.proofs.Answers.{tells-as, tells-refused}
@@ -23,39 +24,41 @@ use Rattle.session.proofs.State.{the-type}
 use Rattle.session.specs.declared.State.the-variants.{Foreign, Open as IsOpen, Running as IsRunning, Settled as IsSettled}
 use Rattle.session.specs.Record.{record-of, Represents}
 use Rattle.session.specs.Promise.{Does, Keeps, Ranged, IsForeign, Promised, HasState}
-use Rattle.session.specs.Standing.{reply}
-use Rattle.session.proofs.Whole.{count-of, set-count-of, phase-of, rounds-count}
+use Rattle.session.specs.Standing.{reply, with-now}
+use Rattle.session.proofs.Whole.{count-of, set-count-of, phase-of, rounds-count, mark-count-of}
 
 -- ---- what is done for one machine
 
 -- the machine is in the record's phase
-pub in-phase : (m : Machine) (s : Session) → Represents m s → {p : Phase} → s .phase ≡ p → m .phase ≡ p
-in-phase m s k e = sym (phase-of m s k) ∙ e
+pub in-phase : (x : Marked) (s : Session) → Represents x s → {p : Phase} → s .phase ≡ p → x .now .phase ≡ p
+in-phase x s k e = sym (phase-of x s k) ∙ e
 
-module _ (m : Machine) (c : Call) {old new : List ℕ} {r : Reply} where
-  pub does-as : (n : Next) → call m c ≡ n → r .session ≡ record-of (n .machine) → Tells (n .answer) old new (r .answer) → Does m c old new r
-  does-as n e f t = record { session-is = f ∙ ap (λ (x : Next). record-of (x .machine)) (sym e); tells = tells-as (ap (λ (x : Next). x .answer) (sym e)) t }
+module _ (x : Marked) (c : Call) {old new : List ℕ} {r : Reply} where
+  pub does-as : (n : Next) → call (x .now) c ≡ n → r .session ≡ record-of (with-now x (n .machine)) → Tells (n .answer) old new (r .answer) → Does x (on c) old new r
+  unfolding marked-call
+  does-as n e f t = record { session-is = f ∙ ap (λ (y : Next). record-of (with-now x (y .machine))) (sym e); tells = tells-as (ap (λ (y : Next). y .answer) (sym e)) t }
 
-module _ (m : Machine) (c : Call) (old : List ℕ) {r : Reply} where
-  pub does-done : {to : Machine} {t : Session} → call m c ≡ accept to → t ≡ record-of to → r ≡ reply t Done → Does m c old old r
-  does-done {to} e f g = does-as m c (accept to) e (ap (λ (x : Reply). x .session) g ∙ f) (rw g (record { answer-is = refl; buffer-is = refl }))
+module _ (x : Marked) (c : Call) (old : List ℕ) {r : Reply} where
+  pub does-done : {to : Machine} {t : Session} → call (x .now) c ≡ accept to → t ≡ record-of (with-now x to) → r ≡ reply t Done → Does x (on c) old old r
+  does-done {to} e f g = does-as x c (accept to) e (ap (λ (y : Reply). y .session) g ∙ f) (rw g (record { answer-is = refl; buffer-is = refl }))
 
-  pub does-refused : {s : Session} {n place : ℕ} → Represents m s → call m c ≡ refuse-at m n place → r ≡ reply s (Refused n place) → Does m c old old r
-  does-refused {s} {n} {place} p e g = does-as m c (refuse-at m n place) e (ap (λ (x : Reply). x .session) g ∙ p .whole) (rw g (tells-refused n place old))
+  pub does-refused : {s : Session} {n place : ℕ} → Represents x s → call (x .now) c ≡ refuse-at (x .now) n place → r ≡ reply s (Refused n place) → Does x (on c) old old r
+  does-refused {s} {n} {place} p e g = does-as x c (refuse-at (x .now) n place) e (ap (λ (y : Reply). y .session) g ∙ p .whole) (rw g (tells-refused n place old))
 
 -- ---- what a record is
 
 -- the counts of a machine's record are within the arrays, and it has done no more rounds than calls lead to
-pub ranged : (m : Machine) (s : Session) → Represents m s → Ranged s
-ranged m s p = record {
-  few = omega (arith, count-of m s p, p .formed .table .few);
-  few-sets = omega (arith, set-count-of m s p, p .formed .table .few-sets);
-  few-rounds = rw (rounds-count m s p, phase-of m s p) (rounds-done m (p .formed));
+pub ranged : (x : Marked) (s : Session) → Represents x s → Ranged s
+ranged x s p = let w = p .formed .now-formed in record {
+  few = omega (arith, count-of x s p, w .table .few);
+  few-sets = omega (arith, set-count-of x s p, w .table .few-sets);
+  few-rounds = rw (rounds-count x s p, phase-of x s p) (rounds-done (x .now) w);
+  few-marks = omega (arith, mark-count-of x s p, p .formed .few);
 }
 
 -- a foreign record is that of no machine
-pub foreign-none : (m : Machine) (s : Session) → Represents m s → ¬ IsForeign s
-foreign-none m s p f = f (ranged m s p)
+pub foreign-none : (x : Marked) (s : Session) → Represents x s → ¬ IsForeign s
+foreign-none x s p f = f (ranged x s p)
 
 -- at the state that was found
 pub known : (s : Session) (x : State) {q : State} → HasState s x → x ≡ q → HasState s q
@@ -77,38 +80,39 @@ in-any-phase s (IsSettled v) h k = h .0
 
 -- ---- what is promised
 
-module _ {s : Session} {c : Call} {old new : List ℕ} {r : Reply} where
+module _ {s : Session} {c : MarkedCall} {old new : List ℕ} {r : Reply} where
   pub promised : Ranged s → length new ≡ length old → Keeps s c old new r → Promised s c old new r
   promised g l k = record { keeps = k; foreign = λ f. absurd (f g); free = l }
 
 module _ (s : Session) {c : Call} {old : List ℕ} {r : Reply} where
   -- refused in a phase
-  refuses : {p : Phase} {n : ℕ} → Ranged s × (s .phase ≡ p) → ((m : Machine) → call-in p m c ≡ refuse m n) → r ≡ reply s (Refused n 0) → Promised s c old old r
-  refuses h f g = promised (h .0) refl (λ m k. does-refused m c old k (ap (λ (x : Phase). call-in x m c) (in-phase m s k (h .1)) ∙ f m) g)
+  refuses : {p : Phase} {n : ℕ} → Ranged s × (s .phase ≡ p) → ((m : Machine) → call-in p m c ≡ refuse m n) → r ≡ reply s (Refused n 0) → Promised s (on c) old old r
+  refuses h f g = promised (h .0) refl (λ x k. does-refused x c old k (ap (λ (y : Phase). call-in y (x .now) c) (in-phase x s k (h .1)) ∙ f (x .now)) g)
 
   -- done in a phase
-  pub done-in : {p : Phase} {t : Session} (to : Machine → Machine) → Ranged s × (s .phase ≡ p) → ((m : Machine) → Represents m s → m .phase ≡ p → call-in p m c ≡ accept (to m))
-      → ((m : Machine) → Represents m s → t ≡ record-of (to m)) → r ≡ reply t Done → Promised s c old old r
+  pub done-in : {p : Phase} {t : Session} (to : Machine → Machine) → Ranged s × (s .phase ≡ p) → ((m : Machine) → call-in p m c ≡ accept (to m))
+      → ((x : Marked) → Represents x s → t ≡ record-of (with-now x (to (x .now)))) → r ≡ reply t Done → Promised s (on c) old old r
   done-in to h f t g = promised (h .0) refl
-      (λ m k. let e = in-phase m s k (h .1) in does-done m c old (ap (λ (x : Phase). call-in x m c) e ∙ f m k e) (t m k) g)
+      (λ x k. does-done x c old (ap (λ (y : Phase). call-in y (x .now) c) (in-phase x s k (h .1)) ∙ f (x .now)) (t x k) g)
 
 -- refused, by the state that was found
-module _ (s : Session) (x : State) (h : HasState s x) {c : Call} {old : List ℕ} {r : Reply} where
+module _ (s : Session) (x : State) (h : HasState s x) {c : MarkedCall} {old : List ℕ} {r : Reply} where
   pub away : x ≡ Foreign → r ≡ reply s (Refused foreign-record 0) → Promised s c old old r
   away e g = let f = known s x h e in
       record {
-        keeps = λ m p. absurd (foreign-none m s p f);
+        keeps = λ y p. absurd (foreign-none y s p f);
         foreign = λ i. record { session-is = ap (λ (y : Reply). y .session) g; tells = rw g (tells-refused foreign-record 0 old) };
         free = refl;
       }
 
-  pub refused-open : {n : ℕ} → x ≡ IsOpen → r ≡ reply s (Refused n 0) → ((m : Machine) → call-in Open m c ≡ refuse m n) → Promised s c old old r
+module _ (s : Session) (x : State) (h : HasState s x) {c : Call} {old : List ℕ} {r : Reply} where
+  pub refused-open : {n : ℕ} → x ≡ IsOpen → r ≡ reply s (Refused n 0) → ((m : Machine) → call-in Open m c ≡ refuse m n) → Promised s (on c) old old r
   refused-open e g f = refuses s (known s x h e) f g
 
-  pub refused-running : {n : ℕ} → x ≡ IsRunning → r ≡ reply s (Refused n 0) → ((m : Machine) → call-in Running m c ≡ refuse m n) → Promised s c old old r
+  pub refused-running : {n : ℕ} → x ≡ IsRunning → r ≡ reply s (Refused n 0) → ((m : Machine) → call-in Running m c ≡ refuse m n) → Promised s (on c) old old r
   refused-running e g f = refuses s (known s x h e) f g
 
-  pub refused-settled : {n : ℕ} (v : Verdict) → x ≡ IsSettled v → r ≡ reply s (Refused n 0) → ((m : Machine) → call-in (Settled v) m c ≡ refuse m n) → Promised s c old old r
+  pub refused-settled : {n : ℕ} (v : Verdict) → x ≡ IsSettled v → r ≡ reply s (Refused n 0) → ((m : Machine) → call-in (Settled v) m c ≡ refuse m n) → Promised s (on c) old old r
   refused-settled v e g f = refuses s (known s x h e) f g
 
 -- what a call's arms ask; what the machine refuses there is listed beside it

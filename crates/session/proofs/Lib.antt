@@ -6,3 +6,4 @@ pub mod Batches
 pub mod Rounded
 pub mod Phases
 pub mod Written
+pub mod Marked

@@ -10,6 +10,7 @@ use Rattle.machine.specs.declared.Phase.the-variants.{Open}
 use Rattle.machine.specs.Machine.{closed, next-round, reopened}
 use Rattle.machine.specs.Calls.{close, round, reopen, verdict, verdict-of, decide}
 use Rattle.machine.specs.Causes.{NotOpen}
+use Rattle.machine.specs.Marks.{on}
 use Rattle.machine.proofs.Answers.{tells-decided}
 use Rattle.machine.proofs.Outcomes.{deciding}
 use Rattle.machine.proofs.Phases.{open-closes, running-rounds, not-open-reopens}
@@ -27,13 +28,13 @@ use Rattle.session.proofs.Gate.{does-as, promised, done-in}
 use Rattle.session.proofs.Rounded.{given-of, closed-record, reopened-record, round-record}
 
 module _ (s : Session) (a : Automaton) (reads : Reads s a) (now : Progress) {r : Reply} (made : r ≡ reply (with-rounds s now) Done) where
-  pub close-done : HasState s IsOpen → Closes (graph-of (a .graph)) (a .initials) (a .finals) now → Promised s close [] [] r
-  close-done state c = done-in s closed state (λ m p e. open-closes m) (λ m p. closed-record m s p a now reads c) made
+  pub close-done : HasState s IsOpen → Closes (graph-of (a .graph)) (a .initials) (a .finals) now → Promised s (on close) [] [] r
+  close-done state c = done-in s closed state open-closes (λ x p. closed-record x s p a now reads c) made
 
   pub round-done : HasState s IsRunning → (before : Progress) → before ≡ rounds-in s
-      → DoesRound (graph-of (a .graph)) (a .initials) (a .finals) (s .«set_count») before now → Promised s round [] [] r
+      → DoesRound (graph-of (a .graph)) (a .initials) (a .finals) (s .«set_count») before now → Promised s (on round) [] [] r
   round-done state before k d =
-      done-in s next-round state (λ m p e. running-rounds m) (λ m p. round-record m s p a now reads (rw k at d)) made
+      done-in s next-round state running-rounds (λ x p. round-record x s p a now reads (rw k at d)) made
 
 -- a running session has room for a round
 pub rounds-few : (s : Session) (before : Progress) → before ≡ rounds-in s → HasState s IsRunning → before .rounds < 129
@@ -41,10 +42,10 @@ rounds-few s before k h = rw k (omega (arith, rw (h .1) at (h .0 .few-rounds)))
 
 pub reopen-done : (s : Session) {r : Reply} → Ranged s → NotOpen (s .phase)
     → r ≡ reply (with-rounds s (record { «loop_rounds» = replicate 64 0; «mix_rounds» = replicate 64 0; phase = Open; rounds = 0 })) Done
-    → Promised s reopen [] [] r
-reopen-done s g n made = done-in s reopened (g, refl) (λ m p e. not-open-reopens n m) (λ m p. reopened-record m s p) made
+    → Promised s (on reopen) [] [] r
+reopen-done s g n made = done-in s reopened (g, refl) (not-open-reopens n) (λ x p. reopened-record x s p) made
 
 pub decides-rows : (s : Session) → Ranged s → (a : Automaton) → Reads s a → (v : Verdict) → Judges (graph-of (a .graph)) (a .initials) (a .finals) (s .«set_count») v
-    → Promised s verdict [] [] (reply s (Decided v))
+    → Promised s (on verdict) [] [] (reply s (Decided v))
 decides-rows s ranged a reads v h = promised ranged refl
-    (λ m p. does-as m verdict (decide m) (deciding m) (p .whole) (rw (h (m .rows) (given-of m s p a reads)) (tells-decided (verdict-of (m .rows)) [])))
+    (λ x p. does-as x verdict (decide (x .now)) (deciding (x .now)) (p .whole) (rw (h (x .now .rows) (given-of x s p a reads)) (tells-decided (verdict-of (x .now .rows)) [])))

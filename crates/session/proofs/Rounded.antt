@@ -4,6 +4,7 @@ use lib.ListN.{replicate}
 use Rattle.orderings.specs.Steps.{loops, mixes}
 use Rattle.machine.specs.declared.Phase.the-variants.{Open}
 use Rattle.machine.specs.Machine.{Machine, closed, next-round, reopened}
+use Rattle.machine.specs.Marks.{Marked}
 use Rattle.search.specs.Graph.{graph-of}
 use Rattle.automaton.specs.declared.Automaton.{Automaton}
 use Rattle.rounds.specs.declared.Progress.{Progress}
@@ -12,17 +13,17 @@ use Rattle.rounds.proofs.OpenClaims.{no-rounds}
 use Rattle.whole_sheet.proofs.Automata.{given-rows}
 use Rattle.session.specs.declared.Session.{Session}
 use Rattle.session.specs.Record.{record-of, Represents}
-use Rattle.session.specs.Standing.{rounds-in, with-rounds, Reads}
+use Rattle.session.specs.Standing.{rounds-in, with-rounds, Reads, with-now}
 use Rattle.session.proofs.Whole.{sets-in-of}
 
-module _ (m : Machine) (s : Session) (p : Represents m s) where
+module _ (x : Marked) (s : Session) (p : Represents x s) where
   -- the masks of the machine's rows
-  pub given-of : (a : Automaton) → Reads s a → Given (m .rows) (graph-of (a .graph)) (a .initials) (a .finals) (s .«set_count»)
-  given-of a h = given-rows (p .formed .table) (sets-in-of m s p) (h m p)
+  pub given-of : (a : Automaton) → Reads s a → Given (x .now .rows) (graph-of (a .graph)) (a .initials) (a .finals) (s .«set_count»)
+  given-of a h = given-rows (p .formed .now-formed .table) (sets-in-of x s p) (h x p)
 
-  pub kept-of : Mirrors m (s .«loop_rounds») (s .«mix_rounds») (s .phase) (s .rounds)
+  pub mirrors-of : Mirrors (x .now) (s .«loop_rounds») (s .«mix_rounds») (s .phase) (s .rounds)
   unfolding record-of
-  kept-of = record {
+  mirrors-of = record {
     loops-are = ap (λ (t : Session). t .«loop_rounds») (p .whole);
     mixes-are = ap (λ (t : Session). t .«mix_rounds») (p .whole);
     phase-is = ap (λ (t : Session). t .phase) (p .whole);
@@ -30,23 +31,23 @@ module _ (m : Machine) (s : Session) (p : Represents m s) where
   }
 
   -- the record of a machine with the same rows
-  kept-record : (to : Machine) (now : Progress) → to .rows ≡ m .rows → Mirrors to (now .«loop_rounds») (now .«mix_rounds») (now .phase) (now .rounds)
-      → with-rounds s now ≡ record-of to
+  pub kept-record : (to : Machine) (now : Progress) → to .rows ≡ x .now .rows → Mirrors to (now .«loop_rounds») (now .«mix_rounds») (now .phase) (now .rounds)
+      → with-rounds s now ≡ record-of (with-now x to)
   unfolding record-of
-  kept-record to now same k = ap (λ (x : Session). with-rounds x now) (p .whole) ∙ rw (k .loops-are, k .mixes-are, k .phase-is, k .count-is, same) refl
+  kept-record to now same k = ap (λ (t : Session). with-rounds t now) (p .whole) ∙ rw (k .loops-are, k .mixes-are, k .phase-is, k .count-is, same) refl
 
   pub closed-record : (a : Automaton) (now : Progress) → Reads s a → Closes (graph-of (a .graph)) (a .initials) (a .finals) now
-      → with-rounds s now ≡ record-of (closed m)
+      → with-rounds s now ≡ record-of (with-now x (closed (x .now)))
   unfolding closed
-  closed-record a now h c = kept-record (closed m) now refl (c m (s .«set_count») (given-of a h))
+  closed-record a now h c = kept-record (closed (x .now)) now refl (c (x .now) (s .«set_count») (given-of a h))
 
   pub round-record : (a : Automaton) (now : Progress) → Reads s a
       → DoesRound (graph-of (a .graph)) (a .initials) (a .finals) (s .«set_count») (rounds-in s) now
-      → with-rounds s now ≡ record-of (next-round m)
+      → with-rounds s now ≡ record-of (with-now x (next-round (x .now)))
   unfolding next-round
-  round-record a now h d = kept-record (next-round m) now refl (d m (p .formed) (given-of a h) kept-of)
+  round-record a now h d = kept-record (next-round (x .now)) now refl (d (x .now) (p .formed .now-formed) (given-of a h) mirrors-of)
 
-  pub reopened-record : with-rounds s (record { «loop_rounds» = replicate 64 0; «mix_rounds» = replicate 64 0; phase = Open; rounds = 0 }) ≡ record-of (reopened m)
-  reopened-record = let few = p .formed .table .few-sets in
-      kept-record (reopened m) (record { «loop_rounds» = replicate 64 0; «mix_rounds» = replicate 64 0; phase = Open; rounds = 0 }) refl
-      (record { loops-are = sym (no-rounds (m .rows) loops few); mixes-are = sym (no-rounds (m .rows) mixes few); phase-is = refl; count-is = refl })
+  pub reopened-record : with-rounds s (record { «loop_rounds» = replicate 64 0; «mix_rounds» = replicate 64 0; phase = Open; rounds = 0 }) ≡ record-of (with-now x (reopened (x .now)))
+  reopened-record = let few = p .formed .now-formed .table .few-sets in
+      kept-record (reopened (x .now)) (record { «loop_rounds» = replicate 64 0; «mix_rounds» = replicate 64 0; phase = Open; rounds = 0 }) refl
+      (record { loops-are = sym (no-rounds (x .now .rows) loops few); mixes-are = sym (no-rounds (x .now .rows) mixes few); phase-is = refl; count-is = refl })

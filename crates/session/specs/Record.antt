@@ -1,4 +1,4 @@
--- The whole record of a machine.
+-- The whole record of a machine with its marks.
 use mathlib.Core.Path.{_≡_}
 use mathlib.Core.List.{map}
 use lib.ListN.{length}
@@ -6,10 +6,10 @@ use Rattle.rows.specs.declared.Row.{Row}
 use Rattle.rows.specs.declared.Row.the-variants.{Initial}
 use Rattle.rows.specs.Rows.{standing-sets}
 use Rattle.orderings.specs.Steps.{loops, mixes}
-use Rattle.machine.specs.Machine.{Machine}
-use Rattle.machine.specs.WellFormed.{WellFormed}
+use Rattle.machine.specs.Marks.{Marked, MarkedFormed}
 use Rattle.row_table.specs.Arrays.{padded}
 use Rattle.rounds.specs.Arrays.{rounds-of}
+use Rattle.marks.specs.Record.{marks-of}
 use Rattle.session.specs.declared.Slot.{Slot}
 use Rattle.session.specs.declared.Session.{Session}
 
@@ -20,20 +20,21 @@ slot r = record { row = r }
 abbrev pub blank : Slot
 blank = slot (Initial 0)
 
-unfoldable pub record-of : Machine → Session
-record-of m =
+unfoldable pub record-of : Marked → Session
+record-of x =
     record {
-      rows = padded 256 blank (map slot (m .rows));
-      «row_count» = length (m .rows);
-      sets = padded 64 0 (standing-sets (m .rows));
-      «set_count» = length (standing-sets (m .rows));
-      «loop_rounds» = rounds-of m loops;
-      «mix_rounds» = rounds-of m mixes;
-      phase = m .phase;
-      rounds = m .rounds;
+      rows = padded 256 blank (map slot (x .now .rows));
+      «row_count» = length (x .now .rows);
+      sets = padded 64 0 (standing-sets (x .now .rows));
+      «set_count» = length (standing-sets (x .now .rows));
+      «loop_rounds» = rounds-of (x .now) loops;
+      «mix_rounds» = rounds-of (x .now) mixes;
+      phase = x .now .phase;
+      rounds = x .now .rounds;
+      marks = marks-of (x .marks);
     }
 
--- the session is the record of a machine that calls make
-pub record Represents (m : Machine) (s : Session) : Type 0 where
-  pub formed : WellFormed m
-  pub whole : s ≡ record-of m
+-- the session is the record of a machine with marks that calls make
+pub record Represents (x : Marked) (s : Session) : Type 0 where
+  pub formed : MarkedFormed x
+  pub whole : s ≡ record-of x

@@ -1,14 +1,17 @@
 -- What the inner functions make of a record, as its arrays stand.
 use Prim.Native.Nat.{ℕ}
 use mathlib.Core.Path.{_≡_}
-use mathlib.Core.List.{List, map}
-use lib.ListN.{length, take}
+use mathlib.Core.List.{List, _∷_, map}
+use lib.ListN.{length, take, replicate}
 use Rattle.rows.specs.declared.Row.{Row}
 use Rattle.rows.specs.Rows.{AllFit, standing-sets}
 use Rattle.machine.specs.declared.Answer.{Answer}
+use Rattle.machine.specs.declared.Phase.{Phase}
 use Rattle.machine.specs.declared.Answer.the-variants.{Done, Wrote, Decided, Refused}
-use Rattle.machine.specs.Machine.{Machine}
-use Rattle.machine.specs.WellFormed.{Table}
+use Rattle.machine.specs.Machine.{Machine, open-with}
+use Rattle.machine.specs.Calls.{close, round, run}
+use Rattle.machine.specs.WellFormed.{Table, WellFormed}
+use Rattle.machine.specs.Marks.{Marked, fresh-marked}
 use Rattle.row_table.specs.Arrays.{padded, Keyed}
 use Rattle.automaton.specs.declared.Automaton.{Automaton}
 use Rattle.automaton.specs.Promise.{Gives}
@@ -16,7 +19,9 @@ use Rattle.rounds.specs.declared.Progress.{Progress}
 use Rattle.session.specs.declared.Slot.{Slot}
 use Rattle.session.specs.declared.Session.{Session}
 use Rattle.session.specs.declared.Reply.{Reply}
-use Rattle.session.specs.Record.{slot, blank, Represents}
+use Rattle.marks.specs.declared.Kept.{Kept}
+use Rattle.marks.specs.Record.{kept-of}
+use Rattle.session.specs.Record.{slot, blank, record-of, Represents}
 
 -- the first n rows of an array
 unfoldable pub first-rows : ℕ → List Slot → List Row
@@ -41,6 +46,7 @@ with-table s rows =
       «mix_rounds» = s .«mix_rounds»;
       phase = s .phase;
       rounds = s .rounds;
+      marks = s .marks;
     }
 
 -- the rounds of the claims, the phase and the count of rounds
@@ -59,6 +65,7 @@ with-rounds s r =
       «mix_rounds» = r .«mix_rounds»;
       phase = r .phase;
       rounds = r .rounds;
+      marks = s .marks;
     }
 
 -- the array of the rows that have the first n keys
@@ -74,4 +81,50 @@ TakesTable s Has (Refused n place) r = r ≡ reply s (Refused n place)
 
 -- the masks of the rows of the machine that the session represents
 abbrev pub Reads : Session → Automaton → Type 0
-Reads s r = (m : Machine) → Represents m s → Gives (m .rows) (s .sets) (s .«set_count») r
+Reads s r = (x : Marked) → Represents x s → Gives (x .now .rows) (s .sets) (s .«set_count») r
+
+-- ---- marks
+
+-- a record with the marks of s
+abbrev pub with-marks : Session → Session → Session
+with-marks s t =
+    record {
+      rows = t .rows;
+      «row_count» = t .«row_count»;
+      sets = t .sets;
+      «set_count» = t .«set_count»;
+      «loop_rounds» = t .«loop_rounds»;
+      «mix_rounds» = t .«mix_rounds»;
+      phase = t .phase;
+      rounds = t .rounds;
+      marks = s .marks;
+    }
+
+-- the machine as it is now becomes another
+abbrev pub with-now : Marked → Machine → Marked
+with-now x m = record { now = m; marks = x .marks }
+
+-- what a mark keeps of the machine that the session represents
+abbrev pub Contents : Session → Kept → Type 0
+Contents s r = (x : Marked) → Represents x s → r ≡ kept-of (x .now)
+
+-- open with no rows, and the marks of s
+abbrev pub emptied : Session → Session
+emptied s = with-marks s (record-of fresh-marked)
+
+-- the machine is closed, and does rounds until it is settled, k at most
+abbrev pub WorkedOn : Session → ℕ → Reply → Type 0
+WorkedOn s k r = (x : Marked) → Represents x s → r ≡ reply (record-of (with-now x (run (open-with (x .now .rows)) (close ∷ replicate k round)))) Done
+
+-- the machine with these rows, in the phase after so many rounds
+abbrev pub ReworkedTo : Session → Phase → ℕ → Reply → Type 0
+ReworkedTo s phase k r = (x : Marked) → Represents x s → (m : Machine) → WellFormed m → x .now .rows ≡ m .rows → m .phase ≡ phase → m .rounds ≡ k
+    → r ≡ reply (record-of (with-now x m)) Done
+
+-- the rows of the machine that is kept, open, with the marks of s
+abbrev pub Reloads : Session → Kept → Session → Type 0
+Reloads s kept r = (x : Marked) → Represents x s → (m : Machine) → WellFormed m → kept ≡ kept-of m → Represents (with-now x (open-with (m .rows))) r
+
+-- the machine that is kept, with the marks of s
+abbrev pub BringsBack : Session → Kept → Reply → Type 0
+BringsBack s kept r = (x : Marked) → Represents x s → (m : Machine) → WellFormed m → kept ≡ kept-of m → r ≡ reply (record-of (with-now x m)) Done

@@ -1,5 +1,6 @@
 // The session and its calls.
 mod loading;
+mod marking;
 mod prints;
 mod replies;
 mod running;
@@ -12,6 +13,7 @@ use machine::MOST_ROWS;
 use machine::MOST_SETS;
 use machine::Phase;
 use machine::Verdict;
+use marks::Marks;
 use rows::Row;
 
 // What a field that is an array can hold: a struct that holds the row.
@@ -20,7 +22,7 @@ pub struct Slot {
 }
 
 // The standing rows sorted as byte strings; their sets, rising; the rounds in which the loop and the mix of each set opened, 0 for
-// not open; the phase and the count of rounds. What is not used holds a filler.
+// not open; the phase and the count of rounds; the marks. What is not used holds a filler.
 pub struct Session {
     pub rows: [Slot; MOST_ROWS],
     pub row_count: usize,
@@ -30,6 +32,7 @@ pub struct Session {
     pub mix_rounds: [u8; MOST_SETS],
     pub phase: Phase,
     pub rounds: u8,
+    pub marks: Marks,
 }
 
 // What a record is to the calls: foreign, which no calls make, or a session in a phase.

@@ -10,13 +10,14 @@ use machine::MOST_SETS;
 ghost use Prim.Native.Nat.{_≤_};
 ghost use mathlib.Core.List.{[]};
 ghost use Rattle.machine.specs.Calls.{load, withdraw};
+ghost use Rattle.machine.specs.Marks.{on};
 ghost use Rattle.row_table.specs.Arrays.{Filed};
 ghost use Rattle.session.specs.Promise.{HasState, Promised};
 ghost use Rattle.session.specs.Standing.{TakesTable};
 
 impl Session {
     // What a batch came to: all its rows or none. Where it is done, the session takes the table that the arrays hold.
-    fn take_table(
+    pub(crate) fn take_table(
         self,
         high: &[u64; MOST_ROWS],
         low: &[u64; MOST_ROWS],
@@ -50,7 +51,7 @@ impl Session {
     // The batch into the table of an open session.
     fn load_open(self, batch: &[u8]) -> Reply
         requires { ⌜ HasState self State.Open ⌝ }
-        ensures { λ r. ⌜ Promised self (load (now (batch .entry))) [] [] r ⌝ }
+        ensures { λ r. ⌜ Promised self (on (load (now (batch .entry)))) [] [] r ⌝ }
     {
         let keys = self.keys();
         let mut high = keys.high;
@@ -66,7 +67,7 @@ impl Session {
     // The batch out of the table of an open session.
     fn withdraw_open(self, batch: &[u8]) -> Reply
         requires { ⌜ HasState self State.Open ⌝ }
-        ensures { λ r. ⌜ Promised self (withdraw (now (batch .entry))) [] [] r ⌝ }
+        ensures { λ r. ⌜ Promised self (on (withdraw (now (batch .entry)))) [] [] r ⌝ }
     {
         let keys = self.keys();
         let mut high = keys.high;
@@ -81,7 +82,7 @@ impl Session {
 
     // Load: the rows of the batch stand then too.
     pub fn load(self, batch: &[u8]) -> Reply
-        ensures { λ r. ⌜ Promised self (load (now (batch .entry))) [] [] r ⌝ }
+        ensures { λ r. ⌜ Promised self (on (load (now (batch .entry)))) [] [] r ⌝ }
     {
         match self.state() {
             State::Foreign => self.refuse(FOREIGN_RECORD),
@@ -93,7 +94,7 @@ impl Session {
 
     // Withdraw: the rows of the batch stand no more.
     pub fn withdraw(self, batch: &[u8]) -> Reply
-        ensures { λ r. ⌜ Promised self (withdraw (now (batch .entry))) [] [] r ⌝ }
+        ensures { λ r. ⌜ Promised self (on (withdraw (now (batch .entry)))) [] [] r ⌝ }
     {
         match self.state() {
             State::Foreign => self.refuse(FOREIGN_RECORD),

@@ -6,13 +6,14 @@ use machine::FOREIGN_RECORD;
 use machine::Verdict;
 ghost use lib.ListN.{length};
 ghost use Rattle.machine.specs.Calls.{print};
+ghost use Rattle.machine.specs.Marks.{on};
 ghost use Rattle.session.specs.Promise.{HasState, Promised};
 
 impl Session {
     // The sheet of a settled session.
     fn print_settled(self, v: Verdict, buffer: &mut [u8]) -> Reply
         requires { ⌜ HasState self (State.Settled v) ⌝ }
-        ensures { λ r. ⌜ Promised self (print (length (now (buffer .entry))))
+        ensures { λ r. ⌜ Promised self (on (print (length (now (buffer .entry)))))
             (now (buffer .entry)) (now (buffer .exit)) r ⌝ }
     {
         let sets = self.sets;
@@ -23,7 +24,7 @@ impl Session {
         let low = keys.low;
         let a = self.automaton();
         let graph = a.graph;
-        let kept = self.kept();
+        let kept = self.progress();
         let answer = whole_sheet::print(
             buffer,
             v,
@@ -45,7 +46,7 @@ impl Session {
 
     // Print: the sheet into the buffer, when settled; nothing where the buffer is too short.
     pub fn print(self, buffer: &mut [u8]) -> Reply
-        ensures { λ r. ⌜ Promised self (print (length (now (buffer .entry))))
+        ensures { λ r. ⌜ Promised self (on (print (length (now (buffer .entry)))))
             (now (buffer .entry)) (now (buffer .exit)) r ⌝ }
     {
         match self.state() {

@@ -7,6 +7,7 @@ use machine::MOST_ROUNDS;
 use machine::MOST_ROWS;
 use machine::MOST_SETS;
 use machine::Phase;
+use marks::MOST_MARKS;
 ghost use mathlib.Core.Path.{_≡_};
 ghost use Rattle.machine.specs.declared.Answer.the-variants.{Refused};
 ghost use Rattle.machine.specs.WellFormed.{most-done};
@@ -35,6 +36,10 @@ impl Session {
             return State::Foreign;
         }
         if set_count > MOST_SETS {
+            return State::Foreign;
+        }
+        let marks = self.marks;
+        if marks.count > MOST_MARKS {
             return State::Foreign;
         }
         let phase = self.phase;

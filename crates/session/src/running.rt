@@ -11,13 +11,14 @@ ghost use mathlib.Core.Path.{_≡_};
 ghost use mathlib.Core.List.{[]};
 ghost use Rattle.machine.specs.declared.Answer.the-variants.{Done};
 ghost use Rattle.machine.specs.Calls.{close, round, reopen};
+ghost use Rattle.machine.specs.Marks.{on};
 ghost use Rattle.machine.specs.Causes.{NotOpen};
 ghost use Rattle.session.specs.Promise.{Ranged, HasState, Promised};
 ghost use Rattle.session.specs.Standing.{reply, rounds-in, with-rounds};
 
 impl Session {
     // The rounds of the claims, the phase and the count of rounds.
-    pub(crate) fn kept(self) -> Progress
+    pub(crate) fn progress(self) -> Progress
         ensures { λ r. ⌜ r ≡ rounds-in self ⌝ }
     {
         let loop_rounds = self.loop_rounds;
@@ -33,7 +34,7 @@ impl Session {
     }
 
     // Done: the session with other rounds of the claims, another phase and another count of rounds.
-    fn done_with(self, now: Progress) -> Reply
+    pub(crate) fn done_with(self, now: Progress) -> Reply
         ensures { λ r. ⌜ r ≡ reply (with-rounds self now) Done ⌝ }
     {
         let loop_rounds = now.loop_rounds;
@@ -53,7 +54,7 @@ impl Session {
     // Close of an open session: no claim is open.
     fn close_open(self) -> Reply
         requires { ⌜ HasState self State.Open ⌝ }
-        ensures { λ r. ⌜ Promised self close [] [] r ⌝ }
+        ensures { λ r. ⌜ Promised self (on close) [] [] r ⌝ }
     {
         let a = self.automaton();
         let graph = a.graph;
@@ -64,10 +65,10 @@ impl Session {
     // A round of a running session: what it opens depends on the claims that were open before it, and on no other.
     fn round_running(self) -> Reply
         requires { ⌜ HasState self State.Running ⌝ }
-        ensures { λ r. ⌜ Promised self round [] [] r ⌝ }
+        ensures { λ r. ⌜ Promised self (on round) [] [] r ⌝ }
     {
         let n = self.set_count;
-        let before = self.kept();
+        let before = self.progress();
         let a = self.automaton();
         let graph = a.graph;
         let now = rounds::round(&graph, a.initials, a.finals, n, before);
@@ -77,7 +78,7 @@ impl Session {
     // Reopen of a session that is not open: the rows stay, the openings and the rounds go.
     fn reopen_closed(self) -> Reply
         requires { ⌜ Ranged self × NotOpen (self .phase) ⌝ }
-        ensures { λ r. ⌜ Promised self reopen [] [] r ⌝ }
+        ensures { λ r. ⌜ Promised self (on reopen) [] [] r ⌝ }
     {
         let loop_rounds = [0u8; MOST_SETS];
         let mix_rounds = [0u8; MOST_SETS];
@@ -93,7 +94,7 @@ impl Session {
 
     // Close: running, or settled where letter steps alone lead from an initial to a final state.
     pub fn close(self) -> Reply
-        ensures { λ r. ⌜ Promised self close [] [] r ⌝ }
+        ensures { λ r. ⌜ Promised self (on close) [] [] r ⌝ }
     {
         match self.state() {
             State::Foreign => self.refuse(FOREIGN_RECORD),
@@ -105,7 +106,7 @@ impl Session {
 
     // Round: every claim that holds with the claims open before, and is not open yet, opens.
     pub fn round(self) -> Reply
-        ensures { λ r. ⌜ Promised self round [] [] r ⌝ }
+        ensures { λ r. ⌜ Promised self (on round) [] [] r ⌝ }
     {
         match self.state() {
             State::Foreign => self.refuse(FOREIGN_RECORD),
@@ -117,7 +118,7 @@ impl Session {
 
     // Reopen: open again, with the same rows.
     pub fn reopen(self) -> Reply
-        ensures { λ r. ⌜ Promised self reopen [] [] r ⌝ }
+        ensures { λ r. ⌜ Promised self (on reopen) [] [] r ⌝ }
     {
         match self.state() {
             State::Foreign => self.refuse(FOREIGN_RECORD),

@@ -6,6 +6,7 @@ use automaton::Automaton;
 use machine::MOST_ROWS;
 use machine::MOST_SETS;
 use machine::Phase;
+use marks::Marks;
 use rows::Row;
 ghost use Prim.Native.Nat.{_≤_};
 ghost use Rattle.row_table.specs.Arrays.{Keyed};
@@ -32,7 +33,7 @@ pub(crate) fn slots(high: &[u64; MOST_ROWS], low: &[u64; MOST_ROWS], n: usize) -
 }
 
 impl Session {
-    // Open, with no rows.
+    // Open, with no rows and no marks.
     pub fn fresh() -> Session
         ensures { λ r. ⌜ Fresh r ⌝ }
     {
@@ -43,6 +44,7 @@ impl Session {
         let loop_rounds = [0u8; MOST_SETS];
         let mix_rounds = [0u8; MOST_SETS];
         let phase = Phase::Open;
+        let marks = Marks::none();
         Session {
             rows,
             row_count: 0,
@@ -52,6 +54,7 @@ impl Session {
             mix_rounds,
             phase,
             rounds: 0,
+            marks,
         }
     }
 

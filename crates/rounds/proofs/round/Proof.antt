@@ -23,14 +23,14 @@ returns c m w g kept =
     let a = loops .before .before .before .before .args in
     let b = a .before in
     let force : Claims = record { loops = loops .open-mask .result; mixes = mixes .open-mask2 .result } in
-    subst (λ (p : Phase). Mirrors (next-round m) (looped .mark .last .0) (c .mark2 .last .0) p (b .rounds + 1)) (sym (phased .judge .ensures))
+    subst (λ (p : Phase). Mirrors (next-round m) (looped .note .last .0) (c .note2 .last .0) p (b .rounds + 1)) (sym (phased .judge .ensures))
     (round-kept m w g force (new .opened .result) (all .with-new .result) kept (loops .open-mask .ensures) (mixes .open-mask2 .ensures) (record {
       opens = new .opened .ensures;
       with-new = all .with-new .ensures;
       tested = tested .accepts .ensures;
       vain-iff = vain .nothing .ensures;
-      loop-marked = looped .mark .ensures;
-      mix-marked = c .mark2 .ensures;
+      loop-noted = looped .note .ensures;
+      mix-noted = c .note2 .ensures;
     }))
 
 pub round-spec : {M : Type 1} → statement M

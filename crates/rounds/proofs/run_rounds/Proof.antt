@@ -15,18 +15,18 @@ use Rattle.machine.specs.declared.Phase.{Phase}
 use Rattle.search.specs.Graph.{graph-of, BothWays}
 use Rattle.search.specs.Hops.{EndsBelow, Reached}
 use Rattle.rounds.specs.Promises.{Given, no-claims}
-use Rattle.rounds.proofs.Settled.{Stage, Tracked, stage-start, stage-more, kept-settled}
+use Rattle.rounds.proofs.Settled.{Stage, Tracked, stage-start, stage-more, stage-end}
 use Rattle.rounds.proofs.run_rounds.Statement.{statement}
 use Rattle.rounds.proofs.run_rounds.Tie as tie
 
 abbrev Inv-loop : tie.InvT-loop
-Inv-loop graph initials finals set-count reached back force₀ new₀ to₀ from₀ seen₀ phase₀ loop-rounds₀ mix-rounds₀ count₀ force new to from seen phase loop-rounds mix-rounds count =
-    (count ≤ 129) × (length to ≡ 64) × (length from ≡ 64) × BothWays graph back × Tracked (graph-of graph) (graph-of back) set-count force new to from
+Inv-loop graph initials finals set-count reached most back force₀ new₀ to₀ from₀ seen₀ phase₀ loop-rounds₀ mix-rounds₀ count₀ force new to from seen phase loop-rounds mix-rounds count =
+    (count ≤ most) × (length to ≡ 64) × (length from ≡ 64) × BothWays graph back × Tracked (graph-of graph) (graph-of back) set-count force new to from
     × Reached (graph-of graph) force initials seen
     × ((rows : List Row) → Given rows (graph-of graph) initials finals set-count → Stage rows (graph-of graph) set-count force loop-rounds mix-rounds phase count)
 
 abbrev μ-loop : tie.MeasureT-loop
-μ-loop graph initials finals set-count reached back force₀ new₀ to₀ from₀ seen₀ phase₀ loop-rounds₀ mix-rounds₀ count₀ force new to from seen phase loop-rounds mix-rounds count = 129 - count
+μ-loop graph initials finals set-count reached most back force₀ new₀ to₀ from₀ seen₀ phase₀ loop-rounds₀ mix-rounds₀ count₀ force new to from seen phase loop-rounds mix-rounds count = most - count
 
 abbrev start : (c : tie.At-loop Inv-loop μ-loop) → tie.Start Inv-loop μ-loop
 start c = c .before .before .before .before .before .before .before .before
@@ -43,15 +43,15 @@ loop-holds c =
       omega arith,
       ends .all-ends .ensures .1,
       c .all-ends2 .ensures .1,
-      back .turn-indexed .ensures refl (s .pre .1),
+      back .turn-indexed .ensures refl (s .pre .2),
       record {
         old = no-claims;
         with-new = record { loops-are = λ t. rw (member-none t) refl; mixes-are = λ t. rw (member-none t) refl };
         forward = ends .all-ends .ensures .0 refl;
         backward = c .all-ends2 .ensures .0 refl;
       },
-      s .pre .2 .reached-are,
-      λ rows g. stage-start rows g false (s .pre .2 .tested),
+      s .pre .3 .reached-are,
+      λ rows g. stage-start rows g false (s .pre .3 .tested),
     )
 
 add-ends-requires : tie.Need-add-ends-requires Inv-loop μ-loop
@@ -78,10 +78,11 @@ open-next-requires c κs = let e = c .before .before .before in let at = at-turn
 
 reached-more-requires : tie.Need-reached-more-requires Inv-loop μ-loop
 reached-more-requires c κs = let at = at-turn (c .before .before .before .before .before) in
-    (start at .pre .1, record { old = at .loop .force; with-new = c .with-new .ensures; reached = at .loop .inv .5 })
+    (start at .pre .2, record { old = at .loop .force; with-new = c .with-new .ensures; reached = at .loop .inv .5 })
 
 add-count : tie.Need-add-count Inv-loop μ-loop
-add-count c = omega (arith, c .before .before .before .before .before .before .before .before .before .before .before .before .before .before .before .loop-test .taken)
+add-count c = let test = c .before .before .before .before .before .before .before .before .before .before .before .before .before .before .before in
+    omega (arith, test .loop-test .taken, start (test .before) .pre .1)
 
 loop-less : tie.Need-loop-less Inv-loop μ-loop
 loop-less c = omega (arith, c .before .before .before .before .before .before .before .before .before .before .before .before .before .before .before .before .before .before .before .loop-test .taken)
@@ -108,28 +109,28 @@ loop-again c =
       inv .3,
       record { old = old; with-new = all .with-new .ensures; forward = forward ends; backward = backward ends },
       seen .reached-more .ensures,
-      λ rows g. subst (λ (p : Phase). Stage rows (graph-of (a .graph .now)) (a .set-count) both (looped .mark .last .0) (c .mark2 .last .0) p (at .loop .count + 1)) (sym (judged .judge .ensures))
+      λ rows g. subst (λ (p : Phase). Stage rows (graph-of (a .graph .now)) (a .set-count) both (looped .note .last .0) (c .note2 .last .0) p (at .loop .count + 1)) (sym (judged .judge .ensures))
           (stage-more rows g (inv .6 rows g) (test .is-running .ensures .to (not-false (test .is-running .result) (ends .before .before .before .before .if1 .left))) (record {
             opens = new .open-next .ensures;
             with-new = all .with-new .ensures;
             tested = tested .accepted .ensures (graph-of (a .graph .now)) both (seen .reached-more .ensures);
             vain-iff = vain .nothing .ensures;
-            loop-marked = looped .mark .ensures;
-            mix-marked = c .mark2 .ensures;
+            loop-noted = looped .note .ensures;
+            mix-noted = c .note2 .ensures;
           })),
     )
 
 returns : tie.Need-returns Inv-loop μ-loop
 returns c rows g =
     let at = c .before in
-    kept-settled rows (g .table) (at .loop .count) _ _ _ _ (at .loop .inv .6 rows g .before) (inl (omega arith)) (at .loop .inv .6 rows g .kept)
+    let all : at .loop .count ≡ start at .args .most = omega arith in
+    stage-end (at .loop .inv .6 rows g) _ (at .loop .inv .0) (inl all)
 
 returns-2 : tie.Need-returns-2 Inv-loop μ-loop
 returns-2 c rows g =
     let test = c .before in
-    let at = test .before .before in
-    kept-settled rows (g .table) (at .loop .count) _ _ _ _ (at .loop .inv .6 rows g .before)
-    (inr (λ f. false≢true (sym (not-true (test .is-running .result) (c .if1 .taken)) ∙ test .is-running .ensures .of f))) (at .loop .inv .6 rows g .kept)
+    let inv = test .before .before .loop .inv in
+    stage-end (inv .6 rows g) _ (inv .0) (inr (λ f. false≢true (sym (not-true (test .is-running .result) (c .if1 .taken)) ∙ test .is-running .ensures .of f)))
 
 pub run-rounds-spec : {M : Type 1} → statement M
 run-rounds-spec =

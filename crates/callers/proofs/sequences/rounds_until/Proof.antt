@@ -4,9 +4,9 @@ use mathlib.Core.Path.{_≡_}
 use mathlib.Core.List.{List}
 use native.Mathlib.Omega.{arith}
 use Rattle.machine.specs.declared.Answer.the-variants.{Done}
-use Rattle.machine.specs.Machine.{fresh}
-use Rattle.machine.specs.Calls.{Call, run}
 use Rattle.machine.specs.Causes.{NotOpen}
+use Rattle.machine.specs.Marks.{MarkedCall}
+use Rattle.machine.specs.Statements.{after-calls}
 use Rattle.machine.proofs.Answers.{wrote-not-done, decided-not-done, refused-not-done}
 use Rattle.callers.specs.Handed.{HandedBack, DoesRounds}
 use Rattle.callers.proofs.Handed.{Rounding, rounding-start, rounding-more, rounding-stop, rounding-full}
@@ -15,7 +15,7 @@ use Rattle.callers.proofs.sequences.rounds_until.Statement.{statement}
 use Rattle.callers.proofs.sequences.rounds_until.Tie as tie
 
 abbrev Inv-loop : tie.InvT-loop
-Inv-loop s₀ k₀ s k = (k ≤ 129) × ((cs : List Call) → HandedBack cs s₀ → NotOpen (run fresh cs .phase) → Rounding cs k s)
+Inv-loop s₀ k₀ s k = (k ≤ 129) × ((cs : List MarkedCall) → HandedBack cs s₀ → NotOpen (after-calls cs .phase) → Rounding cs k s)
 
 abbrev μ-loop : tie.MeasureT-loop
 μ-loop s₀ k₀ s k = 129 - k

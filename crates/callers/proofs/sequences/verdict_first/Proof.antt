@@ -1,6 +1,7 @@
 -- `verdict_first` meets its contract.
 use mathlib.Core.List.{[], _∷_}
 use Rattle.machine.specs.Calls.{load, close, verdict}
+use Rattle.machine.specs.Marks.{on}
 use Rattle.callers.proofs.Handed.{asked-not-open, asked-handed, judges-twice}
 use borrow.Author.Needs.{needs}
 use Rattle.callers.proofs.sequences.verdict_first.Statement.{statement}
@@ -15,7 +16,7 @@ returns c =
     let b = l .before .before .args .batch .now in
     let h = asked-handed b (l .loaded .result) (v .call-verdict .result) (l .loaded .ensures) (v .call-verdict .ensures) (d .call-close .result) (d .call-close .ensures) in
     judges-twice b (l .loaded .result) (v .call-verdict .result) (l .loaded .ensures) (v .call-verdict .ensures) (t .rounds-until .result) (c .call-verdict2 .result)
-    (t .rounds-until .ensures (load b ∷ verdict ∷ close ∷ []) h (asked-not-open b)) (c .call-verdict2 .ensures)
+    (t .rounds-until .ensures (on (load b) ∷ on verdict ∷ on close ∷ []) h (asked-not-open b)) (c .call-verdict2 .ensures)
 
 pub verdict-first-spec : {M : Type 1} → statement M
 verdict-first-spec =

@@ -1,5 +1,6 @@
 -- `fresh` meets its contract: the arrays hold nothing but fillers.
 use mathlib.Core.Path.{refl}
+use borrow.Author.Needs.{needs}
 use Rattle.rows.specs.Rows.{standing-sets}
 use Rattle.session.specs.Record.{record-of}
 use Rattle.session.proofs.Session.fresh.Statement.{statement}
@@ -7,7 +8,7 @@ use Rattle.session.proofs.Session.fresh.Tie as tie
 
 returns : tie.Need-returns
 unfolding record-of standing-sets
-returns c = refl
+returns c = rw (c .none .ensures) refl
 
 pub fresh-spec : {M : Type 1} → statement M
-fresh-spec = tie.close (tie.spec returns)
+fresh-spec = tie.close (tie.spec (λ c κs. search needs) returns)

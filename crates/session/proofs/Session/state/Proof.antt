@@ -10,9 +10,12 @@ returns c g = omega (arith, g .few)
 returns-2 : tie.Need-returns-2
 returns-2 c g = omega (arith, g .few-sets)
 
--- no machine has done as many rounds
 returns-3 : tie.Need-returns-3
-returns-3 c g = omega (arith, g .few-rounds)
+returns-3 c g = omega (arith, g .few-marks)
+
+-- no machine has done as many rounds
+returns-4 : tie.Need-returns-4
+returns-4 c g = omega (arith, g .few-rounds)
 
 pub state-spec : {M : Type 1} → statement M
 state-spec =
@@ -20,8 +23,9 @@ state-spec =
     (tie.spec
     returns
     returns-2
-    (λ c κs. search needs)
     returns-3
+    (λ c κs. search needs)
+    returns-4
     (λ c. search needs)
     (λ c. search needs)
     (λ c. search needs)

@@ -8,7 +8,7 @@ use Rattle.session.proofs.Session.take_table.Tie as tie
 
 returns : tie.Need-returns
 returns c =
-    let t = c .before .before in
+    let t = c .before .before .before in
     let o = t .before in
     let a = o .before .before .args in
     takes-done (a .self) (a .high .now) (a .low .now) (a .sets) (a .n) (a .k) (t .slots .result) (t .slots .ensures) (o .enum-told .given .1)

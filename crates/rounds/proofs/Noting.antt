@@ -17,7 +17,7 @@ use Rattle.orderings.specs.Decide.{same-claim}
 use Rattle.orderings.proofs.Deciding.{same-claim·}
 use Rattle.machine.specs.Machine.{Opening, Machine, open-claims, openings-of, with-openings}
 use Rattle.row_table.specs.Arrays.{padded}
-use Rattle.rounds.specs.Arrays.{round-of, rounds-of, Marks}
+use Rattle.rounds.specs.Arrays.{round-of, rounds-of, Notes}
 use Rattle.rounds.proofs.OpenClaims.{set-at, round-at}
 
 -- a claim that the new round does not open
@@ -59,7 +59,7 @@ module _ (m : Machine) (few : length (standing-sets (m .rows)) ≤ 64) (claim : 
   past : (i : ℕ) → length (standing-sets (m .rows)) ≤ i → i < 64 → getD (rounds-of m claim) i 0 ≡ 0
   past i h g = let f : ℕ → ℕ = λ P. round-of (m .openings) (claim P) in filled-past (map f (standing-sets (m .rows))) i (omega (arith, length-map (standing-sets (m .rows)) f)) g
 
--- the array with the places marked that the round opens is that of the machine with the new openings
+-- the array with the places noted that the round opens is that of the machine with the new openings
 module _ (m : Machine) (few : length (standing-sets (m .rows)) ≤ 64) (claim : ℕ → Claim) (k opened : ℕ) (new : List Claim) (vain : Bool)
     (is : (i : ℕ) → (i ∈ opened) ↔ ((i < length (standing-sets (m .rows))) × claim (set-at m i) among new))
     (apart : (c : Claim) → c among new → ¬ (c among open-claims m)) where
@@ -77,6 +77,6 @@ module _ (m : Machine) (few : length (standing-sets (m .rows)) ≤ 64) (claim : 
       (λ l. past m few claim i l h ∙ sym (past then few claim i l h)) (lt-or-le i (length (standing-sets (m .rows)))))
       (true-or-false (member i opened))
 
-  pub marked : (r : List ℕ) → Marks (rounds-of m claim) opened k r → r ≡ rounds-of then claim
-  marked r h = let e = rounds-length m few claim in ext-getD 0 r (rounds-of then claim) (h .length-is ∙ e ∙ sym (rounds-length then few claim))
+  pub noted : (r : List ℕ) → Notes (rounds-of m claim) opened k r → r ≡ rounds-of then claim
+  noted r h = let e = rounds-length m few claim in ext-getD 0 r (rounds-of then claim) (h .length-is ∙ e ∙ sym (rounds-length then few claim))
       (λ i l. let g : i < 64 = omega (arith, h .length-is, e) in h .rounds-are e i g ∙ place-is i g)

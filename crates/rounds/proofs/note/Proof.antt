@@ -1,4 +1,4 @@
--- `mark` meets its contract. The loop stores the round at each place that opened.
+-- `note` meets its contract. The loop stores the round at each place that opened.
 use mathlib.Core.Path.{_≡_, refl, ap, sym, _∙_}
 use mathlib.Core.Bool.{Bool, cond}
 use mathlib.Core.Logic.{⊎-elim}
@@ -8,8 +8,8 @@ use borrow.Author.Needs.{needs}
 use Rattle.masks.specs.Mask.{member}
 use Rattle.masks.proofs.Member.{true-or-false}
 use Rattle.masks.proofs.Storing.{Storing, storing-start, storing-more, storing-end}
-use Rattle.rounds.proofs.mark.Statement.{statement}
-use Rattle.rounds.proofs.mark.Tie as tie
+use Rattle.rounds.proofs.note.Statement.{statement}
+use Rattle.rounds.proofs.note.Tie as tie
 
 abbrev Inv-loop : tie.InvT-loop
 Inv-loop rounds₀ opened round rest₀ rounds rest = Storing (λ j x. x ≡ round) rounds₀ opened rest rounds
@@ -38,8 +38,8 @@ returns c =
           (λ h. inv .beyond i h ∙ sym (ap (λ (b : Bool). cond b (a .round) (getD (a .rounds .now) i 0)) h)) (true-or-false (member i (a .opened)));
     }
 
-pub mark-spec : {M : Type 1} → statement M
-mark-spec =
+pub note-spec : {M : Type 1} → statement M
+note-spec =
     tie.close
     (tie.spec
     Inv-loop

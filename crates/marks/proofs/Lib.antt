@@ -1,0 +1,4 @@
+-- The laws of names and of marks in their record.
+pub mod Naming
+pub mod Placing
+pub mod Packing
