@@ -20,6 +20,26 @@ impl Random {
         self.below(states) as u8
     }
 
+    fn letter(&mut self, letters: u64) -> u8 {
+        self.below(letters) as u8
+    }
+
+    fn member(&mut self, set: u64) -> u8 {
+        let members: Vec<u8> = (0..64).filter(|state| set >> state & 1 == 1).collect();
+        members[self.below(members.len() as u64) as usize]
+    }
+
+    /// The last set mostly, or another, or two joined.
+    fn base(&mut self, sets: &[u64]) -> u64 {
+        let mut any = || sets[self.below(sets.len() as u64) as usize];
+        let (one, other) = (any(), any());
+        match self.below(4) {
+            0 => one,
+            1 => one | other,
+            _ => sets[sets.len() - 1],
+        }
+    }
+
     fn shuffle<T>(&mut self, items: &mut [T]) {
         for at in (1..items.len()).rev() {
             items.swap(at, self.below(at as u64 + 1) as usize);
@@ -125,6 +145,65 @@ pub fn nested(random: &mut Random) -> Vec<Vec<u8>> {
     all
 }
 
+/// Sets that grow from one another, each by claims on the ones before, and a final state that only one of them leads to:
+/// tours and pieces nest.
+pub fn grown(random: &mut Random) -> Vec<Vec<u8>> {
+    let rungs = [1, 2, 2, 3, 3, 4, 4, 5, 6, 8, 12, 30][random.below(12) as usize];
+    let letters = [1, 2, 2, 3, 256][random.below(5) as usize];
+    let mut names: Vec<u8> = (0..(2 * rungs + 4).max(random.below(65)) as u8).collect();
+    random.shuffle(&mut names);
+    let mut name = || names.pop().unwrap();
+    let (goal, outside, hidden, first) = (name(), name(), name(), name());
+    let mut all = vec![last(goal)];
+    let mut sets = vec![1u64 << first];
+    if random.below(4) != 0 {
+        all.push(letter(first, random.letter(letters), first));
+    } else {
+        // A set that mixes by a step and loops by its mix.
+        let other = name();
+        sets.push(1 << first | 1 << other);
+        all.push(letter(first, random.letter(letters), other));
+        all.extend([left(sets[1], first), right(other, sets[1])]);
+    }
+    for _ in 0..random.below(rungs + 1) {
+        let (set, new) = (random.base(&sets), name());
+        let (one, other) = (random.member(set), random.member(set));
+        let more = set | 1 << new;
+        let a = random.letter(letters);
+        match random.below(6) {
+            0 | 1 => all.extend([left(set, new), letter(new, a, one)]),
+            2 => all.extend([right(new, set), letter(one, a, new)]),
+            3 => all.extend([left(set, one), right(other, set), right(new, set), letter(one, a, new)]),
+            // Pieces to the new state alone, or none but of no steps.
+            4 => all.extend([left(more, one), right(new, more), letter(other, a, new)]),
+            _ => all.extend([left(more, new), right(new, more), left(more, one), right(other, more)]),
+        }
+        sets.push(more);
+    }
+    let set = random.base(&sets);
+    let (one, other) = (random.member(set), random.member(set));
+    match random.below(4) {
+        0 => all.extend([initial(outside), right(outside, set), letter(one, 0, goal)]),
+        1 => all.extend([initial(outside), right(outside, set), left(set, goal), left(set, one), right(other, set)]),
+        _ => all.extend([initial(one), left(set, goal)]),
+    }
+    // Other ways, inside the sets.
+    for _ in 0..random.below(4) {
+        let set = sets[random.below(sets.len() as u64) as usize];
+        let (one, other) = (random.member(set), random.member(set));
+        all.push(match random.below(4) {
+            0 => left(set, one),
+            1 => right(one, set),
+            _ => letter(one, random.letter(letters), other),
+        });
+    }
+    if random.below(4) == 0 {
+        // A short way that is struck out.
+        all.extend([letter(one, 0, hidden), letter(hidden, 0, goal), left(set | 1 << hidden, goal), strike(hidden)]);
+    }
+    all
+}
+
 /// A ladder: rung k is the set of the first k states of an order, and rung k leads into rung k + 1. Each rung opens
 /// one round after the one below. `states` 64 gives 64 sets and 64 rounds; `noise` letter rows lead down only.
 pub fn ladder(random: &mut Random, states: usize, noise: usize, mixes: bool) -> Vec<Vec<u8>> {
@@ -154,6 +233,34 @@ pub fn ladder(random: &mut Random, states: usize, noise: usize, mixes: bool) -> 
     all
 }
 
+/// Set k has the states 0 to k, and a limit of it leads to the next state: each tour has twice the text of the one
+/// before. With 64 the last set only stands, for there is no state after it.
+pub fn nested_sets(count: u8) -> Vec<u8> {
+    let goal = count.min(63);
+    let mut rows = vec![initial(0), last(goal), letter(0, 1, 0)];
+    for k in 0..count {
+        rows.push(left(!(!1 << k), (k + 1) & 63));
+        if k > 0 {
+            rows.push(letter(k, 2, 0));
+        }
+    }
+    rows.concat()
+}
+
+/// 62 states in random order, joined by letters: a tour of far neighbours, or a mix with pieces through all.
+pub fn far(random: &mut Random, mix: bool) -> Vec<u8> {
+    let mut order: Vec<u8> = (0..62).collect();
+    random.shuffle(&mut order);
+    let (first, end, set) = (order[0], order[61], !0 >> 2);
+    let mut rows: Vec<_> = order.windows(2).map(|pair| letter(pair[0], pair[1], pair[1])).collect();
+    rows.extend(match mix {
+        false => vec![initial(first), letter(end, 255, first)],
+        true => vec![initial(62), right(62, set), left(set, first), right(end, set)],
+    });
+    rows.extend([left(set, 63), last(63)]);
+    rows.concat()
+}
+
 /// The rows, some more than once, in one batch.
 pub fn repeated(random: &mut Random, rows: &[Vec<u8>], bytes: usize) -> Vec<u8> {
     let mut batch = rows.concat();
@@ -173,7 +280,7 @@ pub fn any(random: &mut Random) -> Vec<u8> {
         5 | 6 => 20 + random.below(80),
         _ => 60 + random.below(220),
     } as usize;
-    let mut all = match random.below(10) {
+    let all = match random.below(10) {
         0 => {
             let rungs = 2 + random.below(63) as usize;
             let noise = random.below(100) as usize;
@@ -183,6 +290,27 @@ pub fn any(random: &mut Random) -> Vec<u8> {
         1..=5 => nested(random),
         _ => automaton(random, states, rows, letters),
     };
+    disturbed(random, all)
+}
+
+/// A batch of the mix that expressions are compared on: most have one.
+pub fn told(random: &mut Random) -> Vec<u8> {
+    match random.below(8) {
+        0 | 1 => any(random),
+        2 => {
+            let rows = grown(random);
+            disturbed(random, rows)
+        }
+        _ => {
+            let mut rows = grown(random);
+            random.shuffle(&mut rows);
+            rows.concat()
+        }
+    }
+}
+
+/// Strikes states, shuffles and damages, each some times.
+fn disturbed(random: &mut Random, mut all: Vec<Vec<u8>>) -> Vec<u8> {
     if random.below(3) == 0 {
         for _ in 0..1 + random.below(2) {
             // A state that some row names, mostly.

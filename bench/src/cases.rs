@@ -1,7 +1,8 @@
 //! Cases A to K of document 01 and the limits it names, the vectors and the examples of the repository.
 
 use crate::batches::{initial, last, left, letter, right, strike};
-use crate::engine;
+use crate::compare;
+use crate::engine::{self, Call};
 use std::path::Path;
 
 /// Each case: its rows and its sheet.
@@ -50,11 +51,15 @@ pub fn cases() -> Vec<(&'static str, Vec<Vec<u8>>, &'static str)> {
     ]
 }
 
-/// What the program `sheet` prints, by the function given.
-fn printed(sheet: fn(&[u8], &mut [u8], &mut u64) -> u64, batch: &[u8]) -> Vec<u8> {
-    let mut text = vec![0; plain::LONGEST_SHEET];
+/// The expressions of the cases that are non-empty.
+const EXPRESSIONS: [(&str, &str); 5] =
+    [("A", "sh(97,97)"), ("C", "(97)w"), ("D", "((97)w.97)w"), ("E", "e"), ("H", "(97)v")];
+
+/// What a program prints of a batch, by the function given.
+fn printed(call: Call, batch: &[u8]) -> Vec<u8> {
+    let mut text = vec![0; compare::LONG];
     let mut place = 0;
-    let answer = sheet(batch, &mut text, &mut place);
+    let answer = call(batch, &mut text, &mut place);
     if answer >> 32 != 0 {
         return format!("refused {} at {place}\n", answer >> 32).into_bytes();
     }
@@ -62,35 +67,65 @@ fn printed(sheet: fn(&[u8], &mut [u8], &mut u64) -> u64, batch: &[u8]) -> Vec<u8
     text
 }
 
-fn expect(name: &str, batch: &[u8], sheet: &[u8]) {
-    for (who, run) in
-        [("plain Rust", engine::plain as fn(&[u8], &mut [u8], &mut u64) -> u64), ("engine", engine::sheet)]
-    {
-        let text = printed(run, batch);
-        let shown = String::from_utf8_lossy(&text);
-        assert!(text == sheet, "{who} on {name} printed\n{shown}instead of\n{}", String::from_utf8_lossy(sheet));
+fn prints(calls: [(&str, Call); 2], name: &str, batch: &[u8], text: &[u8]) {
+    for (who, call) in calls {
+        let found = printed(call, batch);
+        let shown = String::from_utf8_lossy(&found);
+        assert!(found == text, "{who} on {name} printed\n{shown}instead of\n{}", String::from_utf8_lossy(text));
     }
 }
 
-/// The batches of a folder of the repository: each NAME.batch with its NAME.sheet, by name.
-fn stored(folder: &str) -> Vec<(String, Vec<u8>, Vec<u8>)> {
+fn expect_sheet(name: &str, batch: &[u8], sheet: &[u8]) {
+    prints([("plain Rust", engine::plain), ("engine", engine::sheet)], name, batch, sheet);
+}
+
+fn expect_expression(name: &str, batch: &[u8], expression: &[u8]) {
+    prints([("plain Rust", plain::expression), ("engine", engine::expression)], name, batch, expression);
+}
+
+/// The sheet, and what follows of the expression: the same refusal, or 17 where the verdict is empty. Whatever it is,
+/// the engine and plain Rust agree on it.
+fn expect(name: &str, batch: &[u8], sheet: &[u8]) {
+    expect_sheet(name, batch, sheet);
+    if sheet.starts_with(b"refused") {
+        expect_expression(name, batch, sheet);
+    }
+    if sheet.starts_with(b"verdict empty") {
+        expect_expression(name, batch, b"refused 17 at 0\n");
+    }
+    compare::expression(batch);
+}
+
+/// A batch of the repository, with what is beside it: a sheet, an expression or both.
+pub struct Stored {
+    pub name: String,
+    pub batch: Vec<u8>,
+    sheet: Option<Vec<u8>>,
+    expression: Option<Vec<u8>>,
+}
+
+/// The batches of a folder of the repository: each NAME.batch with NAME.sheet and NAME.expression, by name.
+fn stored(folder: &str) -> Vec<Stored> {
     let folder = Path::new(env!("CARGO_MANIFEST_DIR")).join("..").join(folder);
     let mut found = vec![];
     for entry in std::fs::read_dir(&folder).unwrap_or_else(|_| panic!("no folder {}", folder.display())) {
         let path = entry.unwrap().path();
         if path.extension().is_some_and(|end| end == "batch") {
             let name = path.file_stem().unwrap().to_string_lossy().into_owned();
-            let sheet = std::fs::read(path.with_extension("sheet")).expect("the sheet of a batch");
-            found.push((name, std::fs::read(&path).unwrap(), sheet));
+            let sheet = std::fs::read(path.with_extension("sheet")).ok();
+            let expression = std::fs::read(path.with_extension("expression")).ok();
+            assert!(sheet.is_some() || expression.is_some(), "nothing beside the batch {name}");
+            found.push(Stored { name, batch: std::fs::read(&path).unwrap(), sheet, expression });
         }
     }
-    found.sort();
+    found.sort_by(|one, other| one.name.cmp(&other.name));
     assert!(!found.is_empty(), "no batches in {}", folder.display());
     found
 }
 
-pub fn vectors() -> Vec<(String, Vec<u8>, Vec<u8>)> {
-    stored("crates/cases/data")
+/// Those of the vectors that have a sheet.
+pub fn vectors() -> Vec<Stored> {
+    stored("crates/cases/data").into_iter().filter(|stored| stored.sheet.is_some()).collect()
 }
 
 /// Rows, sets and states at their limits and one beyond.
@@ -121,15 +156,27 @@ fn limits() {
 pub fn run() {
     for (name, rows, sheet) in cases() {
         expect(name, &rows.concat(), sheet.as_bytes());
+        if let Some((_, expression)) = EXPRESSIONS.iter().find(|(case, _)| *case == name) {
+            expect_expression(name, &rows.concat(), expression.as_bytes());
+        }
     }
     limits();
-    let (vectors, examples) = (vectors(), stored("examples"));
-    for (name, batch, sheet) in vectors.iter().chain(&examples) {
+    let (vectors, examples) = (stored("crates/cases/data"), stored("examples"));
+    let mut expressions = 0;
+    for Stored { name, batch, sheet, expression } in vectors.iter().chain(&examples) {
         // The program's limit on its input is not the library's.
-        if sheet == b"too long\n" {
-            continue;
+        if let Some(sheet) = sheet.as_ref().filter(|sheet| *sheet != b"too long\n") {
+            expect(name, batch, sheet);
         }
-        expect(name, batch, sheet);
+        if let Some(expression) = expression {
+            expect_expression(name, batch, expression);
+            compare::expression(batch);
+            expressions += 1;
+        }
     }
-    println!("cases A to K, the limits, {} vectors, {} examples: as they must be", vectors.len(), examples.len());
+    println!(
+        "cases A to K, the limits, {} vectors, {} examples, {expressions} expressions of these: as they must be",
+        vectors.len(),
+        examples.len()
+    );
 }

@@ -1,9 +1,9 @@
 //! Every answer of the engine against plain Rust: return value, place, and the whole buffer; and its verdict against the sheet's.
 
-use crate::batches::{any, Random};
-use crate::engine;
+use crate::batches::{any, told, Random};
+use crate::engine::{self, Call};
 
-/// Bytes that no sheet has, so that a byte written too much is seen.
+/// Bytes that no sheet and no expression has, so that a byte written too much is seen.
 fn filled(random: &mut Random, length: usize) -> Vec<u8> {
     let first = 128 + random.below(100) as u8;
     (0..length).map(|at| first + (at % 27) as u8).collect()
@@ -30,11 +30,21 @@ fn hex(bytes: &[u8]) -> String {
 /// What a call leaves behind: the return value, the place, the buffer.
 type Answer = (u64, u64, Vec<u8>);
 
-fn answer(sheet: fn(&[u8], &mut [u8], &mut u64) -> u64, batch: &[u8], buffer: &[u8], place: u64) -> Answer {
+fn answer(call: Call, batch: &[u8], buffer: &[u8], place: u64) -> Answer {
     let mut buffer = buffer.to_vec();
     let mut place = place;
-    let value = sheet(batch, &mut buffer, &mut place);
+    let value = call(batch, &mut buffer, &mut place);
     (value, place, buffer)
+}
+
+/// The value that both return, if all that they leave behind is equal.
+fn same(plain: Call, engine: Call, batch: &[u8], buffer: &[u8], place: u64) -> u64 {
+    let plain = answer(plain, batch, buffer, place);
+    let engine = answer(engine, batch, buffer, place);
+    if plain != engine {
+        stop(batch, &plain, &engine);
+    }
+    plain.0
 }
 
 fn stop(batch: &[u8], plain: &Answer, engine: &Answer) -> ! {
@@ -49,32 +59,93 @@ fn stop(batch: &[u8], plain: &Answer, engine: &Answer) -> ! {
     std::process::exit(1);
 }
 
-/// How often each refusal was met, and the number of sheets.
+/// How often each refusal was met; none is 0.
+struct Refusals([usize; 32]);
+
+impl Refusals {
+    fn count(&mut self, value: u64) {
+        self.0[(value >> 32) as usize & 31] += 1;
+    }
+
+    fn print(&self) {
+        for (number, times) in self.0.iter().enumerate().skip(1).filter(|(_, times)| **times > 0) {
+            println!("  refusal {number}: {times}");
+        }
+    }
+}
+
+/// Sheets, verdicts and expressions of so many batches each.
 pub fn run(seed: u64, count: usize) {
-    let mut random = Random(seed);
-    let mut refusals = [0usize; 16];
+    sheets(&mut Random(seed), count);
+    expressions(&mut Random(seed), count);
+}
+
+fn sheets(random: &mut Random, count: usize) {
+    let seed = random.0;
+    let mut refusals = Refusals([0; 32]);
     let (mut bytes, mut nonempty) = (0, 0);
     for _ in 0..count {
-        let batch = any(&mut random);
-        let length = length(&mut random, &batch);
-        let buffer = filled(&mut random, length);
+        let batch = any(random);
+        let length = length(random, &batch);
+        let buffer = filled(random, length);
         let place = random.next();
-        let plain = answer(engine::plain, &batch, &buffer, place);
-        let engine = answer(engine::sheet, &batch, &buffer, place);
-        if plain != engine {
-            stop(&batch, &plain, &engine);
-        }
-        let sheet = answer(engine::plain_verdict, &batch, &[], place);
-        let verdict = answer(engine::verdict, &batch, &[], place);
-        if sheet != verdict {
-            stop(&batch, &sheet, &verdict);
-        }
-        nonempty += (verdict.0 == 1) as usize;
-        refusals[(plain.0 >> 32) as usize & 15] += 1;
+        refusals.count(same(engine::plain, engine::sheet, &batch, &buffer, place));
+        let verdict = same(engine::plain_verdict, engine::verdict, &batch, &[], place);
+        nonempty += (verdict == 1) as usize;
         bytes += batch.len();
     }
-    println!("compared on {count} batches from seed {seed}, {bytes} bytes: no difference; {} sheets; {nonempty} verdicts are non-empty", refusals[0]);
-    for (number, times) in refusals.iter().enumerate().skip(1).filter(|(_, times)| **times > 0) {
-        println!("  refusal {number}: {times}");
+    println!(
+        "compared on {count} batches from seed {seed}, {bytes} bytes: no difference; {} sheets; {nonempty} verdicts are non-empty",
+        refusals.0[0]
+    );
+    refusals.print();
+}
+
+/// A buffer for most expressions.
+pub const LONG: usize = 1 << 20;
+
+fn expressions(random: &mut Random, count: usize) {
+    let seed = random.0;
+    let mut refusals = Refusals([0; 32]);
+    let mut bytes = 0;
+    let mut text = vec![0; LONG];
+    for _ in 0..count {
+        let batch = told(random);
+        let value = plain::expression(&batch, &mut text, &mut 0);
+        let long = value >> 32 == 12 || value as u32 as usize > plain::LONGEST_SHEET || random.below(64) == 0;
+        for length in lengths(value).into_iter().filter(|&length| length < LONG || long) {
+            same_expression(random, &batch, length);
+        }
+        refusals.count(value);
+        bytes += value as u32 as usize;
+    }
+    println!(
+        "expressions compared on {count} batches from seed {seed}: no difference; {} expressions, {bytes} bytes, in {LONG}",
+        refusals.0[0]
+    );
+    refusals.print();
+}
+
+/// The lengths of buffers in which an expression is compared; the value is the answer in a long one.
+fn lengths(value: u64) -> Vec<usize> {
+    let exact = value as u32 as usize;
+    let mut lengths = vec![0, plain::LONGEST_SHEET, LONG];
+    if value >> 32 == 0 {
+        lengths.extend([exact, exact.saturating_sub(1)]);
+    }
+    lengths
+}
+
+fn same_expression(random: &mut Random, batch: &[u8], length: usize) {
+    let buffer = filled(random, length);
+    same(plain::expression, engine::expression, batch, &buffer, random.next());
+}
+
+/// Compares the expression of one batch in all buffers.
+pub fn expression(batch: &[u8]) {
+    let random = &mut Random(batch.len() as u64);
+    let value = plain::expression(batch, &mut vec![0; LONG], &mut 0);
+    for length in lengths(value) {
+        same_expression(random, batch, length);
     }
 }

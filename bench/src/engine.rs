@@ -5,10 +5,15 @@ extern "C" {
     /// A slice passes as its address, which is never null, and its length.
     fn gozhmerik_sheet(batch: *const u8, batch_len: usize, sheet: *mut u8, sheet_len: usize, place: *mut u64) -> u64;
     fn gozhmerik_verdict(batch: *const u8, batch_len: usize, place: *mut u64) -> u64;
+    fn gozhmerik_expression(batch: *const u8, batch_len: usize, text: *mut u8, text_len: usize, place: *mut u64)
+        -> u64;
 }
 
 /// Whether the archive is linked.
 pub const THERE: bool = cfg!(engine);
+
+/// A call: the batch, the buffer, the place. Its value is a length or the refusal's number times 2^32.
+pub type Call = fn(&[u8], &mut [u8], &mut u64) -> u64;
 
 /// The sheet's length, or the refusal's number times 2^32 with its place in `place`.
 #[cfg(engine)]
@@ -32,6 +37,18 @@ pub fn verdict(batch: &[u8], _: &mut [u8], place: &mut u64) -> u64 {
 #[cfg(not(engine))]
 pub fn verdict(batch: &[u8], sheet: &mut [u8], place: &mut u64) -> u64 {
     plain_verdict(batch, sheet, place)
+}
+
+/// The expression's length, or the refusal's number times 2^32 with its place in `place`.
+#[cfg(engine)]
+#[inline]
+pub fn expression(batch: &[u8], text: &mut [u8], place: &mut u64) -> u64 {
+    unsafe { gozhmerik_expression(batch.as_ptr(), batch.len(), text.as_mut_ptr(), text.len(), place) }
+}
+
+#[cfg(not(engine))]
+pub fn expression(batch: &[u8], text: &mut [u8], place: &mut u64) -> u64 {
+    plain::expression(batch, text, place)
 }
 
 /// What the verdict must be: the first line of plain Rust's sheet, or its refusal.

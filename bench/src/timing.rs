@@ -1,43 +1,52 @@
-//! The time of each family for the engine, for plain Rust and for the engine's verdict alone, taken in turns; the best of many repetitions counts.
+//! The time of each family for the engine, for plain Rust and for the engine's verdict alone, and the time of its expressions, taken in turns; the
+//! best of many repetitions counts.
 
-use crate::batches::{automaton, initial, ladder, last, left, letter, repeated, right, Random};
-use crate::{cases, engine};
+use crate::batches::{
+    automaton, far, grown, initial, ladder, last, left, letter, nested_sets, repeated, right, Random,
+};
+use crate::engine::{self, Call};
+use crate::{cases, compare};
 use std::hint::black_box;
 use std::time::{Duration, Instant};
 
-type Sheet = fn(&[u8], &mut [u8], &mut u64) -> u64;
+/// Batches that are timed together.
+struct Family {
+    name: String,
+    batches: Vec<Vec<u8>>,
+}
 
-/// Seconds for one pass over the family, `passes` of them taken at once.
-fn pass(sheet: Sheet, family: &[Vec<u8>], buffer: &mut [u8], passes: usize) -> f64 {
+/// Seconds for one pass over the batches, `passes` of them taken at once.
+fn pass(call: Call, batches: &[Vec<u8>], buffer: &mut [u8], passes: usize) -> f64 {
     let mut place = 0;
     let from = Instant::now();
     for _ in 0..passes {
-        for batch in family {
-            black_box(sheet(black_box(batch), black_box(&mut *buffer), &mut place));
+        for batch in batches {
+            black_box(call(black_box(batch), black_box(&mut *buffer), &mut place));
         }
     }
     from.elapsed().as_secs_f64() / passes as f64
 }
 
-/// The best times of engine, plain Rust and the engine's verdict for one batch of the family, in nanoseconds.
-fn times(family: &[Vec<u8>]) -> [f64; 3] {
-    let mut buffer = vec![0; plain::LONGEST_SHEET];
+/// The best times of plain Rust and of calls of the engine for one of the batches, in nanoseconds.
+fn times<const N: usize>(plain: Call, engine: [Call; N], batches: &[Vec<u8>], room: usize) -> (f64, [f64; N]) {
+    let mut buffer = vec![0; room];
     // As many passes as take some 50 microseconds: the clock does not count, and other work seldom falls in between.
-    let once = pass(engine::plain, family, &mut buffer, 1).max(1e-8);
+    let once = pass(plain, batches, &mut buffer, 1).max(1e-8);
     let passes = ((5e-5 / once) as usize).clamp(1, 1000);
-    let mut best = [f64::MAX; 3];
+    let mut best = (f64::MAX, [f64::MAX; N]);
     let from = Instant::now();
     let mut turns = 0;
     while turns < 30 || (turns < 5000 && from.elapsed() < Duration::from_millis(600)) {
-        best[1] = best[1].min(pass(engine::plain, family, &mut buffer, passes));
+        best.0 = best.0.min(pass(plain, batches, &mut buffer, passes));
         if engine::THERE {
-            best[0] = best[0].min(pass(engine::sheet, family, &mut buffer, passes));
-            best[2] = best[2].min(pass(engine::verdict, family, &mut buffer, passes));
+            for (best, call) in best.1.iter_mut().zip(engine) {
+                *best = best.min(pass(call, batches, &mut buffer, passes));
+            }
         }
         turns += 1;
     }
-    let each = 1e9 / family.len() as f64;
-    best.map(|time| time * each)
+    let each = 1e9 / batches.len() as f64;
+    (best.0 * each, best.1.map(|time| time * each))
 }
 
 /// The rounds of a batch, by its sheet; none if it is refused.
@@ -48,14 +57,20 @@ fn rounds(batch: &[u8]) -> Option<u32> {
     line.rsplit(' ').next()?.parse().ok()
 }
 
-/// The least and the most rounds of a family.
-fn all_rounds(family: &[Vec<u8>]) -> String {
-    let all: Vec<u32> = family.iter().filter_map(|batch| rounds(batch)).collect();
-    match (all.iter().min(), all.iter().max()) {
-        (Some(least), Some(most)) if least < most => format!("{least} to {most}"),
-        (Some(least), _) => least.to_string(),
-        _ => "refused".to_string(),
+/// The least and the most of some numbers.
+fn span(all: Vec<u64>) -> Option<String> {
+    match (all.iter().min()?, all.iter().max()?) {
+        (least, most) if least < most => Some(format!("{least} to {most}")),
+        (least, _) => Some(least.to_string()),
     }
+}
+
+/// The lengths of the expressions of a family, or how they are refused.
+fn expressions(batches: &[Vec<u8>], room: usize) -> String {
+    let mut text = vec![0; room];
+    let values: Vec<u64> = batches.iter().map(|batch| plain::expression(batch, &mut text, &mut 0)).collect();
+    let lengths = span(values.iter().copied().filter(|value| value >> 32 == 0).collect());
+    lengths.unwrap_or_else(|| format!("refused {}", span(values.iter().map(|value| value >> 32).collect()).unwrap()))
 }
 
 /// Random automata that take two rounds or more.
@@ -70,11 +85,16 @@ fn worked(random: &mut Random, count: usize, states: u64, rows: usize) -> Vec<Ve
     family
 }
 
-fn line(name: &str, family: &[Vec<u8>]) {
-    let bytes = family.iter().map(Vec::len).sum::<usize>() / family.len();
-    let [engine, plain, verdict] = times(family);
-    let rounds = all_rounds(family);
-    print!("{name:<34} {bytes:>7} {rounds:>9}");
+fn bytes(batches: &[Vec<u8>]) -> usize {
+    batches.iter().map(Vec::len).sum::<usize>() / batches.len()
+}
+
+fn line(name: &str, batches: &[Vec<u8>]) {
+    let (plain, [engine, verdict]) =
+        times(engine::plain, [engine::sheet, engine::verdict], batches, plain::LONGEST_SHEET);
+    let rounds = batches.iter().filter_map(|batch| rounds(batch)).map(u64::from).collect();
+    let rounds = span(rounds).unwrap_or("refused".to_string());
+    print!("{name:<34} {:>7} {rounds:>9}", bytes(batches));
     match engine::THERE {
         true => {
             println!(" {engine:>12.0} {plain:>12.0} {:>8.2} {verdict:>12.0} {:>8.2}", engine / plain, verdict / engine)
@@ -90,38 +110,78 @@ fn head(title: &str) {
     );
 }
 
-/// The families of the benchmark.
+fn expression_line(name: &str, batches: &[Vec<u8>], room: usize) {
+    batches.iter().for_each(|batch| compare::expression(batch));
+    let (plain, [engine]) = times(plain::expression, [engine::expression], batches, room);
+    print!("{name:<34} {:>7} {:>16}", bytes(batches), expressions(batches, room));
+    match engine::THERE {
+        true => println!(" {engine:>12.0} {plain:>12.0} {:>8.2}", engine / plain),
+        false => println!(" {:>12} {plain:>12.0} {:>8}", "-", "-"),
+    }
+}
+
+/// The families of the benchmark, their sheets and then their expressions.
 pub fn families() {
+    let random = &mut Random(64);
+    let mut all = small();
+    all.extend(large(random));
+    all.extend(long(random));
     head("family (time of one batch)");
-    let small: Vec<_> = cases::cases().into_iter().map(|(_, rows, _)| rows.concat()).collect();
-    line("small: cases A to K", &small);
-    for (name, batch, _) in cases::vectors() {
-        if ["rounds66_empty", "rounds64_nonempty", "sheet_K1", "walk63_letters"].contains(&name.as_str()) {
-            line(&name, &[batch]);
+    all.iter().for_each(|Family { name, batches }| line(name, batches));
+    println!(
+        "\n{:<34} {:>7} {:>16} {:>12} {:>12} {:>8}",
+        "expressions", "bytes", "bytes of text", "engine ns", "plain ns", "ratio"
+    );
+    all.iter().for_each(|Family { name, batches }| expression_line(name, batches, plain::LONGEST_SHEET));
+    let told = |batch: &Vec<u8>| plain::expression(batch, &mut [0; plain::LONGEST_SHEET], &mut 0) >> 32 == 0;
+    let grown: Vec<_> = (0..).map(|_| grown(random).concat()).filter(told).take(64).collect();
+    expression_line("random, grown sets", &grown, plain::LONGEST_SHEET);
+    expression_line("a tour of far neighbours", &[far(random, false)], compare::LONG);
+    expression_line("a mix of long pieces", &[far(random, true)], compare::LONG);
+    expression_line("12 nested sets", &[nested_sets(12)], compare::LONG);
+    expression_line("64 nested sets, 6,400 bytes", &[nested_sets(64)], plain::LONGEST_SHEET);
+    expression_line("64 nested sets, 1 MB", &[nested_sets(64)], compare::LONG);
+}
+
+fn family(name: &str, batches: Vec<Vec<u8>>) -> Family {
+    Family { name: name.to_string(), batches }
+}
+
+/// The cases and the vectors.
+fn small() -> Vec<Family> {
+    let mut all = vec![family("small: cases A to K", cases::cases().into_iter().map(|case| case.1.concat()).collect())];
+    let vectors = cases::vectors();
+    for vector in &vectors {
+        if ["rounds66_empty", "rounds64_nonempty", "sheet_K1", "walk63_letters"].contains(&vector.name.as_str()) {
+            all.push(family(&vector.name, vec![vector.batch.clone()]));
         }
     }
-    let (nested, others): (Vec<_>, Vec<_>) = cases::vectors()
+    let (nested, others) = vectors
         .into_iter()
-        .map(|(_, batch, _)| batch)
+        .map(|vector| vector.batch)
         .partition(|batch| batch.len() > 920 && rounds(batch).is_some_and(|rounds| rounds > 20));
-    line("vectors, random and nested", &nested);
-    line("the other vectors", &others);
-    let random = &mut Random(64);
+    all.extend([family("vectors, random and nested", nested), family("the other vectors", others)]);
+    all
+}
+
+/// Many sets, and random rows.
+fn large(random: &mut Random) -> Vec<Family> {
     let ladders = |random: &mut Random, noise, mixes| -> Vec<Vec<u8>> {
         (0..8).map(|_| ladder(random, 64, noise, mixes).concat()).collect()
     };
-    line("64 sets, ladders", &ladders(random, 0, false));
-    line("64 sets, ladders, many letters", &ladders(random, 120, false));
-    line("64 sets, ladders, mixes", &ladders(random, 0, true));
-    line("random, 12 rows, 5 states", &worked(random, 256, 5, 12));
-    line("random, 40 rows, 10 states", &worked(random, 64, 10, 40));
-    line("random, 120 rows, 20 states", &worked(random, 64, 20, 120));
-    line("random, 250 rows, 64 states", &worked(random, 64, 64, 250));
-    long(random);
+    vec![
+        family("64 sets, ladders", ladders(random, 0, false)),
+        family("64 sets, ladders, many letters", ladders(random, 120, false)),
+        family("64 sets, ladders, mixes", ladders(random, 0, true)),
+        family("random, 12 rows, 5 states", worked(random, 256, 5, 12)),
+        family("random, 40 rows, 10 states", worked(random, 64, 10, 40)),
+        family("random, 120 rows, 20 states", worked(random, 64, 20, 120)),
+        family("random, 250 rows, 64 states", worked(random, 64, 64, 250)),
+    ]
 }
 
 /// Long batches of repeated rows: few that stand, and as many as can stand.
-fn long(random: &mut Random) {
+fn long(random: &mut Random) -> Vec<Family> {
     let set = |at: u8| 3u64 << at % 60 | 1 << 63;
     let kinds: [(&str, Vec<Vec<u8>>); 6] = [
         ("kind 1", (0..64).map(initial).collect()),
@@ -131,11 +191,12 @@ fn long(random: &mut Random) {
         ("kind 5", (0..=255).map(|at| right(at / 4, set(at))).collect()),
         ("a random automaton", automaton(random, 20, 250, 9)),
     ];
-    for (name, rows) in &kinds {
-        line(&format!("long: {name}"), &[repeated(random, rows, 65_526)]);
-    }
-    line("long: one row of kind 4", &[left(7, 1).repeat(6553)]);
-    line("long: a random automaton, 1 MB", &[repeated(random, &kinds[5].1, 1 << 20)]);
+    let repeat =
+        |(name, rows): &(&str, Vec<Vec<u8>>)| family(&format!("long: {name}"), vec![repeated(random, rows, 65_526)]);
+    let mut all: Vec<_> = kinds.iter().map(repeat).collect();
+    all.push(family("long: one row of kind 4", vec![left(7, 1).repeat(6553)]));
+    all.push(family("long: a random automaton, 1 MB", vec![repeated(random, &kinds[5].1, 1 << 20)]));
+    all
 }
 
 /// How cost grows with rows, with sets and with rounds.

@@ -4,6 +4,8 @@
 #[allow(dead_code)]
 #[path = "../src/batches.rs"]
 mod batches;
+#[path = "naive/expressions.rs"]
+mod expressions;
 
 use std::collections::{BTreeMap, BTreeSet};
 
@@ -17,6 +19,9 @@ enum Row {
     Strike(u8),
 }
 use Row::*;
+
+/// The open claims, each a set and whether it is a mix, with their rounds.
+type Claims = BTreeMap<(u64, bool), u8>;
 
 /// A step: from, then what the order of walks compares (kind, letter or set, target), then its content.
 type Step = (u8, (u8, u64, u8), u64);
@@ -87,8 +92,8 @@ fn struck(rows: &BTreeSet<Row>) -> u64 {
     (0..64).filter(|&s| rows.contains(&Strike(s))).fold(0, |set, s| set | 1 << s)
 }
 
-/// The steps by letters and by the open claims; a claim is its set and whether it is a mix.
-fn steps(rows: &BTreeSet<Row>, open: &BTreeMap<(u64, bool), u8>) -> Vec<Step> {
+/// The steps by letters and by the open claims.
+fn steps(rows: &BTreeSet<Row>, open: &Claims) -> Vec<Step> {
     let mut all = vec![];
     for row in rows {
         match *row {
@@ -167,11 +172,18 @@ fn distances(rows: &BTreeSet<Row>, steps: &[Step]) -> [usize; 64] {
     far
 }
 
-fn sheet(rows: &BTreeSet<Row>, gaps: bool) -> String {
+/// What a batch settles to: the number of rounds, the openings, and a walk with its start if it is non-empty.
+struct Settled {
+    rounds: u8,
+    open: Claims,
+    walk: Option<(u8, Vec<Step>)>,
+}
+
+fn settle(rows: &BTreeSet<Row>, gaps: bool) -> Settled {
     let sets: BTreeSet<u64> = rows.iter().filter_map(set_of).collect();
-    let mut open: BTreeMap<(u64, bool), u8> = BTreeMap::new();
+    let mut open = Claims::new();
     let struck = struck(rows);
-    let mut round = 0;
+    let mut rounds = 0;
     loop {
         let all = steps(rows, &open);
         let far = distances(rows, &all);
@@ -179,44 +191,59 @@ fn sheet(rows: &BTreeSet<Row>, gaps: bool) -> String {
             .filter(|&s| rows.contains(&Initial(s)) && struck >> s & 1 == 0)
             .min_by_key(|&s| (far[s as usize], s));
         if let Some(start) = start.filter(|&s| far[s as usize] < usize::MAX) {
-            return format!("verdict nonempty rounds {round}\n{}{}", opened(&open), walk(&all, &far, start));
+            return Settled { rounds, open, walk: Some((start, walk(&all, &far, start))) };
         }
-        round += 1;
+        rounds += 1;
         let claims = sets.iter().flat_map(|&set| [(set, false), (set, true)]);
         let new: Vec<_> =
             claims.filter(|claim| !open.contains_key(claim) && holds(rows, &all, claim.0, claim.1, gaps)).collect();
         if new.is_empty() {
-            return format!("verdict empty rounds {round}\n{}", opened(&open));
+            return Settled { rounds, open, walk: None };
         }
-        open.extend(new.into_iter().map(|claim| (claim, round)));
+        open.extend(new.into_iter().map(|claim| (claim, rounds)));
     }
 }
 
-fn opened(open: &BTreeMap<(u64, bool), u8>) -> String {
-    let mut lines: Vec<_> = open.iter().map(|(&(set, mix), &round)| (round, set, mix)).collect();
-    lines.sort();
-    let name = |mix| if mix { "mix" } else { "loop" };
-    lines.iter().map(|&(round, set, mix)| format!("open {round} {} {set:016x}\n", name(mix))).collect()
-}
-
-fn walk(steps: &[Step], far: &[usize; 64], start: u8) -> String {
-    let mut text = format!("start {start}\n");
+fn walk(steps: &[Step], far: &[usize; 64], start: u8) -> Vec<Step> {
+    let mut walk = vec![];
     let mut at = start;
     while far[at as usize] > 0 {
         let nearer = |step: &&Step| step.0 == at && far[step.1 .2 as usize] + 1 == far[at as usize];
-        let (kind, label, to) = steps.iter().filter(nearer).map(|step| step.1).min().unwrap();
-        text += &match kind {
-            0 => format!("step letter {label} to {to}\n"),
-            _ => format!("step {} {label:016x} to {to}\n", ["omega", "back", "mix"][kind as usize - 1]),
-        };
-        at = to;
+        let step = *steps.iter().filter(nearer).min_by_key(|step| step.1).unwrap();
+        walk.push(step);
+        at = step.1 .2;
+    }
+    walk
+}
+
+fn sheet(rows: &BTreeSet<Row>, gaps: bool) -> String {
+    let Settled { rounds, open, walk } = settle(rows, gaps);
+    let verdict = if walk.is_some() { "nonempty" } else { "empty" };
+    let mut text = format!("verdict {verdict} rounds {rounds}\n");
+    let mut openings: Vec<_> = open.iter().map(|(&(set, mix), &round)| (round, set, mix)).collect();
+    openings.sort();
+    for (round, set, mix) in openings {
+        text += &format!("open {round} {} {set:016x}\n", if mix { "mix" } else { "loop" });
+    }
+    if let Some((start, walk)) = walk {
+        text += &format!("start {start}\n");
+        for (_, (kind, label, to), _) in walk {
+            text += &match kind {
+                0 => format!("step letter {label} to {to}\n"),
+                _ => format!("step {} {label:016x} to {to}\n", ["omega", "back", "mix"][kind as usize - 1]),
+            };
+        }
     }
     text
 }
 
+fn count() -> usize {
+    std::env::var("NAIVE").map_or(3000, |n| n.parse().unwrap())
+}
+
 #[test]
 fn plain_is_the_definition() {
-    let count = std::env::var("NAIVE").map_or(3000, |n| n.parse().unwrap());
+    let count = count();
     let mut random = batches::Random(2026);
     let (mut refused, mut nonempty, mut most, mut by_gaps, mut by_strikes) = (0, 0, 0, 0, 0);
     for _ in 0..count {
@@ -241,4 +268,68 @@ fn plain_is_the_definition() {
     println!(
         "{count} batches, {refused} refused, {nonempty} non-empty, at most {most} rounds, {by_gaps} by gaps, {by_strikes} by strikes"
     );
+}
+
+/// Plain Rust in a buffer of this length: what it returns, the place, the buffer. Before the call all its bytes are 255.
+fn told(batch: &[u8], length: usize) -> (u64, u64, Vec<u8>) {
+    let mut text = vec![255; length];
+    let mut place = 99;
+    let value = plain::expression(batch, &mut text, &mut place);
+    (value, place, text)
+}
+
+/// The answers that plain Rust must give, in buffers of several lengths.
+fn expect(batch: &[u8], want: &Result<Option<String>, (u8, usize)>) {
+    let refused = |number: u8, at: usize, length: usize| ((number as u64) << 32, at as u64, vec![255; length]);
+    match want {
+        Err((number, at)) => {
+            for length in [0, 10] {
+                assert_eq!(told(batch, length), refused(*number, *at, length), "on {batch:02x?}");
+            }
+        }
+        Ok(None) => assert_eq!(told(batch, expressions::MOST), refused(12, 0, expressions::MOST), "on {batch:02x?}"),
+        Ok(Some(text)) => {
+            let exact = text.len();
+            for length in [exact, exact + 1, exact + 300] {
+                let mut buffer = text.clone().into_bytes();
+                buffer.resize(length, 255);
+                assert_eq!(told(batch, length), (exact as u64, 99, buffer), "{text} on {batch:02x?}");
+            }
+            for length in [0, exact / 2, exact - 1] {
+                assert_eq!(told(batch, length), refused(12, 0, length), "{text} on {batch:02x?}");
+            }
+        }
+    }
+}
+
+#[test]
+fn expressions_are_the_definition() {
+    let mut random = batches::Random(12);
+    let mut seen = expressions::Seen::default();
+    for _ in 0..count() {
+        let batch = batches::told(&mut random);
+        expect(&batch, &expressions::expression(&batch, &mut seen));
+    }
+    println!("{} batches: {seen:?}", count());
+}
+
+/// Those of the vectors that have one.
+#[test]
+fn expressions_of_the_vectors() {
+    let folder = concat!(env!("CARGO_MANIFEST_DIR"), "/../crates/cases/data");
+    let mut seen = expressions::Seen::default();
+    for entry in std::fs::read_dir(folder).unwrap() {
+        let path = entry.unwrap().path();
+        if path.extension().is_some_and(|end| end == "expression") {
+            // An empty one stands for all batches that have none.
+            let Ok(batch) = std::fs::read(path.with_extension("batch")) else {
+                continue;
+            };
+            let text = std::fs::read_to_string(&path).unwrap();
+            let want = Ok(Some(text));
+            assert_eq!(expressions::expression(&batch, &mut seen), want, "{}", path.display());
+            expect(&batch, &want);
+        }
+    }
+    println!("vectors: {seen:?}");
 }

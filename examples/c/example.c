@@ -24,5 +24,14 @@ int main(void) {
     fwrite(sheet, 1, (size_t)value, stdout);
     /* Where only the verdict matters, no sheet is needed. */
     printf("%s\n", gozhmerik_verdict(case_a, sizeof case_a, &place) == 1 ? "some word is accepted" : "no word is accepted");
+    /* The word behind the sheet; where it is longer than the buffer, the value is a refusal. */
+    uint8_t word[100];
+    value = gozhmerik_expression(case_a, sizeof case_a, word, sizeof word, &place);
+    if (gozhmerik_refusal(value) != 0) {
+        printf("refused %u at %" PRIu64 "\n", gozhmerik_refusal(value), place);
+        return 1;
+    }
+    fwrite(word, 1, (size_t)value, stdout);
+    putchar('\n');
     return 0;
 }

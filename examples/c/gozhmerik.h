@@ -28,7 +28,18 @@ uint64_t gozhmerik_sheet(const uint8_t *batch, size_t batch_len, uint8_t *sheet,
    Refusal: the value returned is its number times 2^32, and its place is in *place. */
 uint64_t gozhmerik_verdict(const uint8_t *batch, size_t batch_len, uint64_t *place);
 
-/* The number of a refusal, 0 if the value is a sheet's length or a verdict. */
+/* The same batch, the walk of its sheet as an expression, without a line end: the word behind a non-empty sheet.
+
+   Expression: the value returned is its length, below 2^32; the bytes of `text` beyond that length are as they were.
+   Refusal: the value returned is its number times 2^32, 17 where the verdict is empty, 12 where the expression is longer
+   than text_len; its place is in *place, and `text` is as it was.
+
+   An expression can be very long: its length may double with each set. Of a buffer of more than 2^32 - 1 bytes the first
+   2^32 - 1 are used, and an expression that is longer is refused as 12. For `text` and text_len holds what holds above
+   for `sheet` and sheet_len. */
+uint64_t gozhmerik_expression(const uint8_t *batch, size_t batch_len, uint8_t *text, size_t text_len, uint64_t *place);
+
+/* The number of a refusal, 0 if the value is the length of a text or a verdict. */
 static inline unsigned gozhmerik_refusal(uint64_t value) { return (unsigned)(value >> 32); }
 
 #ifdef __cplusplus

@@ -8,6 +8,7 @@ extern "C" {
     // A slice passes as its address, which is never null, and its length.
     fn gozhmerik_sheet(batch: *const u8, batch_len: usize, sheet: *mut u8, sheet_len: usize, place: *mut u64) -> u64;
     fn gozhmerik_verdict(batch: *const u8, batch_len: usize, place: *mut u64) -> u64;
+    fn gozhmerik_expression(batch: *const u8, batch_len: usize, text: *mut u8, text_len: usize, place: *mut u64) -> u64;
 }
 
 /// No sheet is longer.
@@ -37,6 +38,20 @@ fn verdict(batch: &[u8]) -> Result<bool, (u64, u64)> {
     }
 }
 
+/// The walk of the sheet of a batch as an expression, where it has no more bytes than `room`; or the number and the place of a refusal.
+fn expression(batch: &[u8], room: usize) -> Result<Vec<u8>, (u64, u64)> {
+    let mut text = vec![0; room];
+    let mut place = 0;
+    // As for a sheet.
+    let value =
+        unsafe { gozhmerik_expression(batch.as_ptr(), batch.len(), text.as_mut_ptr(), text.len(), &mut place) };
+    if value >> 32 != 0 {
+        return Err((value >> 32, place));
+    }
+    text.truncate(value as usize);
+    Ok(text)
+}
+
 fn main() -> std::io::Result<()> {
     let case_a = [
         &[1, 0][..],                      // state 0 is initial
@@ -51,5 +66,10 @@ fn main() -> std::io::Result<()> {
         Err((number, place)) => writeln!(std::io::stdout(), "refused {number} at {place}")?,
     }
     // Where only the verdict matters, no sheet is needed.
-    writeln!(std::io::stdout(), "{:?}", verdict(&case_a))
+    writeln!(std::io::stdout(), "{:?}", verdict(&case_a))?;
+    // The word behind the sheet.
+    match expression(&case_a, 100) {
+        Ok(text) => writeln!(std::io::stdout(), "{}", String::from_utf8_lossy(&text)),
+        Err((number, place)) => writeln!(std::io::stdout(), "refused {number} at {place}"),
+    }
 }

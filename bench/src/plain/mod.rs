@@ -1,12 +1,18 @@
 //! A plain, unproved implementation of document 01, written for speed: the yardstick of the proved engine.
 
+mod expression;
 mod load;
 mod print;
 mod search;
+mod spell;
+mod steps;
+mod tree;
 mod walk;
 
+use expression::Expression;
 use load::Automaton;
 use search::{Search, Work};
+use spell::{Speller, Spelt};
 use std::cell::RefCell;
 
 /// No sheet is longer (document 01, "The sheet").
@@ -28,6 +34,7 @@ const ROOM: usize = LONGEST_SHEET + 64;
 thread_local! {
     static SCRATCH: RefCell<Scratch> =
         const { RefCell::new(Scratch { rows: Automaton::EMPTY, work: Work::EMPTY, text: [0; ROOM] }) };
+    static TOLD: RefCell<(Expression, Spelt)> = const { RefCell::new((Expression::EMPTY, Spelt::EMPTY)) };
 }
 
 /// Loads the batch, closes, does rounds until settled and prints into `out`; the length of the sheet, or a refusal
@@ -43,6 +50,33 @@ pub fn plain_sheet(batch: &[u8], out: &mut [u8]) -> Result<usize, Refusal> {
         }
         out[..length].copy_from_slice(&text[..length]);
         Ok(length)
+    })
+}
+
+/// Settles the batch likewise and writes the walk of its sheet as an expression (request C-12); the length of the text,
+/// or the refusal's number times 2^32 with its place in `place`, which leaves `text` as it was.
+pub fn expression(batch: &[u8], text: &mut [u8], place: &mut u64) -> u64 {
+    match told(batch, text) {
+        Ok(length) => length as u64,
+        Err((number, at)) => {
+            *place = at as u64;
+            (number as u64) << 32
+        }
+    }
+}
+
+fn told(batch: &[u8], text: &mut [u8]) -> Result<usize, Refusal> {
+    SCRATCH.with_borrow_mut(|Scratch { rows, work, .. }| {
+        rows.load(batch)?;
+        let mut search = Search::new(rows, work);
+        if !search.settle().nonempty {
+            return Err((17, 0));
+        }
+        TOLD.with_borrow_mut(|(told, spelt)| {
+            let (walk, length) = told.measure(&search, text.len()).ok_or((12, 0))?;
+            Speller::new(told, spelt, &mut text[..length]).walk(walk);
+            Ok(length)
+        })
     })
 }
 

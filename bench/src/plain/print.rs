@@ -52,7 +52,7 @@ struct Text<'a> {
 }
 
 /// The decimal digits of each byte, filled to a word, and in the last place how many they are.
-const DECIMAL: [[u8; 4]; 256] = decimal();
+pub const DECIMAL: [[u8; 4]; 256] = decimal();
 
 const fn decimal() -> [[u8; 4]; 256] {
     let mut table = [[0; 4]; 256];

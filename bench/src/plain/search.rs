@@ -241,17 +241,7 @@ impl<'a> Search<'a> {
     }
 
     fn fill_member_of(&mut self) {
-        let count = self.rows.set_count;
-        if count > FEW {
-            self.member_of[..count].copy_from_slice(&self.rows.sets[..count]);
-            transpose(&mut self.member_of);
-            return;
-        }
-        for at in 0..count {
-            for state in Bits(self.rows.sets[at]) {
-                self.member_of[state] |= 1 << at;
-            }
-        }
+        self.member_of = member_of(&self.rows.sets[..self.rows.set_count]);
     }
 
     /// Sorts the states by the number of sets that they are in.
@@ -427,6 +417,20 @@ impl<'a> Search<'a> {
         };
         (entrances == root || reaches(self.forward())) && reaches(self.turned())
     }
+}
+
+/// For each state the indices of the sets that it is in.
+pub fn member_of(sets: &[u64]) -> [u64; 64] {
+    let mut member_of = [0; 64];
+    if sets.len() > FEW {
+        member_of[..sets.len()].copy_from_slice(sets);
+        transpose(&mut member_of);
+        return member_of;
+    }
+    for (at, &set) in sets.iter().enumerate() {
+        Bits(set).for_each(|state| member_of[state] |= 1 << at);
+    }
+    member_of
 }
 
 /// The mask of the first `count` places.

@@ -1,3 +1,4 @@
 -- What calls from a fresh session handed back, one call after another.
 pub mod Handed
 pub mod Variants
+pub mod Expressions

@@ -1,14 +1,19 @@
 -- What a caller that makes a list of calls comes to.
 use Prim.Native.Nat.{ℕ, _≤_, _<_}
 use mathlib.Core.Path.{_≡_}
+use mathlib.Core.Option.{some}
 use mathlib.Core.List.{List, [], _∷_, _++_, map}
 use lib.ListN.{length, take, replicate}
+use Rattle.lists.specs.Tests.{gather}
 use Rattle.orderings.specs.MoreRows.{StrikesNothing}
 use Rattle.machine.specs.declared.Answer.the-variants.{Done, Wrote, Decided, Refused}
 use Rattle.machine.specs.declared.Verdict.{Verdict}
+use Rattle.machine.specs.declared.Verdict.the-variants.{NonEmpty}
 use Rattle.machine.specs.declared.Phase.the-variants.{Settled}
-use Rattle.machine.specs.Machine.{open-with}
-use Rattle.machine.specs.Calls.{load, close, round, reopen, verdict, print, saved}
+use Rattle.machine.specs.Machine.{Machine, open-with}
+use Rattle.machine.specs.Sheet.{verdict-line, opening-line, walk-lines}
+use Rattle.machine.specs.Word.{TellsWalk}
+use Rattle.machine.specs.Calls.{load, close, round, reopen, verdict, print, expression, saved}
 use Rattle.machine.specs.Causes.{NotOpen}
 use Rattle.machine.specs.Marks.{unmarked, fresh-marked, MarkedCall, on, mark, return-to}
 use Rattle.machine.specs.Statements.{after-calls}
@@ -17,12 +22,13 @@ use Rattle.session.specs.declared.Reply.{Reply}
 use Rattle.session.specs.Record.{record-of}
 use Rattle.session.specs.Standing.{reply, with-marks}
 use Rattle.callers.specs.declared.Added.{Added}
+use Rattle.callers.specs.declared.Expressed.{Expressed}
 use Rattle.callers.specs.declared.TwoVerdicts.{TwoVerdicts}
 use Rattle.callers.specs.declared.Refusals.{Refusals}
 use Rattle.callers.specs.declared.Tried.{Tried}
 use Rattle.demands.specs.Trace.{Exchange, Trace, given, Served, onward, exchange}
 use Rattle.demands.specs.Demands.{Answered, PrintsTrue, ExactPrint}
-use Rattle.demands.specs.Requests.{OneRound, SheetsGrow}
+use Rattle.demands.specs.Requests.{OneRound, OneExpression, SheetsGrow}
 
 -- the session is what calls from a fresh one handed back
 pub record HandedBack (cs : List MarkedCall) (s : Session) : Type 0 where
@@ -63,6 +69,23 @@ pub record PrintedAfter (batch old new : List ℕ) (r : Reply) : Type 0 where
   pub settled : after-calls (worked batch count) .phase ≡ Settled verdict
   pub true-sheet : PrintsTrue (after-calls (worked batch count)) old new (r .answer)
   pub exact : ExactPrint (after-calls (worked batch count)) old new (r .answer)
+
+-- the bytes of a sheet and of an expression of the machine m: they tell one walk
+abbrev pub OneWalk : Machine → List ℕ → List ℕ → Type 0
+OneWalk m sheet l = (t : TellsWalk m l) × (sheet ≡ verdict-line NonEmpty (m .rounds) ++ (gather opening-line (m .openings) ++ walk-lines (some (t .told))))
+
+-- print and expression after load, close and rounds: request C-12 at the second, on the session that the first handed back
+pub record ExpressedAfter (batch old new old′ new′ : List ℕ) (r : Expressed) : Type 0 where
+  pub count : ℕ
+  pub few : count ≤ 129
+  pub before : Session
+  pub handed-before : HandedBack (worked batch count ++ (on (print (length old)) ∷ [])) before
+  pub handed : HandedBack (worked batch count ++ (on (print (length old)) ∷ on (expression (length old′)) ∷ [])) (r .told .session)
+  pub verdict : Verdict
+  pub settled : after-calls (worked batch count) .phase ≡ Settled verdict
+  pub expressed : OneExpression (after-calls (worked batch count)) before (exchange (on (expression (length old′))) old′ new′ (r .told))
+  -- where both are accepted
+  pub one-walk : (n n′ : ℕ) → r .printed ≡ Wrote n → r .told .answer ≡ Wrote n′ → OneWalk (after-calls (worked batch count)) (take n new) (take n′ new′)
 
 -- a print, then reopen, load, close and k rounds
 abbrev pub reworked : ℕ → List ℕ → ℕ → List MarkedCall

@@ -3,7 +3,7 @@ use session::Reply;
 use session::Session;
 ghost use lib.ListN.{length};
 ghost use mathlib.Core.List.{[]};
-ghost use Rattle.machine.specs.Calls.{load, withdraw, close, round, reopen, verdict, print, save};
+ghost use Rattle.machine.specs.Calls.{load, withdraw, close, round, reopen, verdict, print, save, expression};
 ghost use Rattle.machine.specs.Marks.{on, mark, return-to};
 ghost use Rattle.session.specs.Promise.{Fresh};
 ghost use Rattle.demands.specs.Trace.{Served, exchange};
@@ -62,6 +62,13 @@ pub fn call_save(s: Session, buffer: &mut [u8]) -> Reply
         (now (buffer .entry)) (now (buffer .exit)) r) ⌝ }
 {
     s.save(buffer)
+}
+
+pub fn call_expression(s: Session, buffer: &mut [u8]) -> Reply
+    ensures { λ r. ⌜ Served s (exchange (on (expression (length (now (buffer .entry)))))
+        (now (buffer .entry)) (now (buffer .exit)) r) ⌝ }
+{
+    s.expression(buffer)
 }
 
 pub fn call_mark(s: Session, name: &[u8]) -> Reply

@@ -11,6 +11,12 @@ pub struct Added {
     pub again: Reply,
 }
 
+// What the print of `sequences::express_settled` answered, and what its expression came to.
+pub struct Expressed {
+    pub printed: Answer,
+    pub told: Reply,
+}
+
 // What the calls of `sequences::refused_first` answered.
 pub struct Refusals {
     pub printed: Answer,

@@ -1,9 +1,11 @@
 // Lists of calls, made by a caller: what is promised are the demands at them.
 use crate::Added;
+use crate::Expressed;
 use crate::Refusals;
 use crate::Tried;
 use crate::TwoVerdicts;
 use crate::calls::call_close;
+use crate::calls::call_expression;
 use crate::calls::call_fresh;
 use crate::calls::call_load;
 use crate::calls::call_mark;
@@ -20,8 +22,8 @@ use session::Session;
 ghost use mathlib.Core.List.{[], _∷_};
 ghost use Rattle.machine.specs.Calls.{load, close};
 ghost use Rattle.machine.specs.Marks.{on};
-ghost use Rattle.callers.specs.Handed.{HandedBack, FirstCall, RoundsOn, DoesRounds};
-ghost use Rattle.callers.specs.Handed.{PrintedAfter, AddsLate, RefusedFirst, VerdictFirst, SavedAgain, TriesVariant};
+ghost use Rattle.callers.specs.Handed.{HandedBack, FirstCall, RoundsOn, DoesRounds, PrintedAfter, ExpressedAfter};
+ghost use Rattle.callers.specs.Handed.{AddsLate, RefusedFirst, VerdictFirst, SavedAgain, TriesVariant};
 
 // Load into a fresh session.
 fn loaded(batch: &[u8]) -> Reply
@@ -75,6 +77,17 @@ pub fn print_settled(batch: &[u8], buffer: &mut [u8]) -> Reply
     let r = closed(batch);
     let s = rounds_until(r.session);
     call_print(s, buffer)
+}
+
+// As `print_settled`, and then the walk of the sheet as an expression.
+pub fn express_settled(batch: &[u8], sheet: &mut [u8], buffer: &mut [u8]) -> Expressed
+    ensures { λ r. ⌜ ExpressedAfter (now (batch .entry)) (now (sheet .entry)) (now (sheet .exit))
+        (now (buffer .entry)) (now (buffer .exit)) r ⌝ }
+{
+    let p = print_settled(batch, sheet);
+    let printed = p.answer;
+    let told = call_expression(p.session, buffer);
+    Expressed { printed, told }
 }
 
 // A sheet of any session, rows added late, and the sheet again.

@@ -1,7 +1,10 @@
 // Runs the checker and the functions of the library on stored batches, and compares each sheet with the stored one, byte by byte, and each
-// verdict with its first line.
-// Its arguments are pairs of file names: a batch, and the sheet that it must give.
+// verdict with its first line; and each expression with the stored one.
+// Its arguments are pairs of file names: a batch, and the sheet that it must give, or the expression.
+mod expressions;
+
 use machine::LONGEST_SHEET;
+use program_output::beyond;
 use program_output::first;
 use program_output::same;
 use program_output::say;
@@ -45,10 +48,10 @@ fn say_same(is_same: bool) {
     }
 }
 
-// Says what a function of the library refuses.
-fn say_refused(code: u64, place: u64) {
+// Says what is refused.
+fn say_refused(number: u64, place: u64) {
     say(b"refuses ");
-    say_number(code / REFUSAL);
+    say_number(number);
     say(b" at ");
     say_number(place);
 }
@@ -61,7 +64,7 @@ fn say_library(batch: &[u8], text: &[u8]) {
     if code < REFUSAL {
         return say_same(same(first(&out, code as usize), text));
     }
-    say_refused(code, place);
+    say_refused(code / REFUSAL, place);
 }
 
 // Does the text begin with the line of the verdict?
@@ -79,11 +82,11 @@ fn say_verdict(batch: &[u8], text: &[u8]) {
     if code < REFUSAL {
         return say_same(says(text, code));
     }
-    say_refused(code, place);
+    say_refused(code / REFUSAL, place);
 }
 
-// Says what becomes of a batch, and whether the program writes the text.
-fn tell(batch: &[u8], text: &[u8]) -> bool {
+// Says what becomes of a batch that is asked for its sheet, and whether the program writes the text.
+fn tell_sheet(batch: &[u8], text: &[u8]) -> bool {
     let is_same = writes(batch, text);
     say_same(is_same);
     say(b", library ");
@@ -93,25 +96,43 @@ fn tell(batch: &[u8], text: &[u8]) -> bool {
     is_same
 }
 
+// Does the name that an argument has end in the text?
+fn ends_in(index: usize, text: &[u8]) -> bool {
+    let mut path = io::buffer();
+    let length = os::arg(index, &mut path);
+    if length < text.len() {
+        return false;
+    }
+    same(beyond(&path[..length], length - text.len()), text)
+}
+
+// Says what becomes of a batch, and whether it is the text.
+fn tell(batch: &[u8], text: &[u8], is_expression: bool) -> bool {
+    if is_expression {
+        return expressions::tell(batch, text);
+    }
+    tell_sheet(batch, text)
+}
+
 // Does the batch in one file give the text in the other? Files that cannot be read give nothing.
-fn gives(batch_file: i32, sheet_file: i32) -> bool {
-    if batch_file < 0 || sheet_file < 0 {
+fn gives(batch_file: i32, text_file: i32, is_expression: bool) -> bool {
+    if batch_file < 0 || text_file < 0 {
         return false;
     }
     let mut batch = [0u8; 65538];
     let n = read_file(batch_file, &mut batch);
-    let mut text = [0u8; 8192];
-    let k = read_file(sheet_file, &mut text);
-    tell(&batch[..n], &text[..k])
+    let mut text = [0u8; 16384];
+    let k = read_file(text_file, &mut text);
+    tell(&batch[..n], &text[..k], is_expression)
 }
 
 // Runs one case, says how it went, and counts it where it went wrong.
-fn run_case(batch_index: usize, sheet_index: usize) -> u64
+fn run_case(batch_index: usize, text_index: usize) -> u64
     ensures { λ r. ⌜ r ≤ 1 ⌝ }
 {
     let batch_file = open_named(batch_index);
-    let sheet_file = open_named(sheet_index);
-    let is_given = gives(batch_file, sheet_file);
+    let text_file = open_named(text_index);
+    let is_given = gives(batch_file, text_file, ends_in(text_index, b".expression"));
     say(b"\n");
     if is_given { 0 } else { 1 }
 }

@@ -48,6 +48,14 @@ module _ (then : Machine → Outcome) (l : List ℕ) (a : Answer) (Has : List Ro
       go (fed rows) f h = absurd (d (h .0))
       go (failed n place) f h = rw h (tells-as (sym (fed-after (failed n place) f)) (tells-refused n place old))
 
+  -- the rows that the arrays then hold
+  pub load-held : a ≡ Done → (rows : List Row) × Table rows × Has rows
+  load-held d = go (feed load-row [] l) comes
+    where
+      go : (x : Fed (List Row)) → Comes Has x a → (rows : List Row) × Table rows × Has rows
+      go (fed rows) h = (rows, h .1, h .2)
+      go (failed n place) h = let z : _≡_ {A = ℕ} 0 1 = cc in absurd (omega arith)
+
   pub load-done : a ≡ Done → (new : List ℕ) (r : Answer) → ((rows : List Row) → Table rows → Has rows → Tells (then (open-with rows)) old new r) → Tells (after-load then l) old new r
   load-done d new r ends = go (feed load-row [] l) refl comes
     where

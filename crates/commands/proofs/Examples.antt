@@ -3,7 +3,7 @@ use mathlib.Core.Path.{_≡_, refl}
 use mathlib.Core.List.{[], _∷_, map}
 use Rattle.machine.specs.Text.{text}
 use Rattle.commands.specs.declared.Change.the-variants.{Load}
-use Rattle.commands.specs.declared.Report.the-variants.{Print, Save}
+use Rattle.commands.specs.declared.Report.the-variants.{Print, Save, Expression}
 use Rattle.commands.specs.declared.Move.the-variants.{Close, Verdict}
 use Rattle.commands.specs.declared.Naming.the-variants.{Mark, Return}
 use Rattle.commands.specs.Digits.{between, digit-value, digits, pairs, bytes, number-from, at-most}
@@ -21,3 +21,9 @@ names-of-lines : map (λ line. meaning 2 (text line)) ("mark ab" ∷ "return Z9"
     ≡ named Mark (text "ab") ∷ named Return (text "Z9") ∷ named Mark [] ∷ named Mark [] ∷ named Return [] ∷ named Mark (text " a") ∷ named Mark (text "a ") ∷ too-long ∷ unknown ∷ unknown ∷ []
 unfolding words starts passed-over with-name called meaning
 names-of-lines = refl
+
+-- request C-12: an expression, into 1 MB or as much as the line says, at most that
+expressions : map (λ line. meaning 2 (text line)) ("expression" ∷ "expression 0" ∷ "expression 0012" ∷ "expression 6401" ∷ "expression 1048576" ∷ "expression 1048577" ∷ "expression " ∷ "expression 9a" ∷ "expressions" ∷ "express" ∷ [])
+    ≡ report Expression 1048576 ∷ report Expression 0 ∷ report Expression 12 ∷ report Expression 6401 ∷ report Expression 1048576 ∷ report Expression 1048576 ∷ unknown ∷ unknown ∷ unknown ∷ unknown ∷ []
+unfolding between digit-value digits number-from at-most words starts passed-over lends called meaning
+expressions = refl

@@ -22,7 +22,7 @@ use Rattle.commands.specs.declared.Command.{Command}
 use Rattle.commands.proofs.Command.{the-type}
 use Rattle.commands.specs.declared.Command.the-variants.{Changes, Reports, Moves, Names, Nothing, BadHex, TooLong, Unknown}
 use Rattle.commands.specs.declared.Found.{Found}
-use Rattle.commands.specs.Meaning.{Meaning, change, report, move, named, nothing, bad-hex, too-long, unknown, Word, says, words, batch, lends, with-name, with-text, starts, behind, called}
+use Rattle.commands.specs.Meaning.{Meaning, change, report, move, named, nothing, bad-hex, too-long, unknown, longest, Word, says, words, batch, lends, with-name, with-text, starts, behind, called}
 use Rattle.commands.specs.Table.{table, alone-at, command-of, ends, further, seek}
 use Rattle.commands.specs.Promise.{Means, Asks, TellsWord, Extends}
 use Rattle.commands.proofs.Texts.{nothing-held}
@@ -163,11 +163,11 @@ past-words [] k h = refl
 past-words (says w m ∷ ws) zero h = absurd (omega arith)
 past-words (says w m ∷ ws) (suc k) h = past-words ws k (omega arith)
 
--- a word alone brings no bytes and no name, and no buffer longer than 6,400
+-- a word alone brings no bytes and no name, and no buffer longer than the call is lent
 sound : Meaning → Bool
 sound (change call []) = true
 sound (change call (x ∷ l)) = false
-sound (report call n) = leb n 6400
+sound (report call n) = leb n (longest call)
 sound (move call) = true
 sound (named call []) = true
 sound (named call (x ∷ l)) = false
@@ -180,7 +180,7 @@ asks-sound : (m : Meaning) → sound m ≡ true → Asks m (command-of m)
 unfolding sound
 asks-sound (change call []) e buffer = (nothing-held buffer, refl)
 asks-sound (change call (x ∷ l)) e buffer = never e
-asks-sound (report call n) e buffer = (leb-true n 6400 e, refl)
+asks-sound (report call n) e buffer = (leb-true n (longest call) e, refl)
 asks-sound (move call) e buffer = refl
 asks-sound (named call []) e buffer = (nothing-held buffer, refl)
 asks-sound (named call (x ∷ l)) e buffer = never e

@@ -11,9 +11,10 @@ use borrow.Author.Tests.{eq-eqb, ne-eqb, le-leb, lt-leb}
 use Rattle.lists.specs.Writing.{Wrote}
 use Rattle.commands.specs.declared.Change.{Change}
 use Rattle.commands.specs.declared.Report.{Report}
+use Rattle.commands.specs.declared.Report.the-variants.{Print, Save, Expression}
 use Rattle.commands.specs.declared.Naming.{Naming}
 use Rattle.commands.specs.Digits.{digits, pairs, bytes, number-from, at-most}
-use Rattle.commands.specs.Meaning.{change, report, named, unknown, bad-hex, too-long, passed-over, batch, lends, with-name}
+use Rattle.commands.specs.Meaning.{change, report, named, unknown, bad-hex, too-long, longest, passed-over, batch, lends, with-name}
 use Rattle.commands.specs.Promise.{FitsIn}
 
 pub passed-empty : (l : List ℕ) → length l ≡ 0 → passed-over l ≡ true
@@ -46,6 +47,12 @@ pub batch-bytes : (call : Change) (room : ℕ) (l : List ℕ) → length l % 2 �
 unfolding batch pairs
 batch-bytes call room l h e g = simp (eq-eqb (length l % 2) 0 h, e, le-leb (length l) (room + room) (omega arith))
 
+-- no call is lent more than 1 MB
+pub longest-most : (call : Report) → longest call ≤ 1048576
+longest-most Print = omega arith
+longest-most Save = omega arith
+longest-most Expression = omega arith
+
 pub lent-empty : (call : Report) (l : List ℕ) → length l ≡ 0 → lends call l ≡ unknown
 unfolding lends
 lent-empty call [] h = refl
@@ -56,7 +63,7 @@ unfolding lends
 lent-other call [] e = refl
 lent-other call (c ∷ l) e = simp e
 
-pub lent-number : (call : Report) (l : List ℕ) → 0 < length l → digits 10 l ≡ true → lends call l ≡ report call (at-most (number-from 0 l))
+pub lent-number : (call : Report) (l : List ℕ) → 0 < length l → digits 10 l ≡ true → lends call l ≡ report call (at-most (longest call) (number-from 0 l))
 unfolding lends
 lent-number call [] h e = absurd (omega arith)
 lent-number call (c ∷ l) h e = simp e

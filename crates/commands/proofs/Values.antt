@@ -55,23 +55,56 @@ pub value-high : (c : ℕ) → 102 < c → digit-value c ≡ 16
 unfolding digit-value
 value-high c h = simp (over 48 57 c (omega arith) (omega arith), over 97 102 c (omega arith) h, over 65 70 c (omega arith) (omega arith))
 
-pub at-most-over : (n : ℕ) → 6400 < n → at-most n ≡ 6400
-unfolding at-most
-at-most-over n h = simp (lt-ltb 6400 n h)
+-- ---- numbers that are cut at `most`
 
-pub at-most-under : (n : ℕ) → n ≤ 6400 → at-most n ≡ n
-unfolding at-most
-at-most-under n h = simp (le-ltb 6400 n h)
+module _ (most : ℕ) where
+  pub at-most-over : (n : ℕ) → most < n → at-most most n ≡ most
+  unfolding at-most
+  at-most-over n h = simp (lt-ltb most n h)
 
-sides : (n : ℕ) → (6400 < n) ⊎ (n ≤ 6400)
-sides n = by-test (ltb 6400 n) refl
-  where
-    by-test : (b : Bool) → ltb 6400 n ≡ b → (6400 < n) ⊎ (n ≤ 6400)
-    by-test true e = inl (ltb-true 6400 n e)
-    by-test false e = inr (ltb-false 6400 n e)
+  pub at-most-under : (n : ℕ) → n ≤ most → at-most most n ≡ n
+  unfolding at-most
+  at-most-under n h = simp (le-ltb most n h)
 
-pub at-most-small : (n : ℕ) → at-most n ≤ 6400
-at-most-small n = ⊎-elim (λ h. let e = at-most-over n h in omega arith) (λ h. let e = at-most-under n h in omega arith) (sides n)
+  sides : (n : ℕ) → (most < n) ⊎ (n ≤ most)
+  sides n = by-test (ltb most n) refl
+    where
+      by-test : (b : Bool) → ltb most n ≡ b → (most < n) ⊎ (n ≤ most)
+      by-test true e = inl (ltb-true most n e)
+      by-test false e = inr (ltb-false most n e)
+
+  pub at-most-small : (n : ℕ) → at-most most n ≤ most
+  at-most-small n = ⊎-elim (λ h. let e = at-most-over n h in omega arith) (λ h. let e = at-most-under n h in omega arith) (sides n)
+
+  -- no less than `most`, whether it is more or not
+  at-most-full : (n : ℕ) → most ≤ n → at-most most n ≡ most
+  at-most-full n h = ⊎-elim (at-most-over n) (λ g. at-most-under n g ∙ (omega arith)) (sides n)
+
+  -- a number that is cut on the way is the same in the end
+  at-most-step : (n v : ℕ) → at-most most (n * 10 + v) ≡ at-most most (at-most most n * 10 + v)
+  at-most-step n v = ⊎-elim more less (sides n)
+    where
+      more : most < n → at-most most (n * 10 + v) ≡ at-most most (at-most most n * 10 + v)
+      more h = rw (at-most-over n h) (at-most-full (n * 10 + v) (omega arith) ∙ sym (at-most-full (most * 10 + v) (omega arith)))
+
+      less : n ≤ most → at-most most (n * 10 + v) ≡ at-most most (at-most most n * 10 + v)
+      less h = rw (at-most-under n h)
+
+  number-cut : (n : ℕ) (l : List ℕ) → at-most most (number-from n l) ≡ at-most most (number-from (at-most most n) l)
+  unfolding number-from
+  number-cut n [] = sym (at-most-under (at-most most n) (at-most-small n))
+  number-cut n (c ∷ l) = number-cut (n * 10 + digit-value c) l ∙ ap (λ k. at-most most (number-from k l)) (at-most-step n (digit-value c)) ∙ sym (number-cut (at-most most n * 10 + digit-value c) l)
+
+  pub number-more : (n : ℕ) (l : List ℕ) (i : ℕ) → i < length l
+      → at-most most (number-from n (drop i l)) ≡ at-most most (number-from (at-most most (n * 10 + digit-value (getD l i 0))) (drop (suc i) l))
+  unfolding number-from
+  number-more n l i h = rw (drop-cons l i 0 h) (number-cut (n * 10 + digit-value (getD l i 0)) (drop (suc i) l))
+
+  pub number-end : (n : ℕ) (l : List ℕ) (i : ℕ) → length l ≤ i → n ≤ most → at-most most (number-from n (drop i l)) ≡ n
+  unfolding number-from
+  number-end n l i h g = rw (drop-of-length-le l h) (at-most-under n g)
+
+-- ---- digits and bytes
 
 -- digits up to a place and from it on
 pub digits-more : (base : ℕ) (l : List ℕ) (i : ℕ) → i < length l → digit-value (getD l i 0) < base → digits base (drop i l) ≡ digits base (drop (suc i) l)
@@ -92,30 +125,6 @@ unfolding digits
 digits-at base [] i e h = absurd (omega arith)
 digits-at base (x ∷ l) zero e h = and· (ltb· (digit-value x) base) (test· (digits base l)) .to e .0
 digits-at base (x ∷ l) (suc i) e h = digits-at base l i (and· (ltb· (digit-value x) base) (test· (digits base l)) .to e .1) (omega arith)
-
--- a number that is cut on the way is the same in the end
-at-most-step : (n v : ℕ) → at-most (n * 10 + v) ≡ at-most (at-most n * 10 + v)
-at-most-step n v = ⊎-elim more less (sides n)
-  where
-    more : 6400 < n → at-most (n * 10 + v) ≡ at-most (at-most n * 10 + v)
-    more h = rw (at-most-over n h) (at-most-over (n * 10 + v) (omega arith) ∙ sym (at-most-over (6400 * 10 + v) (omega arith)))
-
-    less : n ≤ 6400 → at-most (n * 10 + v) ≡ at-most (at-most n * 10 + v)
-    less h = rw (at-most-under n h)
-
-number-cut : (n : ℕ) (l : List ℕ) → at-most (number-from n l) ≡ at-most (number-from (at-most n) l)
-unfolding number-from
-number-cut n [] = sym (at-most-under (at-most n) (at-most-small n))
-number-cut n (c ∷ l) = number-cut (n * 10 + digit-value c) l ∙ ap (λ k. at-most (number-from k l)) (at-most-step n (digit-value c)) ∙ sym (number-cut (at-most n * 10 + digit-value c) l)
-
-pub number-more : (n : ℕ) (l : List ℕ) (i : ℕ) → i < length l
-    → at-most (number-from n (drop i l)) ≡ at-most (number-from (at-most (n * 10 + digit-value (getD l i 0))) (drop (suc i) l))
-unfolding number-from
-number-more n l i h = rw (drop-cons l i 0 h) (number-cut (n * 10 + digit-value (getD l i 0)) (drop (suc i) l))
-
-pub number-end : (n : ℕ) (l : List ℕ) (i : ℕ) → length l ≤ i → n ≤ 6400 → at-most (number-from n (drop i l)) ≡ n
-unfolding number-from
-number-end n l i h g = rw (drop-of-length-le l h) (at-most-under n g)
 
 -- the bytes from a place on
 pub bytes-more : (l : List ℕ) (i : ℕ) → suc i < length l → bytes (drop i l) ≡ (digit-value (getD l i 0) * 16 + digit-value (getD l (suc i) 0)) ∷ bytes (drop (suc (suc i)) l)

@@ -38,6 +38,6 @@ unfoldable pub number-from : ℕ → List ℕ → ℕ
 number-from n [] = n
 number-from n (c ∷ l) = number-from (n * 10 + digit-value c) l
 
--- at most 6,400: no sheet and no save is longer
-unfoldable pub at-most : ℕ → ℕ
-at-most n = cond (ltb 6400 n) 6400 n
+-- the number, or `most` where it is more
+unfoldable pub at-most : ℕ → ℕ → ℕ
+at-most most n = cond (ltb most n) most n

@@ -8,7 +8,7 @@ use Rattle.machine.specs.Text.{text}
 use Rattle.commands.specs.declared.Change.{Change}
 use Rattle.commands.specs.declared.Change.the-variants.{Load, Withdraw}
 use Rattle.commands.specs.declared.Report.{Report}
-use Rattle.commands.specs.declared.Report.the-variants.{Print, Save}
+use Rattle.commands.specs.declared.Report.the-variants.{Print, Save, Expression}
 use Rattle.commands.specs.declared.Move.{Move}
 use Rattle.commands.specs.declared.Move.the-variants.{Close, Round, Reopen, Verdict}
 use Rattle.commands.specs.declared.Naming.{Naming}
@@ -27,6 +27,12 @@ pub data Meaning : Type 0 where
   too-long : Meaning
   unknown : Meaning
 
+-- the longest buffer that a call is lent: no sheet and no save is longer than 6,400 bytes; an expression has 1 MB
+abbrev pub longest : Report → ℕ
+longest Print = 6400
+longest Save = 6400
+longest Expression = 1048576
+
 -- a word, and what it means alone
 pub data Word : Type 0 where
   says : List ℕ → Meaning → Word
@@ -35,14 +41,15 @@ unfoldable pub words : List Word
 words =
     says (text "load") (change Load [])
     ∷ says (text "withdraw") (change Withdraw [])
-    ∷ says (text "print") (report Print 6400)
-    ∷ says (text "save") (report Save 6400)
+    ∷ says (text "print") (report Print (longest Print))
+    ∷ says (text "save") (report Save (longest Save))
     ∷ says (text "close") (move Close)
     ∷ says (text "round") (move Round)
     ∷ says (text "reopen") (move Reopen)
     ∷ says (text "verdict") (move Verdict)
     ∷ says (text "mark") (named Mark [])
     ∷ says (text "return") (named Return [])
+    ∷ says (text "expression") (report Expression (longest Expression))
     ∷ []
 
 -- an empty line and a comment
@@ -57,7 +64,7 @@ batch call room l = cond (pairs l) (cond (leb (length l) (room + room)) (change 
 -- the call with a length in decimal digits, one at least
 unfoldable pub lends : Report → List ℕ → Meaning
 lends call [] = unknown
-lends call (c ∷ l) = cond (digits 10 (c ∷ l)) (report call (at-most (number-from 0 (c ∷ l)))) unknown
+lends call (c ∷ l) = cond (digits 10 (c ∷ l)) (report call (at-most (longest call) (number-from 0 (c ∷ l)))) unknown
 
 -- the call with the text as the name, any bytes, where the batch has room for them
 unfoldable pub with-name : Naming → ℕ → List ℕ → Meaning

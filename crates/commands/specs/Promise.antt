@@ -7,7 +7,7 @@ use Rattle.commands.specs.declared.Command.{Command}
 use Rattle.commands.specs.declared.Command.the-variants.{Changes, Reports, Moves, Names, Nothing, BadHex, TooLong, Unknown}
 use Rattle.commands.specs.declared.Found.{Found}
 use Rattle.commands.specs.Digits.{encoded}
-use Rattle.commands.specs.Meaning.{Meaning, change, report, move, named, nothing, bad-hex, too-long, unknown, words, with-text, behind, called}
+use Rattle.commands.specs.Meaning.{Meaning, change, report, move, named, nothing, bad-hex, too-long, unknown, longest, words, with-text, behind, called}
 use Rattle.commands.specs.Table.{alone-at}
 
 -- the first n bytes lie within the buffer, which is said twice, as a caller that lends them is asked both
@@ -18,7 +18,7 @@ pub record FitsIn (n : ℕ) (buffer : List ℕ) : Type 0 where
 -- for a batch or a name its bytes stand at the start of the buffer
 abbrev pub Means : Meaning → List ℕ → Command → Type 0
 Means meant buffer (Changes call n) = FitsIn n buffer × (meant ≡ change call (take n buffer))
-Means meant buffer (Reports call n) = (n ≤ 6400) × (meant ≡ report call n)
+Means meant buffer (Reports call n) = (n ≤ longest call) × (meant ≡ report call n)
 Means meant buffer (Moves call) = meant ≡ move call
 Means meant buffer (Names call n) = FitsIn n buffer × (meant ≡ named call (take n buffer))
 Means meant buffer Nothing = meant ≡ nothing

@@ -7,7 +7,7 @@ ghost use lib.ListN.{length, take, drop};
 ghost use Rattle.machine.specs.Text.{digit};
 ghost use Rattle.commands.specs.Digits.{digit-value, digits, bytes, number-from, at-most};
 ghost use Rattle.commands.specs.Meaning as m;
-ghost use Rattle.commands.specs.Meaning.{words, passed-over, called, meaning};
+ghost use Rattle.commands.specs.Meaning.{longest, words, passed-over, called, meaning};
 ghost use Rattle.commands.specs.Table.{alone-at, command-of, ends, further, seek};
 ghost use Rattle.commands.specs.Promise.{Means, Asks, TellsWord, Extends, Encodes, EncodesIn};
 
@@ -21,7 +21,11 @@ pub enum Change {
 pub enum Report {
     Print,
     Save,
+    Expression,
 }
+
+// The longest buffer that an expression is lent: 1 MB.
+pub const EXPRESSION_ROOM: usize = 1048576;
 
 // The calls that take nothing.
 pub enum Move {
@@ -148,21 +152,33 @@ fn with_batch(call: Change, text: &[u8], batch: &mut [u8]) -> Command
     Command::Changes(call, decode(text, batch))
 }
 
-// No sheet and no save is longer than 6,400 bytes.
-fn at_most(n: usize) -> usize
-    ensures { λ r. ⌜ r ≡ at-most n ⌝ }
+// The longest buffer that a call is lent. No sheet and no save is longer than 6,400 bytes.
+fn longest(call: Report) -> usize
+    ensures { λ r. ⌜ r ≡ longest call ⌝ }
 {
-    if LONGEST_SHEET < n { LONGEST_SHEET } else { n }
+    match call {
+        Report::Print => LONGEST_SHEET,
+        Report::Save => LONGEST_SHEET,
+        Report::Expression => EXPRESSION_ROOM,
+    }
 }
 
-// The number of decimal digits, at most 6,400.
-fn number(text: &[u8]) -> usize
-    ensures { λ r. ⌜ r ≡ at-most (number-from 0 (now (text .entry))) ⌝ }
+// The number, or `most` where it is more.
+fn at_most(most: usize, n: usize) -> usize
+    ensures { λ r. ⌜ r ≡ at-most most n ⌝ }
+{
+    if most < n { most } else { n }
+}
+
+// The number of decimal digits, at most `most`.
+fn number(text: &[u8], most: usize) -> usize
+    requires { ⌜ most ≤ 1048576 ⌝ }
+    ensures { λ r. ⌜ r ≡ at-most most (number-from 0 (now (text .entry))) ⌝ }
 {
     let mut n = 0;
     let mut i = 0;
     while i < text.len() {
-        n = at_most(n * 10 + value(text[i]) as usize);
+        n = at_most(most, n * 10 + value(text[i]) as usize);
         i += 1;
     }
     n
@@ -178,7 +194,7 @@ fn with_length(call: Report, text: &[u8]) -> Command
     if !digits(text, 10) {
         return Command::Unknown;
     }
-    Command::Reports(call, number(text))
+    Command::Reports(call, number(text, longest(call)))
 }
 
 // The call with a name, which is put to the start of the batch.
@@ -256,7 +272,7 @@ fn find(line: &[u8]) -> Found
 {
     seek(
         line,
-        b"load\nwithdraw\nprint\nsave\nclose\nround\nreopen\nverdict\nmark\nreturn\n",
+        b"load\nwithdraw\nprint\nsave\nclose\nround\nreopen\nverdict\nmark\nreturn\nexpression\n",
     )
 }
 
@@ -275,6 +291,7 @@ fn alone(place: usize) -> Command
         7 => Command::Moves(Move::Verdict),
         8 => Command::Names(Naming::Mark, 0),
         9 => Command::Names(Naming::Return, 0),
+        10 => Command::Reports(Report::Expression, EXPRESSION_ROOM),
         _ => Command::Unknown,
     }
 }

@@ -5,9 +5,9 @@ use mathlib.Core.List.{List, [], _∷_, _++_}
 use lib.ListN.{length, drop, length-append, length-drop}
 use native.Mathlib.Omega.{arith}
 use Rattle.machine.specs.declared.Answer.the-variants.{Refused}
-use Rattle.machine.specs.Calls.{Call, load, withdraw, close, round, reopen, verdict, print, save, Outcome, done, wrote, decided, refused, returned, call, buffer-after}
+use Rattle.machine.specs.Calls.{Call, load, withdraw, close, round, reopen, verdict, print, save, expression, Outcome, done, wrote, decided, refused, returned, call, buffer-after}
 use Rattle.machine.specs.Marks.{Marked, MarkedCall, on, mark, return-to, MarkedNext, marked-call}
-use Rattle.machine.specs.Causes.{Writes, sheets, saves}
+use Rattle.machine.specs.Causes.{Writes, sheets, saves, expresses}
 use Rattle.machine.proofs.Answers.{answer-of, answer-by, refused-by}
 use Rattle.machine.proofs.Outcomes.{comes}
 use Rattle.machine.proofs.Marks.{Came, came-on, came-misnamed, came-marked, came-full, came-back, came-absent, came, marked-refusals, refused-same}
@@ -32,6 +32,7 @@ same-buffer (on reopen) old new l e = let f = empty old l in (f, e ∙ f)
 same-buffer (on verdict) old new l e = let f = empty old l in (f, e ∙ f)
 same-buffer (on (print size)) old new l e = (l, ap length e ∙ l)
 same-buffer (on (save size)) old new l e = (l, ap length e ∙ l)
+same-buffer (on (expression size)) old new l e = (l, ap length e ∙ l)
 same-buffer (mark name) old new l e = let f = empty old l in (f, e ∙ f)
 same-buffer (return-to name) old new l e = let f = empty old l in (f, e ∙ f)
 
@@ -41,6 +42,7 @@ module _ (x : Marked) where
       → Buffered (on c) old new
   text-buffer (sheets v size e) old new l h j = (l, ap length j ∙ simp (length-append, length-drop) (omega arith))
   text-buffer (saves size) old new l h j = (l, ap length j ∙ simp (length-append, length-drop) (omega arith))
+  text-buffer (expresses size e) old new l h j = (l, ap length j ∙ simp (length-append, length-drop) (omega arith))
 
   now-buffered : (c : Call) (o : Outcome) → call (x .now) c .answer ≡ o → (old new : List ℕ) → length old ≡ lent (on c) → new ≡ buffer-after o old → Buffered (on c) old new
   now-buffered c done k old new l j = same-buffer (on c) old new l j

@@ -36,7 +36,7 @@ use Rattle.demands.specs.Demands.{Walked, TrueSheet, PrintsTrue, SavesRo
 use Rattle.demands.proofs.Reached.{told, fresh-is, reached}
 
 -- the text in the buffer
-written : (a : Outcome) (old new l text : List ℕ) (n : ℕ) → new ≡ buffer-after a old → a ≡ wrote l → n ≡ length l → l ≡ text → new ≡ text ++ drop n old
+pub written : (a : Outcome) (old new l text : List ℕ) (n : ℕ) → new ≡ buffer-after a old → a ≡ wrote l → n ≡ length l → l ≡ text → new ≡ text ++ drop n old
 written a old new l text n j e i k = j ∙ ap (λ (x : Outcome). buffer-after x old) e ∙ cc
 
 -- the verdict of the number

@@ -6,3 +6,4 @@ pub mod Demand2
 pub mod Demand3
 pub mod Requests
 pub mod Request11
+pub mod Request12

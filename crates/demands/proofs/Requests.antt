@@ -1,4 +1,4 @@
--- The requests but C-11, at one call and at every one: `request-14`, `request-22`, `request-15`.
+-- The requests but C-11 and C-12, at one call and at every one: `request-14`, `request-22`, `request-15`.
 use Prim.Native.Nat.{ℕ, suc, _≤_}
 use mathlib.Core.Path.{_≡_, refl, ap, sym, _∙_}
 use mathlib.Core.Logic.{_↔_}
@@ -56,6 +56,10 @@ module _ (x : Marked) (s : Session) (e : Exchange MarkedCall Reply) (h : Stands 
   unfolding marked-call
   now-is = ap (λ (y : MarkedCall). marked-call x y .machine) i
 
+  -- where it stays as it was, the session handed back is the one that came
+  pub session-kept : call (x .now) c .machine ≡ x .now → e .reply .session ≡ s
+  session-kept k = does h .session-is ∙ ap record-of now-is ∙ ap (λ (m : Machine). record-of (with-now x m)) k ∙ sym (h .record-is .whole)
+
 module _ (x : Marked) (s : Session) (e : Exchange MarkedCall Reply) (h : Stands x s e) (i : e .asked ≡ on round) where
   done-running : e .reply .answer ≡ Done → x .now .phase ≡ Running
   done-running d = rounds-from (x .now) (comes (x .now) round done (answer-iff x s e h i done done-by .0 d))
@@ -89,7 +93,7 @@ module _ (x : Marked) (s : Session) (e : Exchange MarkedCall Reply) (h : Stands 
   one-verdict : OneVerdict (x .now) s e
   one-verdict = let w = h .record-is .formed .now-formed in let r = verdict-of-rounds (x .now) w in record {
     answers = (r .answers .0, told-iff (r .answers .0) .1 (r .answers .1));
-    kept = does h .session-is ∙ ap record-of (now-is x s e h i) ∙ ap (λ (m : Machine). record-of (with-now x m)) (r .kept) ∙ sym (h .record-is .whole);
+    kept = session-kept x s e h i (r .kept);
     by-rounds = λ v. ((λ d. r .by-rounds v .0 (told-iff v .0 d)), λ k. told-iff v .1 (r .by-rounds v .1 k));
     worked = second-works (x .now .rows) (w .table);
     own = λ v k. told-iff v .1 (r .own v (sym (phase-of x s (h .record-is)) ∙ k));

@@ -1,21 +1,22 @@
 -- What the requests for changes ask of every list of calls from a fresh session.
-use Prim.Native.Nat.{ℕ, suc, _≤_}
+use Prim.Native.Nat.{ℕ, suc, _≤_, _<_}
 use mathlib.Core.Path.{_≡_}
 use mathlib.Core.Logic.{_↔_, _≢_}
 use mathlib.Core.List.{List, [], _∷_, _++_, map}
-use lib.ListN.{take}
+use lib.ListN.{length, take, drop}
 use Rattle.lists.specs.Tests.{_among_}
 use Rattle.orderings.specs.MoreRows.{Grows, KeepsDepths}
 use Rattle.orderings.specs.Systems.{Accepts}
 use Rattle.orderings.specs.Timelines.{timelines}
-use Rattle.machine.specs.declared.Answer.the-variants.{Done, Wrote, Decided}
+use Rattle.machine.specs.declared.Answer.the-variants.{Done, Wrote, Decided, Refused}
 use Rattle.machine.specs.declared.Verdict.{Verdict}
-use Rattle.machine.specs.declared.Verdict.the-variants.{NonEmpty}
-use Rattle.machine.specs.declared.Phase.the-variants.{Running, Settled}
+use Rattle.machine.specs.declared.Verdict.the-variants.{NonEmpty, Empty}
+use Rattle.machine.specs.declared.Phase.the-variants.{Open, Running, Settled}
 use Rattle.machine.specs.Machine.{Machine}
-use Rattle.machine.specs.Calls.{round, verdict, print, second}
+use Rattle.machine.specs.Word.{TellsWalk}
+use Rattle.machine.specs.Calls.{round, verdict, print, expression, second}
 use Rattle.machine.specs.Marks.{MarkedCall, on, mark, return-to}
-use Rattle.machine.specs.Statements.{RoundsEnd, Said, SaysNoLess, SheetSays, SecondWorks}
+use Rattle.machine.specs.Statements.{RoundsEnd, Said, SaysNoLess, SheetSays, SecondWorks, Expresses}
 use Rattle.session.specs.declared.Session.{Session}
 use Rattle.session.specs.declared.Reply.{Reply}
 use Rattle.session.specs.Promise.{Fresh}
@@ -50,6 +51,27 @@ pub record OneVerdict (m : Machine) (s : Session) (e : Exchange MarkedCall Reply
 
 abbrev pub Request22 : Type 0
 Request22 = EveryCall (λ x s e. e .asked ≡ on verdict → OneVerdict (x .now) s e)
+
+-- C-12, at a call of expression on the session s, where the plain machine that was fed the calls before it is m
+pub record OneExpression (m : Machine) (s : Session) (e : Exchange MarkedCall Reply) : Type 0 where
+  -- it is accepted exactly when m is settled as non-empty and the buffer is long enough for the bytes that tell its walk
+  pub accepted : ((n : ℕ) × (e .reply .answer ≡ Wrote n)) ↔ ((m .phase ≡ Settled NonEmpty) × ((l : List ℕ) × TellsWalk m l × (length l ≤ length (e .old))))
+  -- then it returns their length, and the buffer holds them, and beyond them the bytes that it had
+  pub exact : (n : ℕ) (l : List ℕ) → e .reply .answer ≡ Wrote n → TellsWalk m l → (n ≡ length l) × (e .new ≡ l ++ drop n (e .old))
+  -- else the buffer is as it was
+  pub unwritten : ¬ ((n : ℕ) × (e .reply .answer ≡ Wrote n)) → e .new ≡ e .old
+  -- 9 when open, 11 when running, 17 where the verdict is empty, whatever the buffer; then 12
+  pub when-open : m .phase ≡ Open → e .reply .answer ≡ Refused 9 0
+  pub when-running : m .phase ≡ Running → e .reply .answer ≡ Refused 11 0
+  pub when-empty : m .phase ≡ Settled Empty → e .reply .answer ≡ Refused 17 0
+  pub too-short : m .phase ≡ Settled NonEmpty → (l : List ℕ) → TellsWalk m l → length (e .old) < length l → e .reply .answer ≡ Refused 12 0
+  -- the session handed back is the one that came
+  pub kept : e .reply .session ≡ s
+  -- of m: one list of bytes tells its walk, which is the one on the sheet, as deep as the sheet's round number, with exactly the letters written
+  pub plain : Expresses m (length (e .old))
+
+abbrev pub Request12 : Type 0
+Request12 = EveryCall (λ x s e. (size : ℕ) → e .asked ≡ on (expression size) → OneExpression (x .now) s e)
 
 -- an accepted print, and the bytes that it wrote
 pub record Printed (e : Exchange MarkedCall Reply) (l : List ℕ) : Type 0 where

@@ -3,7 +3,7 @@ use Prim.Native.Nat.{ℕ}
 use mathlib.Core.Path.{_≡_}
 use mathlib.Core.List.{List, [], _∷_, map}
 use lib.ListN.{length}
-use Rattle.machine.specs.Calls.{load, withdraw, close, round, reopen, verdict, print, save}
+use Rattle.machine.specs.Calls.{load, withdraw, close, round, reopen, verdict, print, save, expression}
 use Rattle.machine.specs.Marks.{Marked, fresh-marked, MarkedCall, on, mark, return-to, marked-run, MarkedBrings}
 use Rattle.session.specs.declared.Session.{Session}
 use Rattle.session.specs.declared.Reply.{Reply}
@@ -28,7 +28,7 @@ given next s (e ∷ es) = given next (next (e .reply)) es
 
 -- ---- calls on a session
 
--- the length of the buffer that a caller lends: print and save name it, the other calls have none
+-- the length of the buffer that a caller lends: print, save and expression name it, the other calls have none
 abbrev pub lent : MarkedCall → ℕ
 lent (on (load l)) = 0
 lent (on (withdraw l)) = 0
@@ -38,10 +38,11 @@ lent (on reopen) = 0
 lent (on verdict) = 0
 lent (on (print size)) = size
 lent (on (save size)) = size
+lent (on (expression size)) = size
 lent (mark name) = 0
 lent (return-to name) = 0
 
--- print and save have a buffer of the length that they name, before and after; the other calls have none
+-- print, save and expression have a buffer of the length that they name, before and after; the other calls have none
 abbrev pub Buffered : MarkedCall → List ℕ → List ℕ → Type 0
 Buffered (on (load l)) old new = (old ≡ []) × (new ≡ [])
 Buffered (on (withdraw l)) old new = (old ≡ []) × (new ≡ [])
@@ -51,6 +52,7 @@ Buffered (on reopen) old new = (old ≡ []) × (new ≡ [])
 Buffered (on verdict) old new = (old ≡ []) × (new ≡ [])
 Buffered (on (print size)) old new = (length old ≡ size) × (length new ≡ size)
 Buffered (on (save size)) old new = (length old ≡ size) × (length new ≡ size)
+Buffered (on (expression size)) old new = (length old ≡ size) × (length new ≡ size)
 Buffered (mark name) old new = (old ≡ []) × (new ≡ [])
 Buffered (return-to name) old new = (old ≡ []) × (new ≡ [])
 

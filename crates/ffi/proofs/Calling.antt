@@ -1,16 +1,17 @@
 -- An answer as a number and a place, of the outcome that it tells.
-use Prim.Native.Nat.{ℕ, _*_}
-use mathlib.Core.Path.{_≡_, refl, ap, sym, _∙_}
-use mathlib.Core.List.{List}
-use lib.ListN.{length}
+use Prim.Native.Nat.{ℕ, _*_, _≤_}
+use mathlib.Core.Path.{_≡_, refl, ap, sym, _∙_, subst}
+use mathlib.Core.List.{List, _++_}
+use lib.ListN.{length, take, drop}
+use lib.Seq.{length-take-le}
 use Rattle.machine.specs.declared.Answer.{Answer}
 use Rattle.machine.specs.declared.Answer.the-variants.{Done, Wrote, Decided, Refused}
 use Rattle.machine.specs.declared.Verdict.{Verdict}
-use Rattle.machine.specs.Calls.{Outcome, done, wrote, decided, refused, returned}
-use Rattle.machine.proofs.Answers.{done-by, wrote-by, decided-by, refused-by}
-use Rattle.machine.specs.Program.{outcome, batch-verdict}
-use Rattle.checker.specs.Promise.{Checks, GivesVerdict}
-use Rattle.ffi.specs.Promise.{code-of, place-after, Coded, Codes, Called, CalledVerdict}
+use Rattle.machine.specs.Calls.{Outcome, done, wrote, decided, refused, returned, buffer-after}
+use Rattle.machine.proofs.Answers.{done-by, wrote-by, decided-by, refused-by, front-after}
+use Rattle.machine.specs.Program.{outcome, batch-verdict, batch-expression}
+use Rattle.checker.specs.Promise.{Checks, GivesVerdict, GivesExpression}
+use Rattle.ffi.specs.Promise.{code-of, place-after, Coded, Codes, Called, CalledVerdict, lent, CalledExpression}
 
 module _ (before : ℕ) (a : Answer) where
   coded : {o : Outcome} (q : Outcome) (after r : ℕ) → o ≡ q → r ≡ code-of q → after ≡ place-after q before → Coded o before after r
@@ -36,3 +37,18 @@ called batch old new a k before after r h = let d = h (outcome batch (length old
 -- of its verdict
 pub called-verdict : (batch : List ℕ) (a : Answer) → GivesVerdict batch a → (before after r : ℕ) → Codes a before after r → CalledVerdict batch before after r
 called-verdict batch a k before after r h = h (batch-verdict batch) (k .answer-is)
+
+-- of its expression, which is written into the front of the buffer
+pub called-expression : (batch old part : List ℕ) (n : ℕ) → n ≡ lent (length old) → n ≤ length old → length part ≡ length (take n old)
+    → (a : Answer) → GivesExpression batch (take n old) part a → (before after r : ℕ) → Codes a before after r → CalledExpression batch old (part ++ drop n old) before after r
+called-expression batch old part n e f same a k before after r h =
+    let size : length (take n old) ≡ lent (length old) = length-take-le n old f ∙ e in
+    let o = batch-expression batch (length (take n old)) in
+    let is : o ≡ batch-expression batch (lent (length old)) = ap (batch-expression batch) size in
+    let d = h o (k .answer-is) in
+    record {
+      code-is = d .code-is ∙ ap code-of is;
+      text-is =
+          ap (λ (l : List ℕ). l ++ drop n old) (k .buffer-is) ∙ front-after o old n (ap length (sym (k .buffer-is)) ∙ same) ∙ ap (λ (x : Outcome). buffer-after x old) is;
+      place-is = d .place-is ∙ ap (λ (x : Outcome). place-after x before) is;
+    }

@@ -1,14 +1,16 @@
 -- The outcome of one batch as a number, a place and a buffer.
 use Prim.Native.Nat.{ℕ, _*_}
 use mathlib.Core.Path.{_≡_}
+use mathlib.Core.Bool.{cond}
 use mathlib.Core.List.{List}
+use lib.Dec.{ltb}
 use lib.ListN.{length}
 use Rattle.machine.specs.declared.Answer.{Answer}
 use Rattle.machine.specs.declared.Verdict.the-variants.{NonEmpty, Empty}
 use Rattle.machine.specs.Calls.{Outcome, done, wrote, decided, refused, returned, due, buffer-after}
-use Rattle.machine.specs.Program.{outcome, batch-verdict}
+use Rattle.machine.specs.Program.{outcome, batch-verdict, batch-expression}
 
--- the length of the sheet, 1 for a non-empty and 0 for an empty verdict, or 2 to the power 32 times the number of the refusal
+-- the length of the text, 1 for a non-empty and 0 for an empty verdict, or 2 to the power 32 times the number of the refusal
 abbrev pub code-of : Outcome → ℕ
 code-of done = 0
 code-of (wrote l) = length l
@@ -41,3 +43,13 @@ pub record Called (batch old new : List ℕ) (before after r : ℕ) : Type 0 whe
 -- what one call for a verdict leaves
 abbrev pub CalledVerdict : List ℕ → ℕ → ℕ → ℕ → Type 0
 CalledVerdict batch before after r = Coded (batch-verdict batch) before after r
+
+-- the bytes that are lent of a buffer of that length: 2^32 - 1 at most, so that the length of every text that fits is below the codes of refusals
+abbrev pub lent : ℕ → ℕ
+lent size = cond (ltb 4294967295 size) 4294967295 size
+
+-- what one call for an expression leaves, of the plain machine's outcome for that batch and for the bytes lent; the buffer is the whole one
+pub record CalledExpression (batch old new : List ℕ) (before after r : ℕ) : Type 0 where
+  pub code-is : r ≡ code-of (batch-expression batch (lent (length old)))
+  pub text-is : new ≡ buffer-after (batch-expression batch (lent (length old))) old
+  pub place-is : after ≡ place-after (batch-expression batch (lent (length old))) before

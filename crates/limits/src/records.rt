@@ -1,6 +1,7 @@
 // Records that no calls make. Where a count is outside the arrays, or more rounds are done than calls lead to, every call is refused as 24, and
 // all is as it was; so is a return to a mark that keeps such a thing. On others the answer is free, and what is run is that each call ends.
 use machine::MOST_ROWS;
+use machine::MOST_SETS;
 use machine::Phase;
 use machine::Verdict;
 use marks::Kept;
@@ -31,6 +32,7 @@ fn try_moves(record: Session) {
 fn try_reports(record: Session) {
     try_call(record, b"print");
     try_call(record, b"save");
+    try_call(record, b"expression");
 }
 
 fn try_names(record: Session) {
@@ -120,6 +122,27 @@ fn settled() {
     );
 }
 
+// The example shifts with rounds of its openings that no rounds give: all in the last, so that none is of an earlier one.
+fn opened_at_once() {
+    let loaded = script::run_line(
+        Session::fresh(),
+        b"load 01000202030072000400000000000000010103016e0004000000000000000302",
+    );
+    let loop_rounds = [129u8; MOST_SETS];
+    let mix_rounds = [129u8; MOST_SETS];
+    let record = Session {
+        loop_rounds,
+        mix_rounds,
+        phase: Phase::Settled(Verdict::NonEmpty),
+        rounds: 129,
+        ..loaded
+    };
+    try_all(
+        b"# settled as non-empty, with all claims opened in round 129\n",
+        record,
+    );
+}
+
 // A record with so many marks, all of one name and with the same kept: keys of zeros, which no row has.
 fn marked(count: usize, row_count: usize, phase: Phase, rounds: u8) -> Session {
     let fresh = Session::fresh();
@@ -190,6 +213,7 @@ pub fn run() {
     within();
     unsorted();
     settled();
+    opened_at_once();
     kept_outside();
     kept_within();
 }

@@ -1,5 +1,5 @@
 -- What tests say: of numbers (`eqb·`, `ltb·`, `leb·`), joined (`and·`, `or·`, `not·`), over lists (`any·`, `all·`, `keep·`, `has·`); two tests of one
--- statement are alike (`alike`); and what is in a list made of another (`gather-in`, `gather-out`, `map-in`, `map-out`).
+-- statement are alike (`alike`); and what is in a list made of another (`gather-in`, `gather-out`, `map-in`, `map-out`, `map-same`).
 use Prim.Native.Nat.{ℕ, zero, suc, _≤_, _<_, _+_}
 use mathlib.Core.Path.{_≡_, refl, ap, sym, subst}
 use mathlib.Core.Bool.{Bool, true, false, _&&_, _||_, not, false≢true}
@@ -135,6 +135,11 @@ map-in f (List·Memᴰ·tail m) = List·Memᴰ·tail (map-in f m)
 pub map-out : {A B : Type 0} (f : A → B) (y : B) (l : List A) → y among map f l → (x : A) × x among l × (y ≡ f x)
 map-out f y [] m = absurd (List·Memᴰ·not-nil m)
 map-out f y (x ∷ l) m = ⊎-elim (λ e. (x, List·Memᴰ·head refl, e)) (λ i. let r = map-out f y l i in (r .0, List·Memᴰ·tail (r .1), r .2)) (List·Memᴰ·cases-cons m)
+
+-- two functions that agree on the elements of a list
+pub map-same : {A B : Type 0} (f g : A → B) (l : List A) → ((x : A) → x among l → f x ≡ g x) → map f l ≡ map g l
+map-same f g [] h = refl
+map-same f g (x ∷ l) h = let e = h x (List·Memᴰ·head refl) in let r = map-same f g l (λ y m. h y (List·Memᴰ·tail m)) in cc
 
 pub range-in : (a n s : ℕ) → a ≤ s → s < a + n → s among range a n
 range-in a zero s h k = absurd (omega arith)

@@ -1,9 +1,9 @@
 -- What the machine came to, from what the engine answered; and a text that is written, or for which the buffer is too short.
 use Prim.Native.Nat.{ℕ, _<_, _≤_}
 use mathlib.Core.Path.{_≡_, refl, ap, sym, _∙_}
-use mathlib.Core.List.{List, [], _∷_}
-use lib.ListN.{length, take, drop}
-use lib.Seq.{take-at}
+use mathlib.Core.List.{List, [], _∷_, _++_, append-assoc}
+use lib.ListN.{length, take, drop, length-append, length-drop, take-append-drop}
+use lib.Seq.{take-at, drop-append-le}
 use native.Mathlib.Omega.{arith}
 use borrow.Author.Tests.{lt-ltb, le-ltb}
 use types.Run.{OneOf, miss}
@@ -106,6 +106,16 @@ tells-refused n place old = record { answer-is = refl; buffer-is = refl }
 -- a verdict, which leaves the buffer too
 pub tells-decided : (v : Verdict) (old : List ℕ) → Tells (decided v) old old (Decided v)
 tells-decided v old = record { answer-is = refl; buffer-is = refl }
+
+-- what is left where the front of a buffer is lent, said of the whole buffer
+pub front-after : (o : Outcome) (old : List ℕ) (n : ℕ) → length (buffer-after o (take n old)) ≡ length (take n old) → buffer-after o (take n old) ++ drop n old ≡ buffer-after o old
+front-after done old n h = take-append-drop n old
+front-after (wrote l) old n h =
+    let e = simp (length-append, length-drop) at h in
+    append-assoc l (drop (length l) (take n old)) (drop n old)
+    ∙ ap (λ (r : List ℕ). l ++ r) (sym (drop-append-le (length l) (take n old) (drop n old) (omega arith)) ∙ ap (drop (length l)) (take-append-drop n old))
+front-after (decided v) old n h = take-append-drop n old
+front-after (refused k place) old n h = take-append-drop n old
 
 -- a text that fits, and one for which the buffer is too short
 module _ (text old : List ℕ) where

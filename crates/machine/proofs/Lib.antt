@@ -5,8 +5,10 @@ pub mod Pins
 pub mod Rounding
 pub mod Settling
 pub mod Openings
+pub mod Nearest
 pub mod Search
 pub mod Walks
+pub mod Legs
 pub mod Text
 pub mod Sheet
 pub mod Tables
@@ -27,3 +29,16 @@ pub mod Second
 pub mod Rising
 pub mod Once
 pub mod Program
+pub mod Grounded
+pub mod Tours
+pub mod Turning
+pub mod Stretches
+pub mod Justified
+pub mod Deriving
+pub mod Visiting
+pub mod Telling
+pub mod Determined
+pub mod Letters
+pub mod Expressing
+pub mod Words
+pub mod Spelling

@@ -9,16 +9,18 @@ use lib.Dec.{ltb}
 use lib.ListN.{length, replicate}
 use native.Mathlib.Omega.{arith}
 use Rattle.lists.specs.Tests.{Decides}
-use Rattle.lists.proofs.Deciding.{yes·, no·, ltb·}
+use Rattle.lists.proofs.Deciding.{yes·, no·, not-so, ltb·}
 use Rattle.rows.specs.declared.Row.{Row}
 use Rattle.rows.specs.Batch.{Fed, fed, failed, feed}
 use Rattle.rows.proofs.Batch.{feed-fails}
+use Rattle.machine.specs.declared.Verdict.the-variants.{NonEmpty, Empty}
 use Rattle.machine.specs.declared.Phase.{Phase}
 use Rattle.machine.specs.declared.Phase.the-variants.{Open, Running, Settled}
 use Rattle.machine.specs.Machine.{Machine, load-row, withdraw-row, closed, next-round, reopened}
-use Rattle.machine.specs.Calls.{Call, load, withdraw, close, round, reopen, verdict, print, save, Outcome, done, wrote, decided, refused, Next, with-rows, write, saved, verdict-of, decide, call-in, call, run, Brings}
-use Rattle.machine.specs.Causes.{NotOpen, running, settled, loading, withdrawing, closing, reopening, rounding, printing, Writes, sheets, saves, Cause, not-open, load-fails, withdraw-fails, still-open, round-settled, print-running, short-buffer}
+use Rattle.machine.specs.Calls.{Call, load, withdraw, close, round, reopen, verdict, print, save, expression, Outcome, done, wrote, decided, refused, Next, with-rows, write, saved, verdict-of, decide, call-in, call, run, Brings}
+use Rattle.machine.specs.Causes.{NotOpen, running, settled, loading, withdrawing, closing, reopening, rounding, printing, expressing, to-print, to-express, Writes, sheets, saves, expresses, Cause, not-open, load-fails, withdraw-fails, still-open, round-settled, still-running, short-buffer, verdict-empty}
 use Rattle.machine.specs.Sheet.{sheet}
+use Rattle.machine.specs.Expression.{expression-of}
 use Rattle.machine.specs.WellFormed.{Table}
 use Rattle.machine.proofs.Failing.{load-fails-iff, withdraw-fails-iff}
 
@@ -68,14 +70,16 @@ module _ (m : Machine) where
   comes-in Open verdict e = (refl, refl, refl)
   comes-in Open (print size) e = (refl, λ t b. still-open (print size) (printing size) e)
   comes-in Open (save size) e = write-comes (save size) (saved m) size (saves size)
+  comes-in Open (expression size) e = (refl, λ t b. still-open (expression size) (expressing size) e)
   comes-in Running (load l) e = (refl, λ t b. not-open (load l) (loading l) (rw e running))
   comes-in Running (withdraw l) e = (refl, λ t b. not-open (withdraw l) (withdrawing l) (rw e running))
   comes-in Running close e = (refl, λ t b. not-open close closing (rw e running))
   comes-in Running round e = round-done e
   comes-in Running reopen e = reopen-done (rw e running)
   comes-in Running verdict e = (refl, refl, refl)
-  comes-in Running (print size) e = (refl, λ t b. print-running size e)
+  comes-in Running (print size) e = (refl, λ t b. still-running (print size) (to-print size) e)
   comes-in Running (save size) e = write-comes (save size) (saved m) size (saves size)
+  comes-in Running (expression size) e = (refl, λ t b. still-running (expression size) (to-express size) e)
   comes-in (Settled v) (load l) e = (refl, λ t b. not-open (load l) (loading l) (rw e (settled v)))
   comes-in (Settled v) (withdraw l) e = (refl, λ t b. not-open (withdraw l) (withdrawing l) (rw e (settled v)))
   comes-in (Settled v) close e = (refl, λ t b. not-open close closing (rw e (settled v)))
@@ -84,6 +88,8 @@ module _ (m : Machine) where
   comes-in (Settled v) verdict e = (refl, refl, refl)
   comes-in (Settled v) (print size) e = write-comes (print size) (sheet v m) size (sheets v size e)
   comes-in (Settled v) (save size) e = write-comes (save size) (saved m) size (saves size)
+  comes-in (Settled NonEmpty) (expression size) e = write-comes (expression size) (expression-of m) size (expresses size e)
+  comes-in (Settled Empty) (expression size) e = (refl, λ t b. verdict-empty size e)
 
   pub comes : (c : Call) (a : Outcome) → call m c .answer ≡ a → Comes m c (call m c .machine) a
   comes c a e = subst (Comes m c (call m c .machine)) e (comes-in (m .phase) c refl)
@@ -98,12 +104,17 @@ module _ (m : Machine) where
   pub writing : {c : Call} {l : List ℕ} {size : ℕ} → Writes m c l size → call m c ≡ write m size l
   unfolding call-in
   writing (sheets v size e) = ap (λ (p : Phase). call-in p m (print size)) e
+  writing (expresses size e) = ap (λ (p : Phase). call-in p m (expression size)) e
   writing (saves size) = by (m .phase)
     where
       by : (p : Phase) → call-in p m (save size) ≡ write m size (saved m)
       by Open = refl
       by Running = refl
       by (Settled v) = refl
+
+  -- a text that fits is written
+  pub fitting : {c : Call} {l : List ℕ} {size : ℕ} → Writes m c l size → length l ≤ size → call m c .answer ≡ wrote l
+  fitting {c} {l} {size} w h = ap (λ (x : Next). x .answer) (writing w) ∙ rw (not-so (ltb· size (length l)) (λ i. omega arith))
 
   -- a verdict, in any phase
   pub deciding : call m verdict ≡ decide m
@@ -130,6 +141,7 @@ OfBatch L W reopen = Unit {0}
 OfBatch L W verdict = Unit {0}
 OfBatch L W (print size) = Unit {0}
 OfBatch L W (save size) = Unit {0}
+OfBatch L W (expression size) = Unit {0}
 
 -- the rows after a call: those before it, or what a batch makes of them
 pub data RowsAfter (m : Machine) : Call → List Row → Type 0 where

@@ -5,11 +5,12 @@ use mathlib.Core.List.{List}
 use Rattle.rows.specs.declared.Row.{Row}
 use Rattle.rows.specs.Batch.{Turn, feed}
 use Rattle.machine.specs.declared.Verdict.{Verdict}
+use Rattle.machine.specs.declared.Verdict.the-variants.{Empty}
 use Rattle.machine.specs.declared.Phase.{Phase}
 use Rattle.machine.specs.declared.Phase.the-variants.{Open, Running, Settled}
 use Rattle.machine.specs.Machine.{Machine, load-row, withdraw-row, closed, next-round, reopened}
-use Rattle.machine.specs.Calls.{Call, load, withdraw, close, round, reopen, print, accept, refuse, with-rows, call-in}
-use Rattle.machine.specs.Causes.{NotOpen, running, settled, NeedsOpen, loading, withdrawing, closing, NeedsClosed, reopening, rounding, printing}
+use Rattle.machine.specs.Calls.{Call, load, withdraw, close, round, reopen, expression, accept, refuse, with-rows, call-in}
+use Rattle.machine.specs.Causes.{NotOpen, running, settled, NeedsOpen, loading, withdrawing, closing, NeedsClosed, reopening, rounding, printing, expressing, NeedsSettled, to-print, to-express}
 
 -- ---- refusals
 
@@ -23,22 +24,29 @@ not-open-refuses (loading l) (settled v) m = refl
 not-open-refuses (withdrawing l) (settled v) m = refl
 not-open-refuses closing (settled v) m = refl
 
--- reopen, round and print of an open one
+-- reopen, round, print and expression of an open one
 pub open-refuses : {c : Call} → NeedsClosed c → (m : Machine) → call-in Open m c ≡ refuse m 9
 unfolding call-in
 open-refuses reopening m = refl
 open-refuses rounding m = refl
 open-refuses (printing size) m = refl
+open-refuses (expressing size) m = refl
 
 -- round of a settled one
 pub settled-refuses : (v : Verdict) (m : Machine) → call-in (Settled v) m round ≡ refuse m 10
 unfolding call-in
 settled-refuses v m = refl
 
--- print of a running one
-pub running-refuses : (size : ℕ) (m : Machine) → call-in Running m (print size) ≡ refuse m 11
+-- print and expression of a running one
+pub running-refuses : {c : Call} → NeedsSettled c → (m : Machine) → call-in Running m c ≡ refuse m 11
 unfolding call-in
-running-refuses size m = refl
+running-refuses (to-print size) m = refl
+running-refuses (to-express size) m = refl
+
+-- expression of one settled as empty
+pub empty-refuses : (size : ℕ) (m : Machine) → call-in (Settled Empty) m (expression size) ≡ refuse m 17
+unfolding call-in
+empty-refuses size m = refl
 
 -- ---- what is done
 

@@ -1,5 +1,5 @@
--- What the papers name and no other law would tell: fresh and reopened machines as records, the digits of sets and numbers, what answers
--- return, and the most rounds by phase, computed from the definitions.
+-- What the papers name and no other law would tell: fresh and reopened machines as records, the digits of sets and numbers, the numbers in a
+-- text, what answers return, and the most rounds by phase, computed from the definitions.
 use Prim.Native.Nat.{suc}
 use mathlib.Core.Path.{_≡_, refl, ap}
 use mathlib.Core.Option.{none, some}
@@ -10,6 +10,7 @@ use Rattle.machine.specs.declared.Verdict.the-variants.{NonEmpty, Empty}
 use Rattle.machine.specs.declared.Phase.the-variants.{Open, Running, Settled}
 use Rattle.machine.specs.Machine.{Machine, fresh}
 use Rattle.machine.specs.Text.{text, hex, set-text, decimal, number-text}
+use Rattle.machine.specs.Word.{numbers-from, numbers}
 use Rattle.machine.specs.Calls.{reopen, Next, done, wrote, decided, refused, returned, due, call}
 use Rattle.machine.specs.Causes.{NotOpen, foreign-record}
 use Rattle.machine.specs.WellFormed.{most-done}
@@ -23,8 +24,13 @@ pub digits : (set-text 0xfedcba9876543210 ≡ text "fedcba9876543210")
 unfolding hex decimal
 digits = (refl, refl, refl, refl)
 
--- a refusal returns its number and its place, print and save their length, a verdict itself, the other calls nothing; the number beside the
--- table
+-- the numbers in a text
+pub numbers-read : numbers (text "(7.120)w.sh(0,e,(05)v)9") ≡ 7 ∷ 120 ∷ 0 ∷ 5 ∷ 9 ∷ []
+unfolding numbers-from
+numbers-read = refl
+
+-- a refusal returns its number and its place, print, save and expression their length, a verdict itself, the other calls nothing; the number
+-- beside the table
 pub returns : (returned (Refused 7 300) ≡ record { number = some 7; values = 300 ∷ []; verdict = none })
     × (due (refused 7 300) ≡ record { number = some 7; values = 300 ∷ []; verdict = none })
     × (returned (Wrote 3) ≡ record { number = none; values = 3 ∷ []; verdict = none })

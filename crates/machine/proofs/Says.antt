@@ -103,7 +103,7 @@ sheet-says m v w e = record {
   walk = walk-of v m;
   lines = by v;
   sets = λ o i. let d = settled-listed m w v e .depths o .0 i .1 .0 in
-      set-fits (m .rows) (w .table .fit) (set-of (o .claim)) (has-subject (timelines (m .rows)) (d .0) (o .claim) (d .1) (d .2));
+      set-fits (m .rows) (w .table .fit) (set-of (o .claim)) (has-subject (timelines (m .rows)) (d .0) (o .claim) (d .1) (d .2)) .1;
 }
   where
     by : (v : Verdict) → sheet v m ≡ verdict-line v (m .rounds) ++ (gather opening-line (m .openings) ++ walk-lines (walk-of v m))

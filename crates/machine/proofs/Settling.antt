@@ -49,7 +49,7 @@ module _ (rows : List Row) where
     pub claims : (c : Claim) → c among open-claims m ↔ OpenBy S k c
 
   -- a claim that is open was opened in some round
-  opened-in : (k : ℕ) (c : Claim) → OpenBy S k c → (j : ℕ) × (j ≤ k) × Opens S j c
+  pub opened-in : (k : ℕ) (c : Claim) → OpenBy S k c → (j : ℕ) × (j ≤ k) × Opens S j c
   unfolding OpenBy
   opened-in zero c o = absurd o
   opened-in (suc k) c o = go (open-dec rows k c) o (opened-in k c)

@@ -2,24 +2,21 @@
 -- `every-print`.
 use Prim.Native.Nat.{ℕ, _≤_}
 use mathlib.Core.Path.{_≡_, refl, ap, sym, _∙_, subst}
-use mathlib.Core.Bool.{Bool, cond}
 use mathlib.Core.Option.{some}
 use mathlib.Core.List.{List}
 use lib.ListN.{length}
 use native.Mathlib.Omega.{arith}
 use Rattle.lists.specs.Order.{sort-by}
-use Rattle.lists.proofs.Deciding.{not-so, ltb·}
 use Rattle.rows.specs.declared.Row.{Row}
 use Rattle.rows.specs.Rows.{row-bytes, batch-of}
 use Rattle.machine.specs.declared.Verdict.{Verdict}
 use Rattle.machine.specs.declared.Verdict.the-variants.{NonEmpty}
-use Rattle.machine.specs.declared.Phase.{Phase}
 use Rattle.machine.specs.declared.Phase.the-variants.{Settled}
 use Rattle.machine.specs.Machine.{most-rounds, Machine, open-with, fresh, open-claims}
 use Rattle.machine.specs.Order.{Found, Best}
 use Rattle.machine.specs.Search.{shortest}
 use Rattle.machine.specs.Sheet.{sheet}
-use Rattle.machine.specs.Calls.{load, print, Outcome, wrote, refused, Next, call-in, call, run, settle, second}
+use Rattle.machine.specs.Calls.{load, print, wrote, Next, call, run, settle, second}
 use Rattle.machine.specs.Causes.{Writes, sheets}
 use Rattle.machine.specs.WellFormed.{Table, after, Worked, Made, WellFormed}
 use Rattle.machine.specs.Statements.{after-calls, SomeWalk, Number, Listed, Prints, EveryPrint}
@@ -29,7 +26,7 @@ use Rattle.machine.proofs.Search.{shortest-best}
 use Rattle.machine.proofs.Walks.{best-short}
 use Rattle.machine.proofs.Sheet.{sheet-short}
 use Rattle.machine.proofs.Loading.{loads-back}
-use Rattle.machine.proofs.Outcomes.{comes}
+use Rattle.machine.proofs.Outcomes.{comes, fitting}
 use Rattle.machine.proofs.History.{settle-runs, no-more, as-many}
 use Rattle.machine.proofs.Marks.{calls-formed}
 
@@ -72,9 +69,7 @@ module _ (m : Machine) (w : WellFormed m) where
   settled-listed v e = worked-listed (subst (Made m) e (w .made))
 
   pub print-accepts : (size : ℕ) (v : Verdict) → m .phase ≡ Settled v → length (sheet v m) ≤ size → call m (print size) .answer ≡ wrote (sheet v m)
-  unfolding call-in
-  print-accepts size v e h = ap (λ (p : Phase). call-in p m (print size) .answer) e
-      ∙ ap (λ (b : Bool). cond {A = Outcome} b (refused 12 0) (wrote (sheet v m))) (not-so (ltb· size (length (sheet v m))) (λ l. omega arith))
+  print-accepts size v e h = fitting m (sheets v size e) h
 
   -- demand 3 at one print
   pub prints : (size : ℕ) → Prints m size

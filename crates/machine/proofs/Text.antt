@@ -66,6 +66,9 @@ numeral-some : {x : ℕ} {l : List ℕ} → Numeral x l → 0 < length l
 numeral-some (one h) = omega arith
 numeral-some (more {x} {l} h n) = rw length-append (omega arith)
 
+pub number-some : (x : ℕ) → 0 < length (number-text x)
+number-some x = numeral-some (numeral x)
+
 numeral-leads : {x : ℕ} {l : List ℕ} → Numeral x l → 0 < x → getD l 0 0 ≢ 48
 numeral-leads (one h) p e = omega arith
 numeral-leads (more {x} {l} h n) p e = numeral-leads n (omega arith) (sym (List·getD-append l ((48 + x % 10) ∷ []) 0 0 (numeral-some n)) ∙ e)

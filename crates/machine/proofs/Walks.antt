@@ -17,7 +17,7 @@ use Rattle.orderings.specs.Systems.{Allowed}
 use Rattle.orderings.specs.Timelines.{timelines}
 use Rattle.orderings.specs.Decide.{step, steps, targets}
 use Rattle.orderings.proofs.Deciding.{steps-allowed}
-use Rattle.machine.specs.Order.{kind, value, step-key, Found, walk-key, Best}
+use Rattle.machine.specs.Order.{kind, value, step-key, Found, walk-key, Candidate, Foremost, Best}
 
 -- the label of a kind with a letter or a set
 abbrev named : ℕ → ℕ → Label
@@ -32,6 +32,10 @@ named-back (ω P) = refl
 named-back (back P) = refl
 named-back (mix P) = refl
 
+-- a label is told by its kind and its letter or set
+pub label-same : (x y : Label) → kind x ≡ kind y → value x ≡ value y → x ≡ y
+label-same x y k v = cc (named-back x, named-back y)
+
 -- walks from one state with one key are one
 same-walk : (a b c : ℕ) (v w : Walk) → Leads a v b → Leads a w c → gather step-key v ≡ gather step-key w → v ≡ w
 same-walk a b c [] [] h k e = refl
@@ -39,20 +43,30 @@ same-walk a b c [] (s ∷ w) h k e = let z : _≡_ {A = ℕ} 0 1 = cc in absurd 
 same-walk a b c (t ∷ v) [] h k e = let z : _≡_ {A = ℕ} 0 1 = cc in absurd (omega arith)
 same-walk a b c (t ∷ v) (s ∷ w) h k e =
     let to : t .to ≡ s .to = cc in
-    let label : t .label ≡ s .label = cc (named-back (t .label), named-back (s .label)) in
+    let label : t .label ≡ s .label = label-same (t .label) (s .label) (cc) (cc) in
     let rest : v ≡ w = same-walk (t .to) b c v w (h .1) (rw to (k .1)) (cc) in
     let parts : step (t .from) (t .label) (t .to) ≡ step (s .from) (s .label) (s .to) = cc (h .0, k .0) in
     let first : t ≡ s = parts in
     cc
 
-pub best-unique : (rows : List Row) (l : List Claim) (f g : Found) → Best rows l f → Best rows l g → f ≡ g
-best-unique rows l f g b d =
+-- of walks, the foremost is one
+pub foremost-unique : (C : Found → Type 0) → ((f : Found) → C f → (b : ℕ) × Leads (f .start) (f .walk) b) → (f g : Found) → Foremost C f → Foremost C g → f ≡ g
+foremost-unique C leads f g b d =
     let e : length (g .walk) ≡ length (f .walk) = omega (arith, b .short g (d .is), d .short f (b .is)) in
     let keys : walk-key f ≡ walk-key g = ≺-connex (walk-key f) (walk-key g) (d .first f (b .is) (sym e)) (b .first g (d .is) e) in
     let start : f .start ≡ g .start = cc in
-    let walk : f .walk ≡ g .walk = same-walk (f .start) (b .is .1 .0) (d .is .1 .0) (f .walk) (g .walk) (b .is .1 .2) (rw start (d .is .1 .2)) (cc) in
+    let x = leads f (b .is) in
+    let y = leads g (d .is) in
+    let walk : f .walk ≡ g .walk = same-walk (f .start) (x .0) (y .0) (f .walk) (g .walk) (x .1) (rw start (y .1)) (cc) in
     let parts : _≡_ {A = Found} (record { start = f .start; walk = f .walk }) (record { start = g .start; walk = g .walk }) = cc in
     parts
+
+-- of the same walks, it is the same
+pub foremost-of : {C C′ : Found → Type 0} (f : Found) → ((g : Found) → C g → C′ g) → ((g : Found) → C′ g → C g) → Foremost C f → Foremost C′ f
+foremost-of f to of b = record { is = to f (b .is); short = λ g c. b .short g (of g c); first = λ g c. b .first g (of g c) }
+
+pub best-unique : (rows : List Row) (l : List Claim) (f g : Found) → Best rows l f → Best rows l g → f ≡ g
+best-unique rows l f g b d = foremost-unique (Candidate rows l) (λ h c. (c .1 .0, c .1 .2)) f g b d
 
 -- from where a walk meets a state again, the rest of it is shorter
 later : (a c b : ℕ) (w : Walk) → Leads c w b → a among targets w → (v : Walk) × Leads a v b × v part-of w × (length v < length w)

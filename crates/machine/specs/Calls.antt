@@ -20,12 +20,13 @@ use Rattle.machine.specs.declared.Phase.{Phase}
 use Rattle.machine.specs.declared.Phase.the-variants.{Open, Running, Settled}
 use Rattle.machine.specs.Machine.{most-rounds, Machine, fresh, load-row, withdraw-row, closed, next-round, reopened}
 use Rattle.machine.specs.Sheet.{sheet}
+use Rattle.machine.specs.Expression.{expression-of}
 
 -- a call, with what its caller brings beside the session: a batch, the length of a buffer
 pub data Call : Type 0 where
   load withdraw : List ℕ → Call
   close round reopen verdict : Call
-  print save : ℕ → Call
+  print save expression : ℕ → Call
 
 -- done, text for the buffer, a verdict, or a refusal with its number and place
 pub data Outcome : Type 0 where
@@ -34,8 +35,8 @@ pub data Outcome : Type 0 where
   decided : Verdict → Outcome
   refused : ℕ → ℕ → Outcome
 
--- document 01's number and values: a refusal returns its number and place, print and save their length, the other calls nothing; request
--- C-22's call returns a verdict
+-- document 01's number and values: a refusal returns its number and place, print, save and expression their length, the other calls nothing;
+-- request C-22's call returns a verdict
 pub record Returned : Type 0 where
   pub number : Option ℕ
   pub values : List ℕ
@@ -93,6 +94,11 @@ verdict-of rows = cond (rising? rows) NonEmpty Empty
 abbrev pub decide : Machine → Next
 decide m = record { machine = m; answer = decided (verdict-of (m .rows)) }
 
+-- request C-12, of a settled machine: 17 where the verdict is empty, before 12
+abbrev pub express : Verdict → Machine → ℕ → Next
+express NonEmpty m size = write m size (expression-of m)
+express Empty m size = refuse m 17
+
 -- each call in each phase
 unfoldable pub call-in : Phase → Machine → Call → Next
 call-in Open m (load l) = with-rows m (feed load-row (m .rows) l)
@@ -103,6 +109,7 @@ call-in Open m reopen = refuse m 9
 call-in Open m verdict = decide m
 call-in Open m (print size) = refuse m 9
 call-in Open m (save size) = write m size (saved m)
+call-in Open m (expression size) = refuse m 9
 call-in Running m (load l) = refuse m 1
 call-in Running m (withdraw l) = refuse m 1
 call-in Running m close = refuse m 1
@@ -111,6 +118,7 @@ call-in Running m reopen = accept (reopened m)
 call-in Running m verdict = decide m
 call-in Running m (print size) = refuse m 11
 call-in Running m (save size) = write m size (saved m)
+call-in Running m (expression size) = refuse m 11
 call-in (Settled v) m (load l) = refuse m 1
 call-in (Settled v) m (withdraw l) = refuse m 1
 call-in (Settled v) m close = refuse m 1
@@ -119,6 +127,7 @@ call-in (Settled v) m reopen = accept (reopened m)
 call-in (Settled v) m verdict = decide m
 call-in (Settled v) m (print size) = write m size (sheet v m)
 call-in (Settled v) m (save size) = write m size (saved m)
+call-in (Settled v) m (expression size) = express v m size
 
 abbrev pub call : Machine → Call → Next
 call m c = call-in (m .phase) m c
@@ -154,6 +163,7 @@ Brings reopen = Unit {0}
 Brings verdict = Unit {0}
 Brings (print size) = Unit {0}
 Brings (save size) = Unit {0}
+Brings (expression size) = Unit {0}
 
 -- close, then rounds until settled: at most 129 are done, and a settled machine refuses the others
 abbrev pub settle : List Call

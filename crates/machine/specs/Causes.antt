@@ -9,11 +9,13 @@ use Rattle.rows.specs.declared.Row.{Row}
 use Rattle.rows.specs.Rows.{row-bytes, batch-of, Fits, AllFit, sets-of, standing-sets}
 use Rattle.rows.specs.Reading.{Malformed}
 use Rattle.machine.specs.declared.Verdict.{Verdict}
+use Rattle.machine.specs.declared.Verdict.the-variants.{NonEmpty, Empty}
 use Rattle.machine.specs.declared.Phase.{Phase}
 use Rattle.machine.specs.declared.Phase.the-variants.{Open, Running, Settled}
 use Rattle.machine.specs.Machine.{most-rows, most-sets, Machine}
 use Rattle.machine.specs.Sheet.{sheet}
-use Rattle.machine.specs.Calls.{Call, load, withdraw, close, round, reopen, print, save, saved}
+use Rattle.machine.specs.Expression.{expression-of}
+use Rattle.machine.specs.Calls.{Call, load, withdraw, close, round, reopen, print, save, expression, saved}
 
 -- running, or settled with some verdict
 pub data NotOpen : Phase → Type 0 where
@@ -26,16 +28,23 @@ pub data NeedsOpen : Call → Type 0 where
   withdrawing : (l : List ℕ) → NeedsOpen (withdraw l)
   closing : NeedsOpen close
 
--- reopen, round or print
+-- reopen, round, print or expression
 pub data NeedsClosed : Call → Type 0 where
   reopening : NeedsClosed reopen
   rounding : NeedsClosed round
   printing : (size : ℕ) → NeedsClosed (print size)
+  expressing : (size : ℕ) → NeedsClosed (expression size)
+
+-- print or expression
+pub data NeedsSettled : Call → Type 0 where
+  to-print : (size : ℕ) → NeedsSettled (print size)
+  to-express : (size : ℕ) → NeedsSettled (expression size)
 
 -- what a machine writes for a call
 pub data Writes (m : Machine) : Call → List ℕ → ℕ → Type 0 where
   sheets : (v : Verdict) (size : ℕ) → m .phase ≡ Settled v → Writes m (print size) (sheet v m) size
   saves : (size : ℕ) → Writes m (save size) (saved m) size
+  expresses : (size : ℕ) → m .phase ≡ Settled NonEmpty → Writes m (expression size) (expression-of m) size
 
 -- 6: row not standing, as many stand as may; 7: a set more than there may be
 pub data AdmitStops (max-rows max-sets : ℕ) (rows : List Row) (r : Row) : ℕ → Type 0 where
@@ -79,14 +88,16 @@ pub data Cause (m : Machine) : Call → ℕ → ℕ → Type 0 where
   -- the first row of the batch that fails decides: by 2 to 5, by 6 or 7 of load, by 8 of withdraw
   load-fails : (l : List ℕ) (n place : ℕ) → m .phase ≡ Open → FirstFailure (AfterLoading (m .rows)) LoadStops l n place → Cause m (load l) n place
   withdraw-fails : (l : List ℕ) (n place : ℕ) → m .phase ≡ Open → FirstFailure (AfterWithdrawing (m .rows)) WithdrawStops l n place → Cause m (withdraw l) n place
-  -- reopen, round or print when open
+  -- reopen, round, print or expression when open
   still-open : (c : Call) → NeedsClosed c → m .phase ≡ Open → Cause m c 9 0
   -- round when settled
   round-settled : (v : Verdict) → m .phase ≡ Settled v → Cause m round 10 0
-  -- print when running
-  print-running : (size : ℕ) → m .phase ≡ Running → Cause m (print size) 11 0
-  -- print or save: buffer too short
+  -- print or expression when running
+  still-running : (c : Call) → NeedsSettled c → m .phase ≡ Running → Cause m c 11 0
+  -- print, save or expression: buffer too short
   short-buffer : (c : Call) (l : List ℕ) (size : ℕ) → Writes m c l size → size < length l → Cause m c 12 0
+  -- request C-12: expression when settled as empty
+  verdict-empty : (size : ℕ) → m .phase ≡ Settled Empty → Cause m (expression size) 17 0
 
 -- beside the table: the number with which a call refuses a session record that is foreign to it, since no calls make it; the place is 0
 abbrev pub foreign-record : ℕ

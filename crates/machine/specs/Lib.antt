@@ -4,6 +4,8 @@ pub mod Order
 pub mod Search
 pub mod Text
 pub mod Sheet
+pub mod Word
+pub mod Expression
 pub mod Calls
 pub mod Causes
 pub mod Program

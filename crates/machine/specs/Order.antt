@@ -43,8 +43,12 @@ Candidate rows l f = IsInitial rows (f .start)
     × ((b : ℕ) × IsFinal rows b × Leads (f .start) (f .walk) b)
     × Allowed (timelines rows) (λ c. c among l) (f .walk)
 
+-- of the walks that C is about: none has fewer steps, and among equals it is the first
+pub record Foremost (C : Found → Type 0) (f : Found) : Type 0 where
+  pub is : C f
+  pub short : (g : Found) → C g → length (f .walk) ≤ length (g .walk)
+  pub first : (g : Found) → C g → length (g .walk) ≡ length (f .walk) → ¬ (walk-key g ≺ walk-key f)
+
 -- no other such walk has fewer steps, and among equals it is the first
-pub record Best (rows : List Row) (l : List Claim) (f : Found) : Type 0 where
-  pub is : Candidate rows l f
-  pub short : (g : Found) → Candidate rows l g → length (f .walk) ≤ length (g .walk)
-  pub first : (g : Found) → Candidate rows l g → length (g .walk) ≡ length (f .walk) → ¬ (walk-key g ≺ walk-key f)
+abbrev pub Best : List Row → List Claim → Found → Type 0
+Best rows l = Foremost (Candidate rows l)

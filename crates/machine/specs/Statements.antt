@@ -1,9 +1,9 @@
--- What is shown of the plain machine, as statements: `Closed`, `Rounded`, `Listed`, `Works`, `SecondWorks`, `RoundsEnd`, `VerdictOfRounds`, `MoreRows`, `Prints`, `Saves`. Nothing
--- here is computed by the machine's own search.
+-- What is shown of the plain machine, as statements: `Closed`, `Rounded`, `Listed`, `Works`, `SecondWorks`, `RoundsEnd`, `VerdictOfRounds`, `MoreRows`, `Prints`,
+-- `Expresses`, `Saves`. Nothing here is computed by the machine's own search.
 use Prim.Native.Nat.{ℕ, suc, _≤_, _<_, _*_, _^_}
 use mathlib.Core.Path.{_≡_}
 use mathlib.Core.Logic.{_⊎_, _↔_, _≢_}
-use mathlib.Core.Option.{Option}
+use mathlib.Core.Option.{Option, some}
 use mathlib.Core.List.{List, [], _∷_, _++_}
 use lib.ListN.{length}
 use Rattle.lists.specs.Tests.{_among_, Once, gather}
@@ -11,7 +11,7 @@ use Rattle.lists.specs.Order.{Sorted, sort-by}
 use Rattle.rows.specs.declared.Row.{Row}
 use Rattle.rows.specs.Rows.{row-bytes, batch-of, AllFit, Bytes, standing-sets}
 use Rattle.orderings.specs.Steps.{Claim, loops, mixes, set-of, Walk}
-use Rattle.orderings.specs.Systems.{Allowed, Holds, LeastDepth, GreatestLeast, Accepts, LeastAccepted}
+use Rattle.orderings.specs.Systems.{Allowed, Holds, walk-depth, depth, LeastDepth, GreatestLeast, Accepts, LeastAccepted}
 use Rattle.orderings.specs.Timelines.{Accepting, timelines}
 use Rattle.orderings.specs.MoreRows.{Grows, KeepsDepths}
 use Rattle.machine.specs.declared.Verdict.{Verdict}
@@ -20,7 +20,8 @@ use Rattle.machine.specs.declared.Phase.the-variants.{Open, Running, Set
 use Rattle.machine.specs.Machine.{most-sets, most-rounds, Opening, Machine, open-with, fresh, open-claims}
 use Rattle.machine.specs.Order.{Found}
 use Rattle.machine.specs.Sheet.{verdict-line, opening-line, walk-lines, sheet}
-use Rattle.machine.specs.Calls.{load, round, verdict, print, done, wrote, decided, accept, call, second}
+use Rattle.machine.specs.Word.{numbers, Uses, TellsWalk}
+use Rattle.machine.specs.Calls.{load, round, verdict, print, expression, done, wrote, decided, refused, accept, call, second}
 use Rattle.machine.specs.Marks.{Marked, fresh-marked, MarkedCall, mark, return-to, marked-call, marked-run, MarkedBrings}
 
 -- a walk of zero or more steps, with letter steps and steps of the claims l, leads from an initial to a final state
@@ -216,6 +217,31 @@ pub record Prints (m : Machine) (size : ℕ) : Type 0 where
 -- demand 3 of the plain machine: at every print of every list of calls
 abbrev pub EveryPrint : Type 0
 EveryPrint = (cs : List MarkedCall) → AllBring cs → (size : ℕ) → Prints (after-calls cs) size
+
+-- request C-12 at one call of expression: the machine m was fed the calls before it, and the buffer has some size
+pub record Expresses (m : Machine) (size : ℕ) : Type 0 where
+  -- accepted exactly when m is settled as non-empty, with the bytes that tell its walk, where they fit; there are such bytes, and no others
+  pub accepted : (l : List ℕ) → (call m (expression size) .answer ≡ wrote l) ↔ ((m .phase ≡ Settled NonEmpty) × TellsWalk m l × (length l ≤ size))
+  pub some-bytes : m .phase ≡ Settled NonEmpty → (l : List ℕ) × TellsWalk m l
+  pub one : (k l : List ℕ) → TellsWalk m k → TellsWalk m l → k ≡ l
+  -- the walk that they tell is the one on the sheet
+  pub of-the-sheet : m .phase ≡ Settled NonEmpty → (l : List ℕ) (t : TellsWalk m l)
+      → sheet NonEmpty m ≡ verdict-line NonEmpty (m .rounds) ++ (gather opening-line (m .openings) ++ walk-lines (some (t .told)))
+  -- its depth in the derivation is the sheet's round number
+  pub deep : m .phase ≡ Settled NonEmpty → (l : List ℕ) (t : TellsWalk m l)
+      → walk-depth (timelines (m .rows)) (depth (timelines (m .rows)) (t .derivation)) (t .told .walk) ≡ m .rounds
+  -- exactly the letters written are used
+  pub letters : (l : List ℕ) (t : TellsWalk m l) (a : ℕ) → a among numbers l ↔ Uses (m .rows) (t .derivation) (t .told .walk) a
+  -- 9 when open, 11 when running, 17 where the verdict is empty, whatever the size; then 12
+  pub when-open : m .phase ≡ Open → call m (expression size) .answer ≡ refused 9 0
+  pub when-running : m .phase ≡ Running → call m (expression size) .answer ≡ refused 11 0
+  pub when-empty : m .phase ≡ Settled Empty → call m (expression size) .answer ≡ refused 17 0
+  pub too-short : m .phase ≡ Settled NonEmpty → (l : List ℕ) → TellsWalk m l → size < length l → call m (expression size) .answer ≡ refused 12 0
+  pub unchanged : call m (expression size) .machine ≡ m
+
+-- at every such call of every list of calls
+abbrev pub EveryExpression : Type 0
+EveryExpression = (cs : List MarkedCall) → AllBring cs → (size : ℕ) → Expresses (after-calls cs) size
 
 -- saved rows, loaded into a fresh machine, give the same rows
 pub record Saves (m : Machine) (l : List ℕ) : Type 0 where

@@ -102,3 +102,13 @@ digit-ext (suc k) a b ha hb f =
     let l : a % 2 ≤ b % 2 = low-le (a % 2) (b % 2) (mod-lt a two-pos) (λ e. sym lo ∙ e) in
     let g : b % 2 ≤ a % 2 = low-le (b % 2) (a % 2) (mod-lt b two-pos) (λ e. lo ∙ e) in
     omega arith
+
+-- a number of k digits is no greater than one that has a 1 wherever it has
+pub digit-le : (k a b : ℕ) → a < 2 ^ k → ((t : ℕ) → t < k → digit t a ≡ true → digit t b ≡ true) → a ≤ b
+digit-le zero a b ha f = omega (arith, lt-one ha)
+digit-le (suc k) a b ha f =
+    let hi : a / 2 ≤ b / 2 =
+    digit-le k (a / 2) (b / 2) (omega (arith, pow-suc 2 k)) (λ t l h. sym (digit-suc t b) ∙ f (suc t) (suc-le-suc l) (digit-suc t a ∙ h)) in
+    let lo : a % 2 ≤ b % 2 =
+    low-le (a % 2) (b % 2) (mod-lt a two-pos) (λ h. sym (digit-low b) ∙ f 0 (zero-lt-suc k) (digit-low a ∙ h)) in
+    omega arith

@@ -1,13 +1,13 @@
--- The lowest digit of n that is a 1 is the only one that n and n - 1 do not share.
-use Prim.Native.Nat.{ℕ, zero, suc, _-_, _/_, _%_, _≤_, _<_}
-use mathlib.Core.Path.{_≡_, refl, sym, ap, _∙_}
+-- The lowest digit of n that is a 1 is the only one that n and n - 1 do not share; a set is a greater number than what is left of it (`taken-less`).
+use Prim.Native.Nat.{ℕ, zero, suc, _-_, _/_, _%_, _^_, _≤_, _<_}
+use mathlib.Core.Path.{_≡_, refl, sym, ap, subst, _∙_}
 use mathlib.Core.Bool.{true, _&&_}
 use mathlib.Core.Logic.{⊎-elim, _↔_, _≢_}
 use native.Mathlib.Nat.{mod-lt, zero-lt-suc, le-of-suc-le-suc}
 use native.Mathlib.Omega.{arith}
 use borrow.Author.Tests.{eqb-true, eq-eqb}
-use Rattle.masks.specs.Mask.{member, _∈_}
-use Rattle.masks.proofs.Digit.{digit, digit-low, digit-suc}
+use Rattle.masks.specs.Mask.{member, _∈_, _⊆_, TakesLowest}
+use Rattle.masks.proofs.Digit.{digit, digit-low, digit-suc, digit-le}
 use Rattle.masks.proofs.Member.{lt-or-le, member-lt, member-digit, intersection-left, intersection-right, intersection-both}
 
 odd : (n : ℕ) → digit 0 n ≡ true → n % 2 ≡ 1
@@ -48,3 +48,13 @@ lowest-left-out m r p is i h least t = (
 
     law : t ∈ m → (digit t (m - 1) ≡ true) ↔ (t ≢ i)
     law k = shared i t m p (as-digit i m h) least-digit (as-digit t m k)
+
+-- a part of a set is no greater as a number
+pub part-le : (a b : ℕ) → a < 2 ^ 64 → a ⊆ b → a ≤ b
+part-le a b h part = digit-le 64 a b h (λ t l g. sym (member-digit t b l) ∙ part t (member-digit t a l ∙ g))
+
+-- and less without the lowest state
+pub taken-less : (m low rest : ℕ) → rest < 2 ^ 64 → TakesLowest m low rest → rest < m
+taken-less m low rest h t = ⊎-elim (λ (l : rest < m). l)
+    (λ (l : m ≤ rest). let e : m ≡ rest = omega (arith, part-le rest m h (λ s k. t .others s .0 k .0)) in absurd (t .others low .0 (subst (λ (x : ℕ). low ∈ x) e (t .is)) .1 refl))
+    (lt-or-le rest m)

@@ -3,6 +3,7 @@ pub mod Count
 pub mod Digit
 pub mod Gathering
 pub mod Leaving
+pub mod Marking
 pub mod Member
 pub mod Storing
 pub mod Turning

@@ -3,7 +3,7 @@
 use Prim.Native.Nat.{ℕ, _-_, _*_, _/_, _%_, _^_, _≤_, _<_}
 use mathlib.Core.Path.{_≡_, refl, sym, ap, ap₂, _∙_}
 use mathlib.Core.Bool.{Bool, true, false, not, _&&_, _||_, and-eq-true-iff, true≢false, or-true}
-use mathlib.Core.Logic.{_⊎_, inl, inr, ⊎-elim}
+use mathlib.Core.Logic.{_⊎_, inl, inr, ⊎-elim, _↔_}
 use native.Mathlib.Nat.{one-mul}
 use native.Mathlib.Decide.{decLt}
 use native.Mathlib.Omega.{arith}
@@ -127,6 +127,9 @@ module _ (a b r : ℕ) (is : (t : ℕ) → member t r ≡ (member t a && member 
 
   pub intersection-both : (t : ℕ) → t ∈ a → t ∈ b → t ∈ r
   intersection-both t h g = is t ∙ and-eq-true-iff (member t a) (member t b) .1 (h, g)
+
+  pub intersection-iff : (t : ℕ) → (t ∈ r) ↔ ((t ∈ a) × (t ∈ b))
+  intersection-iff t = ((λ h. (intersection-left t h, intersection-right t h)), λ p. intersection-both t (p .0) (p .1))
 
 -- r is a without b
 module _ (a b r : ℕ) (is : (t : ℕ) → member t r ≡ (member t a && not (member t b))) where

@@ -103,7 +103,7 @@ module _ (rows : List Row) where
     in-force· none = record { to = λ t. tt; of = λ u. refl }
     in-force· (some c) = claim-in· l c
 
-    steps-iff : (t : Step) → t among steps rows l ↔ (Possible rows (t .from) (t .label) (t .to) × InForce Open (needs (t .label)))
+    pub steps-iff : (t : Step) → t among steps rows l ↔ (Possible rows (t .from) (t .label) (t .to) × InForce Open (needs (t .label)))
     steps-iff t =
         let k = keep· (λ (t : Step). and· (in-force· (needs (t .label))) (all· unstruck· (content (t .from) (t .label) (t .to)))) (gather (steps-of rows) rows) t in
         ((λ m. let r = k .0 m in ((rows-iff t .0 (r .0), r .1 .1), r .1 .0)), λ h. k .1 (rows-iff t .1 (h .0 .0), (h .1, h .0 .1)))
@@ -122,7 +122,7 @@ module _ (rows : List Row) where
     step-inside : (P : ℕ) (t : Step) → t among steps-in rows l P ↔ (t among steps rows l × Within P t)
     step-inside P t = keep· {P = Within P} (λ (t : Step). all· (λ s. test· (member s P)) (content (t .from) (t .label) (t .to))) (steps rows l) t
 
-    inside-iff : (P : ℕ) (w : Walk) → w part-of steps-in rows l P ↔ (w part-of steps rows l × Inside P w)
+    pub inside-iff : (P : ℕ) (w : Walk) → w part-of steps-in rows l P ↔ (w part-of steps rows l × Inside P w)
     inside-iff P [] = ((λ p. ((λ t m. absurd (List·Memᴰ·not-nil m)), tt)), λ h t m. absurd (List·Memᴰ·not-nil m))
     inside-iff P (t ∷ w) = let i = inside-iff P w in (
       (λ p. let h = step-inside P t .0 (p t (List·Memᴰ·head refl)) in let r = i .0 (λ s m. p s (List·Memᴰ·tail m)) in

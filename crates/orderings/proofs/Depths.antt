@@ -1,7 +1,7 @@
 -- Rounds are depths, in any system where more walks show more and finitely many walks are enough (`Lawful`). `sound` and `complete`: what is
 -- derived is open by its depth, what is open is derived; so `open-iff-depth`, `opens-iff-least`, `accepted-iff-depth`; at rest `fixpoint`,
 -- `derivable-iff-open`.
-use Prim.Native.Nat.{ℕ, zero, suc, _≤_, _<_}
+use Prim.Native.Nat.{ℕ, zero, suc, _-_, _≤_, _<_}
 use mathlib.Core.Path.{_≡_, refl, ap}
 use mathlib.Core.Logic.{_⊎_, inl, inr, ⊎-elim, _↔_}
 use mathlib.Core.List.{List, [], _∷_, _++_, List·Memᴰ·head, List·Memᴰ·tail, List·Memᴰ·not-nil, List·Memᴰ·append-cases, List·Memᴰ·cases-cons, List·Memᴰ·eq-of-singleton, Memᴰ·append-left, Memᴰ·append-right}
@@ -51,6 +51,18 @@ module _ (S : System) where
   unfolding depth
   walk-counts l D w m = choose-cases (S .same (l .claim) (l .claim)) (λ n. walk-depth S (depth S D) w < n)
       (λ e. omega (arith, greatest-least S (depth S D) (l .walks) w m)) (λ n. absurd (n refl))
+
+  -- where numbers fall from each claim to those that its walks need, they are no less than the depths
+  pub depth-below : (f : S .Claim → ℕ) (D : Derivation S)
+      → ((x : Line S) → x among D → (0 < f (x .claim)) × ((w : List (S .Step)) → w among x .walks → (c : S .Claim) → c among needed S w → f c < f (x .claim)))
+      → (c : S .Claim) → depth S D c ≤ f c
+  unfolding depth
+  depth-below f [] h c = omega arith
+  depth-below f (l ∷ D) h c = choose-cases (S .same c (l .claim)) (λ n. n ≤ f c) (λ e. rw e (top (depth-below f D (λ x m. h x (List·Memᴰ·tail m))))) (λ n. depth-below f D (λ x m. h x (List·Memᴰ·tail m)) c)
+    where
+      top : ((c : S .Claim) → depth S D c ≤ f c) → suc (greatest S (depth S D) (l .walks)) ≤ f (l .claim)
+      top below = let t = h l (List·Memᴰ·head refl) in
+          omega (arith, t .0, greatest-most S (depth S D) (l .walks) (f (l .claim) - 1) (λ w m. depth-most S (depth S D) w (f (l .claim) - 1) (λ c i. omega (arith, below c, t .1 w m c i))))
 
   -- it has only claims that a derivation may hold
   pub has-subject : (D : Derivation S) (c : S .Claim) → Valid S D → Has S D c → S .Subject c

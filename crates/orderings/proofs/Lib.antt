@@ -5,6 +5,7 @@ pub mod Steps
 pub mod Depths
 pub mod Verdicts
 pub mod Timelines
+pub mod Members
 pub mod Reach
 pub mod Deciding
 pub mod Claims

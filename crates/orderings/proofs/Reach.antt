@@ -64,3 +64,7 @@ module _ (G : List Step) where
   pub shorten : (a b : ℕ) (w : Walk) → Leads a w b → w part-of G → (v : Walk) × Leads a v b × v part-of G × (length v ≤ length G)
   shorten a b [] c p = ([], c, p, omega arith)
   shorten a b (t ∷ w) c p = let r = short a b (entered a b (t ∷ w) c p cons≢nil) in (r .0, r .1, r .2, r .4)
+
+  -- the same for walks of one or more steps
+  pub shorten-some : (a b : ℕ) (w : Walk) → Leads a w b → w part-of G → w ≢ [] → (v : Walk) × Leads a v b × v part-of G × (v ≢ []) × (length v ≤ length G)
+  shorten-some a b w c p n = short a b (entered a b w c p n)

@@ -2,13 +2,13 @@
 -- and has an entrance and an exit mixes (`loops-mixes`). A claim is found by the visit to its set or not at all (`found-iff`); what is found
 -- is what is derivable (`found-derivable`), so a walk with what is found is one of some derivation (`rising·`).
 use Prim.Native.Nat.{ℕ, zero, suc, _<_, _≤_, _^_}
-use mathlib.Core.Path.{_≡_, refl, sym, _∙_, subst}
+use mathlib.Core.Path.{_≡_, refl, sym, subst}
 use mathlib.Core.Logic.{_⊎_, inl, inr, ⊎-elim, _↔_, _≢_}
 use mathlib.Core.List.{List, [], _∷_, _++_, List·Memᴰ·tail, List·Memᴰ·not-nil, List·Memᴰ·cases-cons, List·Memᴰ·append-cases, Memᴰ·append-left, Memᴰ·append-right, append-ne-nil-of-right-ne-nil, cons≢nil}
 use lib.ListN.{length}
 use native.Mathlib.Nat.{eq-or-lt-of-le, le-of-suc-le-suc}
 use native.Mathlib.Omega.{arith}
-use Rattle.lists.specs.Tests.{Decides, _among_, keep, range}
+use Rattle.lists.specs.Tests.{Decides, _among_, range}
 use Rattle.lists.proofs.Counting.{keep-length, keep-grows}
 use Rattle.lists.proofs.Deciding.{eqb·, and·, or·, iff·, keep·, dec·}
 use Rattle.masks.specs.Mask.{member, _∈_, _⊆_}
@@ -16,7 +16,7 @@ use Rattle.masks.proofs.Member.{same}
 use Rattle.rows.specs.declared.Row.{Row}
 use Rattle.rows.specs.Rows.{SetOf, AllFit}
 use Rattle.rows.proofs.Sets.{set-fits}
-use Rattle.orderings.specs.Steps.{Claim, loops, mixes, set-of, Label, letter, ω, back, mix, Step, needs, members, content, Walk, Inside, On}
+use Rattle.orderings.specs.Steps.{Claim, loops, mixes, set-of, Label, letter, ω, back, mix, Step, needs, members, content, Walk, Inside}
 use Rattle.orderings.specs.Claims.{Loops, Mixes, Entrance, Exit}
 use Rattle.orderings.specs.Systems.{System, InForce, Allowed, AtHand, Holds, Derivable, Accepts}
 use Rattle.orderings.specs.Rounds.{OpenBy}
@@ -24,7 +24,7 @@ use Rattle.orderings.specs.Timelines.{timelines}
 use Rattle.orderings.specs.Decide.{claims}
 use Rattle.orderings.specs.Rising.{size, VisitFinds, finds?, found, all-sizes, rising?}
 use Rattle.orderings.proofs.Walks.{allowed-more}
-use Rattle.orderings.proofs.Steps.{on-middle, Runs, runs-append, leg-of, runs-of}
+use Rattle.orderings.proofs.Steps.{on-middle, Runs, runs-append, runs-cut, leg-of, runs-of}
 use Rattle.orderings.proofs.Depths.{holds-more, open-le}
 use Rattle.orderings.proofs.Verdicts.{nonempty-iff}
 use Rattle.orderings.proofs.Timelines.{lawful, members-iff, says-inside}
@@ -53,21 +53,14 @@ module _ (rows : List Row) where
     abbrev Goes : ℕ → Walk → ℕ → Type 0
     Goes a w b = Runs rows In P a w b
 
-    -- a walk cut at a state on it
-    cut : (s a : ℕ) (w : Walk) (b : ℕ) → Goes a w b → On s a w → (u : Walk) × (v : Walk) × Goes a u s × Goes s v b
-    cut s a [] b g o = ([], [], (sym o, tt, tt), (o ∙ g .0, tt, tt))
-    cut s a (t ∷ w) b g (inl e) = ([], t ∷ w, (sym e, tt, tt), subst (λ x. Goes x (t ∷ w) b) (sym e) g)
-    cut s a (t ∷ w) b g (inr o) = let r = cut s (t .to) w b (g .0 .1, g .1 .2, g .2 .1) o in
-        (t ∷ r .0, r .1, ((g .0 .0, r .2 .0), (g .1 .0, g .1 .1, r .2 .1), (g .2 .0, r .2 .2)), r .3)
-
     -- from an entrance to each state of a set that mixes, and from each to an exit
     module _ (h : Mixes rows (AtHand S In) P) where
       enters : (s : ℕ) → s ∈ P → (e : ℕ) × Entrance rows P e × ((v : Walk) × Goes e v s)
-      enters s i = ⊎-elim (λ (k, o). let c = cut s (k .0) (k .4 .0) (k .1) (runs-of rows In P (k .0) (k .1) (k .4)) o in (k .0, k .2, (c .0, c .2)))
+      enters s i = ⊎-elim (λ (k, o). let c = runs-cut rows In P s (k .0) (k .4 .0) (k .1) (runs-of rows In P (k .0) (k .1) (k .4)) o in (k .0, k .2, (c .0, c .2)))
           (λ g. (s, g .0, ([], (refl, tt, tt)))) (h .covered s i)
 
       leaves : (s : ℕ) → s ∈ P → (f : ℕ) × Exit rows P f × ((v : Walk) × Goes s v f)
-      leaves s i = ⊎-elim (λ (k, o). let c = cut s (k .0) (k .4 .0) (k .1) (runs-of rows In P (k .0) (k .1) (k .4)) o in (k .1, k .3, (c .1, c .3)))
+      leaves s i = ⊎-elim (λ (k, o). let c = runs-cut rows In P s (k .0) (k .4 .0) (k .1) (runs-of rows In P (k .0) (k .1) (k .4)) o in (k .1, k .3, (c .1, c .3)))
           (λ g. (s, g .1, ([], (refl, tt, tt)))) (h .covered s i)
 
       inner : (f e : ℕ) → f ∈ P → e ∈ P → (s : ℕ) → s among (e ∷ f ∷ members P) → s ∈ P
@@ -164,7 +157,7 @@ module _ (rows : List Row) where
         (keep-grows (λ s. member s Q) (λ s. member s P) (range 0 64) (λ s i. h s))
       where
         fits : (R : ℕ) → SetOf rows R → R < 2 ^ 64
-        fits R g = set-fits rows fit R g
+        fits R g = set-fits rows fit R g .1
 
         back-in : members Q ≡ members P → P ⊆ Q
         back-in e s i = members-iff Q s .0 (subst (λ l. s among l) (sym e) (members-iff P s .1 i))

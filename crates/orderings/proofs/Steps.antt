@@ -1,7 +1,7 @@
--- Walks of document 01's steps: joined (`leads-append`, `inside-append`), and the states on them (`on-start`, `on-middle`, `on-end`); walks inside
--- a set with claims in force (`Runs`, `runs-append`, `leg-of`).
+-- Walks of document 01's steps: joined (`leads-append`, `inside-append`), and the states on them (`on-start`, `on-middle`, `on-end`, `on-later`);
+-- walks inside a set with claims in force (`Runs`, `runs-append`, `runs-cut`, `leg-of`).
 use Prim.Native.Nat.{ℕ}
-use mathlib.Core.Path.{_≡_, sym, subst}
+use mathlib.Core.Path.{_≡_, refl, ap, sym, _∙_, subst}
 use mathlib.Core.Logic.{inl, inr, _≢_}
 use mathlib.Core.List.{List, [], _∷_, _++_}
 use Rattle.rows.specs.declared.Row.{Row}
@@ -30,6 +30,10 @@ pub on-end : (s a : ℕ) (v : Walk) → Leads a v s → On s a v
 on-end s a [] h = sym h
 on-end s a (t ∷ v) h = inr (on-end s (t .to) v (h .1))
 
+pub on-later : (s a : ℕ) (v : Walk) (b : ℕ) (w : Walk) → Leads a v b → On s b w → On s a (v ++ w)
+on-later s a [] b w h o = subst (λ x. On s x w) (sym h) o
+on-later s a (t ∷ v) b w h o = inr (on-later s (t .to) v b w (h .1) o)
+
 module _ (rows : List Row) (In : Claim → Type 0) (P : ℕ) where
   -- the walk leads from a to b inside P, with the claims in force
   abbrev pub Runs : ℕ → Walk → ℕ → Type 0
@@ -40,6 +44,13 @@ module _ (rows : List Row) (In : Claim → Type 0) (P : ℕ) where
   runs-append a (t ∷ v) s w b h k =
       let r = runs-append (t .to) v s w b (h .0 .1, h .1 .2, h .2 .1) k in
       ((h .0 .0, r .0), (h .1 .0, h .1 .1, r .1), (h .2 .0, r .2))
+
+  -- cut at a state on it
+  pub runs-cut : (s a : ℕ) (w : Walk) (b : ℕ) → Runs a w b → On s a w → (u : Walk) × (v : Walk) × Runs a u s × Runs s v b × (w ≡ u ++ v)
+  runs-cut s a [] b g o = ([], [], (sym o, tt, tt), (o ∙ g .0, tt, tt), refl)
+  runs-cut s a (t ∷ w) b g (inl e) = ([], t ∷ w, (sym e, tt, tt), subst (λ x. Runs x (t ∷ w) b) (sym e) g, refl)
+  runs-cut s a (t ∷ w) b g (inr o) = let r = runs-cut s (t .to) w b (g .0 .1, g .1 .2, g .2 .1) o in
+      (t ∷ r .0, r .1, ((g .0 .0, r .2 .0), (g .1 .0, g .1 .1, r .2 .1), (g .2 .0, r .2 .2)), r .3, ap (λ (x : Walk). t ∷ x) (r .4))
 
   abbrev pub leg-of : (a b : ℕ) (w : Walk) → Runs a w b → w ≢ [] → Through (AtHand (timelines rows) In) P a b
   leg-of a b w r n = (w, ((a, b, r .0), r .1), r .0, r .2, n)

@@ -1,4 +1,4 @@
--- Walks of any system: the claims that they need (`allowed-use`, `allowed-more`), and how deep these are (`greatest-least`, `greatest-most`).
+-- Walks of any system: the claims that they need (`allowed-use`, `allowed-more`, `allowed-step`), and how deep these are (`greatest-least`, `greatest-most`).
 use Prim.Native.Nat.{ℕ, _≤_}
 use mathlib.Core.Path.{refl, sym, subst}
 use mathlib.Core.Logic.{⊎-elim}
@@ -8,7 +8,7 @@ use native.Mathlib.Omega.{arith}
 use Rattle.lists.specs.Tests.{_among_}
 use Rattle.orderings.specs.Systems.{System, InForce, Allowed, need-depth, walk-depth, greatest}
 
-abbrev one-or-none : {C : Type 0} → Option C → List C
+abbrev pub one-or-none : {C : Type 0} → Option C → List C
 one-or-none none = []
 one-or-none (some c) = c ∷ []
 
@@ -20,6 +20,10 @@ module _ {C : Type 0} (In : C → Type 0) where
   force-of : (o : Option C) → ((c : C) → c among one-or-none o → In c) → InForce In o
   force-of none h = tt
   force-of (some c) h = h c (List·Memᴰ·head refl)
+
+pub in-force-more : {C : Type 0} {In In′ : C → Type 0} → ((c : C) → In c → In′ c) → (o : Option C) → InForce In o → InForce In′ o
+in-force-more up none h = tt
+in-force-more up (some c) h = up c h
 
 module _ {C : Type 0} (d : C → ℕ) where
   need-least : (o : Option C) (c : C) → c among one-or-none o → d c ≤ need-depth d o
@@ -48,6 +52,11 @@ module _ (S : System) where
   allowed-change In In′ [] h f = tt
   allowed-change In In′ (t ∷ w) h f =
       (h .0, force-of In′ (S .needs t) (λ c m. f c (Memᴰ·append-left (needed w) m)), allowed-change In In′ w (h .2) (λ c m. f c (Memᴰ·append-right (one-or-none (S .needs t)) m)))
+
+  -- each step of the walk is possible, and the claim that it needs is in force
+  pub allowed-step : (In : S .Claim → Type 0) (w : List (S .Step)) → Allowed S In w → (t : S .Step) → t among w → S .Possible t × InForce In (S .needs t)
+  allowed-step In [] h t m = absurd (List·Memᴰ·not-nil m)
+  allowed-step In (s ∷ w) h t m = ⊎-elim (λ e. subst (λ (x : S .Step). S .Possible x × InForce In (S .needs x)) (sym e) (h .0, h .1)) (allowed-step In w (h .2) t) (List·Memᴰ·cases-cons m)
 
   pub allowed-append : (In : S .Claim → Type 0) (v w : List (S .Step)) → Allowed S In v → Allowed S In w → Allowed S In (v ++ w)
   allowed-append In [] w h k = k

@@ -16,8 +16,9 @@ use Rattle.orderings.specs.Steps.{Claim}
 use Rattle.orderings.specs.Decide.{same-claim}
 use Rattle.orderings.proofs.Deciding.{same-claim·}
 use Rattle.machine.specs.Machine.{Opening, Machine, open-claims, openings-of, with-openings}
+use Rattle.machine.specs.Expression.{round-of}
 use Rattle.row_table.specs.Arrays.{padded}
-use Rattle.rounds.specs.Arrays.{round-of, rounds-of, Notes}
+use Rattle.rounds.specs.Arrays.{rounds-of, Notes}
 use Rattle.rounds.proofs.OpenClaims.{set-at, round-at}
 
 -- a claim that the new round does not open
@@ -52,12 +53,12 @@ filled-past l i h g =
     ∙ getD-replicate (64 - length l) (i - length l) 0 0 (omega arith)
 
 module _ (m : Machine) (few : length (standing-sets (m .rows)) ≤ 64) (claim : ℕ → Claim) where
-  rounds-length : length (rounds-of m claim) ≡ 64
+  pub rounds-length : length (rounds-of m claim) ≡ 64
   rounds-length = simp (length-append, length-replicate, length-map) (omega arith)
 
   -- there is no set from their count on
-  past : (i : ℕ) → length (standing-sets (m .rows)) ≤ i → i < 64 → getD (rounds-of m claim) i 0 ≡ 0
-  past i h g = let f : ℕ → ℕ = λ P. round-of (m .openings) (claim P) in filled-past (map f (standing-sets (m .rows))) i (omega (arith, length-map (standing-sets (m .rows)) f)) g
+  pub rounds-past : (i : ℕ) → length (standing-sets (m .rows)) ≤ i → i < 64 → getD (rounds-of m claim) i 0 ≡ 0
+  rounds-past i h g = let f : ℕ → ℕ = λ P. round-of (m .openings) (claim P) in filled-past (map f (standing-sets (m .rows))) i (omega (arith, length-map (standing-sets (m .rows)) f)) g
 
 -- the array with the places noted that the round opens is that of the machine with the new openings
 module _ (m : Machine) (few : length (standing-sets (m .rows)) ≤ 64) (claim : ℕ → Claim) (k opened : ℕ) (new : List Claim) (vain : Bool)
@@ -74,7 +75,7 @@ module _ (m : Machine) (few : length (standing-sets (m .rows)) ≤ 64) (claim : 
       (λ e. ap (λ (b : Bool). cond b k (getD (rounds-of m claim) i 0)) e
       ∙ ⊎-elim
       (λ l. round-at m claim i l ∙ sym (round-at then claim i l ∙ round-old (claim (set-at m i)) k (m .openings) new (λ j. not-both (is i .1 (l, j)) e)))
-      (λ l. past m few claim i l h ∙ sym (past then few claim i l h)) (lt-or-le i (length (standing-sets (m .rows)))))
+      (λ l. rounds-past m few claim i l h ∙ sym (rounds-past then few claim i l h)) (lt-or-le i (length (standing-sets (m .rows)))))
       (true-or-false (member i opened))
 
   pub noted : (r : List ℕ) → Notes (rounds-of m claim) opened k r → r ≡ rounds-of then claim

@@ -3,9 +3,9 @@
 use Prim.Native.Nat.{ℕ, suc, _+_, _<_, _≤_}
 use mathlib.Core.Path.{_≡_, refl, ap, sym, _∙_, subst}
 use mathlib.Core.Bool.{Bool, true, false}
-use mathlib.Core.Logic.{_⊎_, inl, inr, ⊎-elim, _↔_}
+use mathlib.Core.Logic.{_⊎_, inl, inr, ⊎-elim}
 use mathlib.Core.List.{List, [], _∷_}
-use lib.ListN.{getD, replicate}
+use lib.ListN.{replicate}
 use native.Mathlib.Omega.{arith}
 use Rattle.lists.specs.Tests.{Decides, _among_}
 use Rattle.masks.specs.Mask.{_∈_}
@@ -18,15 +18,18 @@ use Rattle.machine.specs.Calls.{close, round, run}
 use Rattle.machine.specs.WellFormed.{after, WellFormed}
 use Rattle.machine.proofs.Settling.{below-next, after-after}
 use Rattle.machine.proofs.History.{work-runs}
+use Rattle.machine.proofs.Grounded.{grounded}
+use Rattle.machine.proofs.Tours.{round-iff}
 use Rattle.search.specs.declared.Claims.{Claims}
 use Rattle.search.specs.Graph.{Graph}
 use Rattle.search.specs.Hops.{WithNew, EndsBelow}
 use Rattle.search.specs.Masked.{Forced}
 use Rattle.search.specs.Promises.{AcceptsRight, OpensBelow}
 use Rattle.row_table.specs.Arrays.{SetsIn}
+use Rattle.row_table.proofs.Sets.{sets-in-held}
 use Rattle.rounds.specs.Arrays.{rounds-of, OpenPlaces, Notes}
 use Rattle.rounds.specs.Promises.{Given, Mirrors, no-claims}
-use Rattle.rounds.proofs.OpenClaims.{set-at, open-iff, no-rounds}
+use Rattle.rounds.proofs.OpenClaims.{forced-by, no-rounds}
 use Rattle.rounds.proofs.Turn.{none-forced, walk-test, Turn, turn-kept, turn-forced}
 
 -- another phase than running
@@ -50,15 +53,9 @@ closed-kept m {g} {n = n} given b r = record {
 pub forced-of : (m : Machine) → WellFormed m → (g : Graph) (n : ℕ) → SetsIn (m .rows) (g .sets) n → (loop-rounds mix-rounds : List ℕ)
     → loop-rounds ≡ rounds-of m loops → mix-rounds ≡ rounds-of m mixes
     → (force : Claims) → OpenPlaces loop-rounds n (force .loops) → OpenPlaces mix-rounds n (force .mixes) → Forced (λ c. c among open-claims m) g n force
-forced-of m w g n d loop-rounds mix-rounds is-l is-m force f h = record {
-  loop-iff = place loops (force .loops) (subst (λ (l : List ℕ). OpenPlaces l n (force .loops)) is-l f);
-  mix-iff = place mixes (force .mixes) (subst (λ (l : List ℕ). OpenPlaces l n (force .mixes)) is-m h);
-}
-  where
-    place : (claim : ℕ → Claim) (mask : ℕ) → OpenPlaces (rounds-of m claim) n mask → (i : ℕ) → (i ∈ mask) ↔ ((i < n) × claim (getD (g .sets) i 0) among open-claims m)
-    place claim mask k i = subst (λ (l : List ℕ). (i ∈ mask) ↔ ((i < n) × claim (getD l i 0) among open-claims m)) (sym (d .sets-are))
-        (subst (λ (c : ℕ). (i ∈ mask) ↔ ((i < c) × claim (set-at m i) among open-claims m)) (sym (d .count))
-        (open-iff m w claim mask (subst (λ (c : ℕ). OpenPlaces (rounds-of m claim) c mask) (d .count) k) i))
+forced-of m w g n d loop-rounds mix-rounds is-l is-m force f h =
+    forced-by m g n (sets-in-held (m .rows) (g .sets) n d) (d .count) (λ r. 0 < r) (λ c. c among open-claims m) (round-iff (m .openings) (grounded m w .low)) force
+    (subst (λ (l : List ℕ). OpenPlaces l n (force .loops)) is-l f) (subst (λ (l : List ℕ). OpenPlaces l n (force .mixes)) is-m h)
 
 -- what a round comes to, with the claims in force, those that it opens, and both
 pub record Round (g : Graph) (initials finals n : ℕ) (force new all : Claims) (k : ℕ) (loop-rounds mix-rounds : List ℕ) (accepted vain : Bool) (loop-notes mix-notes : List ℕ) : Type 0 where

@@ -3,19 +3,14 @@ use Prim.Native.Nat.{ℕ, _<_}
 use mathlib.Core.Path.{_≡_}
 use mathlib.Core.Bool.{cond}
 use mathlib.Core.Logic.{_↔_}
-use mathlib.Core.List.{List, [], _∷_, map}
+use mathlib.Core.List.{List, map}
 use lib.ListN.{length, getD}
 use Rattle.masks.specs.Mask.{member, _∈_}
 use Rattle.rows.specs.Rows.{standing-sets}
 use Rattle.orderings.specs.Steps.{Claim}
-use Rattle.orderings.specs.Decide.{same-claim}
-use Rattle.machine.specs.Machine.{Opening, Machine}
+use Rattle.machine.specs.Machine.{Machine}
+use Rattle.machine.specs.Expression.{round-of}
 use Rattle.row_table.specs.Arrays.{padded}
-
--- the round that opened the claim, 0 if none did
-abbrev pub round-of : List Opening → Claim → ℕ
-round-of [] c = 0
-round-of (o ∷ l) c = cond (same-claim c (o .claim)) (o .round) (round-of l c)
 
 -- the rounds of the claims about the sets
 abbrev pub rounds-of : Machine → (ℕ → Claim) → List ℕ

@@ -71,16 +71,16 @@ module _ (rows : List Row) (sets : List ℕ) (k : ℕ) (are : take k sets ≡ st
   pub set-place : (P : ℕ) → SetOf rows P → (i : ℕ) × (i < k) × (P ≡ getD sets i 0)
   set-place P h = held-place k sets P (rw are (sets-iff rows P .1 h))
 
--- a set of rows that fit is a number of eight bytes
-pub set-fits : (rows : List Row) → AllFit rows → (P : ℕ) → SetOf rows P → P < 256 ^ 8
+-- a set of rows that fit is a number of eight bytes, and not 0
+pub set-fits : (rows : List Row) → AllFit rows → (P : ℕ) → SetOf rows P → (0 < P) × (P < 256 ^ 8)
 set-fits rows f P h = by (h .0) (f (h .0) (h .1)) (h .2)
   where
-    by : (r : Row) → Fits r → P among sets-of r → P < 256 ^ 8
+    by : (r : Row) → Fits r → P among sets-of r → (0 < P) × (P < 256 ^ 8)
     by (Initial s) g m = absurd (List·Memᴰ·not-nil m)
     by (Final s) g m = absurd (List·Memᴰ·not-nil m)
     by (Successor p a q) g m = absurd (List·Memᴰ·not-nil m)
-    by (LeftLimit Q q) g m = rw (List·Memᴰ·eq-of-singleton m) (g .1)
-    by (RightLimit q Q) g m = rw (List·Memᴰ·eq-of-singleton m) (g .1)
+    by (LeftLimit Q q) g m = rw (List·Memᴰ·eq-of-singleton m) (g .0, g .1)
+    by (RightLimit q Q) g m = rw (List·Memᴰ·eq-of-singleton m) (g .0, g .1)
     by (Strike s) g m = absurd (List·Memᴰ·not-nil m)
 
 sets-part : (rows rows′ : List Row) → rows part-of rows′ → standing-sets rows part-of standing-sets rows′

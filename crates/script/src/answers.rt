@@ -1,4 +1,4 @@
-// What lines and their calls are answered. A sheet and rows end their line; other answers are ended by who asks for them.
+// What lines and their calls are answered. A sheet, rows and an expression end their line; other answers are ended by who asks for them.
 use commands::Command;
 use commands::Report;
 use machine::Answer;
@@ -51,11 +51,18 @@ fn say_rows(rows: &[u8]) {
     say(b"\n");
 }
 
-// Writes what a call put into its buffer: a sheet as it is, rows in hex.
+fn say_expression(text: &[u8]) {
+    say(b"expression ");
+    say(text);
+    say(b"\n");
+}
+
+// Writes what a call put into its buffer: a sheet as it is, rows in hex, an expression as it is in a line.
 fn say_text(call: Report, text: &[u8]) {
     match call {
         Report::Print => say(text),
         Report::Save => say_rows(text),
+        Report::Expression => say_expression(text),
     }
 }
 

@@ -4,6 +4,7 @@ use crate::answers::say_none;
 use crate::checks::say_kept;
 use commands::Change;
 use commands::Command;
+use commands::EXPRESSION_ROOM;
 use commands::Move;
 use commands::Naming;
 use commands::Report;
@@ -42,15 +43,16 @@ fn report(session: Session, call: Report, buffer: &mut [u8]) -> Reply {
     match call {
         Report::Print => session.print(buffer),
         Report::Save => session.save(buffer),
+        Report::Expression => session.expression(buffer),
     }
 }
 
-// No sheet and no save is longer.
+// No buffer is longer.
 fn at_most(n: usize) -> isize {
-    if n < LONGEST_SHEET {
+    if n < EXPRESSION_ROOM {
         n as isize
     } else {
-        LONGEST_SHEET as isize
+        EXPRESSION_ROOM as isize
     }
 }
 
@@ -101,16 +103,49 @@ fn end(before: Session, reply: Reply, buffer: &[u8], checks: bool) {
     }
 }
 
-// Runs a call, and writes its answer.
-fn run_call(session: Session, command: Command, batch: &[u8], checks: bool) -> Session {
-    let mut buffer = [170u8; LONGEST_SHEET];
-    let reply = act(session, command, batch, &mut buffer);
+// Runs a call with a buffer, and writes its answer.
+fn run_with(
+    session: Session,
+    command: Command,
+    batch: &[u8],
+    buffer: &mut [u8],
+    checks: bool,
+) -> Session {
+    let reply = act(session, command, batch, buffer);
     let after = reply.session;
     let phase = after.phase;
     let answer = reply.answer;
-    say_answer(command, answer, phase, &buffer);
-    end(session, reply, &buffer, checks);
+    say_answer(command, answer, phase, buffer);
+    end(session, reply, buffer, checks);
     after
+}
+
+// With room for any sheet and any save.
+fn run_short(session: Session, command: Command, batch: &[u8], checks: bool) -> Session {
+    let mut buffer = [170u8; LONGEST_SHEET];
+    run_with(session, command, batch, &mut buffer, checks)
+}
+
+// With room for an expression.
+fn run_long(session: Session, command: Command, batch: &[u8], checks: bool) -> Session {
+    let mut buffer = [170u8; EXPRESSION_ROOM];
+    run_with(session, command, batch, &mut buffer, checks)
+}
+
+// Does the call ask for more room than a sheet has?
+fn is_long(command: Command) -> bool {
+    match command {
+        Command::Reports(_, n) => n > LONGEST_SHEET,
+        _ => false,
+    }
+}
+
+// Runs a call: a megabyte is filled for those alone that ask for it.
+fn run_call(session: Session, command: Command, batch: &[u8], checks: bool) -> Session {
+    if is_long(command) {
+        return run_long(session, command, batch, checks);
+    }
+    run_short(session, command, batch, checks)
 }
 
 // Does the command ask for a call?

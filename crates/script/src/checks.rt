@@ -9,8 +9,6 @@ use marks::Kept;
 use marks::MOST_MARKS;
 use marks::Marks;
 use program_output::beyond;
-use program_output::first;
-use program_output::same;
 use program_output::say;
 use session::Session;
 
@@ -139,8 +137,14 @@ fn digest(session: Session) -> u64 {
 
 // Are the bytes as they were lent?
 fn is_untouched(bytes: &[u8]) -> bool {
-    let lent = [170u8; LONGEST_SHEET];
-    same(bytes, first(&lent, bytes.len()))
+    let mut i = 0;
+    while i < bytes.len() {
+        if bytes[i] != 170 {
+            return false;
+        }
+        i += 1;
+    }
+    true
 }
 
 fn say_same(kept: bool) {

@@ -53,7 +53,7 @@ module _ {rows : List Row} (fit : AllFit rows) where
   step-all a (mix Q) b h =
       and-all b (a ∷ members Q) (fit (LeftLimit Q b) (h .1) .2) (and-all a (members Q) (fit (RightLimit a Q) (h .0) .2) (in-members Q))
 
-  walk-all : (In : Claim → Type 0) (w : Walk) → Allowed (timelines rows) In w → Inside all-mask w
+  pub walk-all : (In : Claim → Type 0) (w : Walk) → Allowed (timelines rows) In w → Inside all-mask w
   walk-all In [] h = tt
   walk-all In (t ∷ w) h = (step-all (t .from) (t .label) (t .to) (h .0 .0), walk-all In w (h .2))
 

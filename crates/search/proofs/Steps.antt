@@ -27,6 +27,13 @@ mix-rows rows p P q = (
   ),
 )
 
+-- the states of a set inside p, with others in p
+pub set-in : (p Q : ℕ) → Q ⊆ p → (s : ℕ) → s among members Q → s ∈ p
+set-in p Q h s m = h s (members-iff Q s .0 m)
+
+pub and-in : (p x : ℕ) (l : List ℕ) → x ∈ p → ((s : ℕ) → s among l → s ∈ p) → (s : ℕ) → s among (x ∷ l) → s ∈ p
+and-in p x l h f s m = ⊎-elim (λ e. subst (λ (y : ℕ). y ∈ p) (sym e) h) (f s) (List·Memᴰ·cases-cons m)
+
 module _ {rows : List Row} {g : Graph} {n : ℕ} (is : Masked rows g n) where
   -- a set of the rows has a place
   place : (P : ℕ) → SetOf rows P → (i : ℕ) × (i < n) × (P ≡ getD (g .sets) i 0)
@@ -42,30 +49,23 @@ module _ {rows : List Row} {g : Graph} {n : ℕ} (is : Masked rows g n) where
     abbrev HopIn : ℕ → ℕ → Type 0
     HopIn a b = Hop g inner p a b
 
-    -- the states of a set inside p, with others in p
-    set-in : (Q : ℕ) → Q ⊆ p → (s : ℕ) → s among members Q → s ∈ p
-    set-in Q h s m = h s (members-iff Q s .0 m)
-
-    and-in : (x : ℕ) (l : List ℕ) → x ∈ p → ((s : ℕ) → s among l → s ∈ p) → (s : ℕ) → s among (x ∷ l) → s ∈ p
-    and-in x l h f s m = ⊎-elim (λ e. subst (λ (y : ℕ). y ∈ p) (sym e) h) (f s) (List·Memᴰ·cases-cons m)
-
     pub hop-step : (a b : ℕ) → HopIn a b → StepInside rows In p a b
     hop-step a b h = ⊎-elim
         (λ e. let x = is .letter-iff a b .0 e in
-        (letter (x .0), x .1, tt, and-in a (b ∷ []) (h .start) (and-in b [] (h .end) (λ s m. absurd (List·Memᴰ·not-nil m)))))
+        (letter (x .0), x .1, tt, and-in p a (b ∷ []) (h .start) (and-in p b [] (h .end) (λ s m. absurd (List·Memᴰ·not-nil m)))))
         (⊎-elim
         (⊎-elim
         (λ e. let i = e .0 in let j = is-inner .loops-are i .0 (e .1) in let f = forced .loop-iff i .0 (j .0) in
         let r = is .left-iff i b (f .0) .0 (e .3) in
-        (ω (getD (g .sets) i 0), ((r .0, e .2), r .1), f .1, and-in b _ (h .end) (set-in _ (j .1))))
+        (ω (getD (g .sets) i 0), ((r .0, e .2), r .1), f .1, and-in p b _ (h .end) (set-in p _ (j .1))))
         (λ e. let i = e .0 in let j = is-inner .loops-are i .0 (e .1) in let f = forced .loop-iff i .0 (j .0) in
         let r = is .right-iff i a (f .0) .0 (e .2) in
-        (back (getD (g .sets) i 0), ((r .0, e .3), r .1), f .1, and-in a _ (h .start) (set-in _ (j .1)))))
+        (back (getD (g .sets) i 0), ((r .0, e .3), r .1), f .1, and-in p a _ (h .start) (set-in p _ (j .1)))))
         (λ e. let i = e .0 in let j = is-inner .mixes-are i .0 (e .1) in let f = forced .mix-iff i .0 (j .0) in (
           mix (getD (g .sets) i 0),
           mix-rows rows a _ b .0 (is .right-iff i a (f .0) .0 (e .2), is .left-iff i b (f .0) .0 (e .3)),
           f .1,
-          and-in b _ (h .end) (and-in a _ (h .start) (set-in _ (j .1))),
+          and-in p b _ (h .end) (and-in p a _ (h .start) (set-in p _ (j .1))),
         )))
         (h .kind)
 

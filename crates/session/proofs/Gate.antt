@@ -64,6 +64,10 @@ foreign-none x s p f = f (ranged x s p)
 pub known : (s : Session) (x : State) {q : State} → HasState s x → x ≡ q → HasState s q
 known s x h e = subst (HasState s) e h
 
+-- settled, with the verdict that was found
+pub settled-as : (s : Session) (v : Verdict) {w : Verdict} → HasState s (IsSettled v) → v ≡ w → HasState s (IsSettled w)
+settled-as s v h e = known s (IsSettled v) h (ap IsSettled e)
+
 -- running or settled
 pub closed-running : (s : Session) {x : State} → HasState s x → x ≡ IsRunning → Ranged s × NotOpen (s .phase)
 closed-running s {x} h e = let k = known s x h e in (k .0, subst NotOpen (sym (k .1)) running)

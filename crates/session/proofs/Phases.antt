@@ -1,15 +1,17 @@
 -- Close, round, reopen and verdict: what the machine does, and what the session does.
-use Prim.Native.Nat.{_<_}
+use Prim.Native.Nat.{_≤_, _<_}
 use mathlib.Core.Path.{_≡_, refl}
 use mathlib.Core.List.{[]}
 use lib.ListN.{replicate}
 use native.Mathlib.Omega.{arith}
 use Rattle.machine.specs.declared.Answer.the-variants.{Done, Decided}
 use Rattle.machine.specs.declared.Verdict.{Verdict}
+use Rattle.machine.specs.declared.Phase.{Phase}
 use Rattle.machine.specs.declared.Phase.the-variants.{Open}
 use Rattle.machine.specs.Machine.{closed, next-round, reopened}
 use Rattle.machine.specs.Calls.{close, round, reopen, verdict, verdict-of, decide}
 use Rattle.machine.specs.Causes.{NotOpen}
+use Rattle.machine.specs.WellFormed.{most-done}
 use Rattle.machine.specs.Marks.{on}
 use Rattle.machine.proofs.Answers.{tells-decided}
 use Rattle.machine.proofs.Outcomes.{deciding}
@@ -21,7 +23,7 @@ use Rattle.rounds.specs.Promises.{Closes, DoesRound}
 use Rattle.rising.specs.Promises.{Judges}
 use Rattle.session.specs.declared.Session.{Session}
 use Rattle.session.specs.declared.Reply.{Reply}
-use Rattle.session.specs.declared.State.the-variants.{Open as IsOpen, Running as IsRunning}
+use Rattle.session.specs.declared.State.the-variants.{Open as IsOpen, Running as IsRunning, Settled as IsSettled}
 use Rattle.session.specs.Promise.{Ranged, Promised, HasState}
 use Rattle.session.specs.Standing.{reply, rounds-in, with-rounds, Reads}
 use Rattle.session.proofs.Gate.{does-as, promised, done-in}
@@ -36,9 +38,16 @@ module _ (s : Session) (a : Automaton) (reads : Reads s a) (now : Progress) {r :
   round-done state before k d =
       done-in s next-round state running-rounds (λ x p. round-record x s p a now reads (rw k at d)) made
 
--- a running session has room for a round
+-- a session has done no more rounds than calls lead to in its phase
+rounds-most : (s : Session) (before : Progress) → before ≡ rounds-in s → {p : Phase} → Ranged s × (s .phase ≡ p) → before .rounds ≤ most-done p
+rounds-most s before k h = rw k (rw (h .1) at (h .0 .few-rounds))
+
+-- a running one has room for a round
 pub rounds-few : (s : Session) (before : Progress) → before ≡ rounds-in s → HasState s IsRunning → before .rounds < 129
-rounds-few s before k h = rw k (omega (arith, rw (h .1) at (h .0 .few-rounds)))
+rounds-few s before k h = omega (arith, rounds-most s before k h)
+
+pub rounds-settled : (s : Session) (before : Progress) → before ≡ rounds-in s → (v : Verdict) → HasState s (IsSettled v) → before .rounds ≤ 129
+rounds-settled s before k v h = rounds-most s before k h
 
 pub reopen-done : (s : Session) {r : Reply} → Ranged s → NotOpen (s .phase)
     → r ≡ reply (with-rounds s (record { «loop_rounds» = replicate 64 0; «mix_rounds» = replicate 64 0; phase = Open; rounds = 0 })) Done

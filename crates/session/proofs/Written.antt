@@ -1,32 +1,43 @@
--- Print and save on the record: what is written from its arrays is what the machine writes.
+-- Print, expression and save on the record: what is written from its arrays is what the machine writes (`writes`).
 use Prim.Native.Nat.{ℕ}
 use mathlib.Core.Path.{_≡_, ap, sym, _∙_, subst}
 use mathlib.Core.List.{List}
 use lib.ListN.{length}
 use Rattle.rows.specs.Rows.{batch-of}
 use Rattle.machine.specs.declared.Answer.{Answer}
+use Rattle.machine.specs.declared.Answer.the-variants.{Refused}
 use Rattle.machine.specs.declared.Verdict.{Verdict}
-use Rattle.machine.specs.Calls.{print, save, Next, write, saved, Tells, TellsText}
+use Rattle.machine.specs.declared.Verdict.the-variants.{NonEmpty, Empty}
+use Rattle.machine.specs.declared.Phase.the-variants.{Settled}
+use Rattle.machine.specs.Machine.{Machine}
+use Rattle.machine.specs.WellFormed.{WellFormed}
+use Rattle.machine.specs.Calls.{Call, print, save, expression, Next, write, saved, TellsText}
 use Rattle.machine.specs.Sheet.{sheet}
-use Rattle.machine.specs.Causes.{sheets, saves}
+use Rattle.machine.specs.Expression.{expression-of}
+use Rattle.machine.specs.Causes.{Writes, sheets, saves, expresses}
 use Rattle.machine.specs.Marks.{Marked, on}
+use Rattle.machine.proofs.Answers.{tells-as}
+use Rattle.machine.proofs.Phases.{empty-refuses}
 use Rattle.machine.proofs.Tables.{sort-table}
 use Rattle.machine.proofs.Outcomes.{writing}
-use Rattle.row_table.specs.Arrays.{Keyed}
+use Rattle.row_table.specs.Arrays.{Keyed, Filed}
 use Rattle.automaton.specs.declared.Automaton.{Automaton}
-use Rattle.automaton.specs.Promise.{GivesKeyed}
+use Rattle.automaton.specs.Promise.{Gives, GivesKeyed}
 use Rattle.rounds.specs.declared.Progress.{Progress}
+use Rattle.rounds.specs.Promises.{Mirrors}
+use Rattle.expression.specs.Promise.{ExpressesWalk}
 use Rattle.whole_sheet.specs.Promise.{PrintsSheet}
 use Rattle.whole_sheet.specs.Saving.{row-list}
 use Rattle.whole_sheet.proofs.Automata.{gives-filed}
 use Rattle.whole_sheet.proofs.Saving.{rows-held}
 use Rattle.session.specs.declared.Session.{Session}
+use Rattle.session.specs.declared.Reply.{Reply}
 use Rattle.session.specs.declared.State.the-variants.{Settled as IsSettled}
 use Rattle.session.specs.Record.{Represents}
 use Rattle.session.specs.Promise.{Ranged, Promised, HasState}
 use Rattle.session.specs.Standing.{standing, reply, rounds-in, Reads}
 use Rattle.session.proofs.Whole.{keyed-of, sets-in-of}
-use Rattle.session.proofs.Gate.{in-phase, does-as, promised}
+use Rattle.session.proofs.Gate.{in-phase, does-as, promised, refused-settled}
 use Rattle.session.proofs.Rounded.{mirrors-of}
 
 -- the masks of the machine's rows, from the keys of the standing rows
@@ -34,14 +45,36 @@ pub reads-of : (s : Session) (high low : List ℕ) → Keyed (standing s) high l
     → (a : Automaton) → GivesKeyed high low (s .«row_count») (s .sets) (s .«set_count») a → Reads s a
 reads-of s high low keyed a g x p = gives-filed (p .formed .now-formed .table) (keyed-of x s p high low keyed, sets-in-of x s p) g
 
--- the sheet of a settled session
-pub prints-settled : (s : Session) (v : Verdict) → HasState s (IsSettled v) → (high low : List ℕ) → Keyed (standing s) high low (s .«row_count»)
-    → (a : Automaton) → Reads s a → (old new : List ℕ) → length new ≡ length old → (r : Answer) (rounds : Progress) → rounds ≡ rounds-in s
-    → PrintsSheet v high low (s .«row_count») (s .sets) (s .«set_count») a rounds old new r → Promised s (on (print (length old))) old new (reply s r)
-prints-settled s v state high low keyed a reads old new l r rounds k h = promised (state .0) l (λ x p. let e = in-phase x s p (state .1) in
-    does-as x (print (length old)) (write (x .now) (length old) (sheet v (x .now))) (writing (x .now) (sheets v (length old) e)) (p .whole)
-    (subst (λ (n : Next). Tells (n .answer) old new r) (writing (x .now) (sheets v (length old) e))
-    ((rw k at h) (x .now) (p .formed .now-formed) e (keyed-of x s p high low keyed, sets-in-of x s p) (reads x p) (mirrors-of x s p))))
+-- a text that the machine writes for a call, in the session's buffer
+writes : (s : Session) → Ranged s → (old new : List ℕ) → length new ≡ length old → (r : Answer) (c : Call)
+    → ((x : Marked) → Represents x s → (text : List ℕ) × Writes (x .now) c text (length old) × TellsText text old new r) → Promised s (on c) old new (reply s r)
+writes s ranged old new l r c f = promised ranged l (λ x p. let w = f x p in
+    does-as x c (write (x .now) (length old) (w .0)) (writing (x .now) (w .1)) (p .whole) (w .2))
+
+-- of a settled session, with what its arrays hold
+module _ (s : Session) (v : Verdict) (state : HasState s (IsSettled v)) (high low : List ℕ) (keyed : Keyed (standing s) high low (s .«row_count»)) (a : Automaton) (reads : Reads s a)
+    (old new : List ℕ) (l : length new ≡ length old) (r : Answer) (rounds : Progress) (k : rounds ≡ rounds-in s) where
+  -- what is told of every machine whose rows, masks and rounds these are
+  writes-settled : (c : Call) (text : Machine → List ℕ) → ((m : Machine) → m .phase ≡ Settled v → Writes m c (text m) (length old))
+      → ((m : Machine) → WellFormed m → m .phase ≡ Settled v → Filed high low (s .sets) (s .«row_count») (s .«set_count») (m .rows) → Gives (m .rows) (s .sets) (s .«set_count») a
+      → Mirrors m (rounds .«loop_rounds») (rounds .«mix_rounds») (rounds .phase) (rounds .rounds) → TellsText (text m) old new r)
+      → Promised s (on c) old new (reply s r)
+  writes-settled c text f h = writes s (state .0) old new l r c (λ x p. let e = in-phase x s p (state .1) in
+      (text (x .now), f (x .now) e, (rw k at h) (x .now) (p .formed .now-formed) e (keyed-of x s p high low keyed, sets-in-of x s p) (reads x p) (mirrors-of x s p)))
+
+  -- the sheet
+  pub prints-settled : PrintsSheet v high low (s .«row_count») (s .sets) (s .«set_count») a rounds old new r → Promised s (on (print (length old))) old new (reply s r)
+  prints-settled h = writes-settled (print (length old)) (sheet v) (λ m. sheets v (length old))
+      (λ m w e f g i. tells-as (ap (λ (n : Next). n .answer) (writing m (sheets v (length old) e))) (h m w e f g i))
+
+  -- its walk
+  pub expresses-settled : v ≡ NonEmpty → ExpressesWalk high low (s .«row_count») (s .«set_count») a rounds old new r → Promised s (on (expression (length old))) old new (reply s r)
+  expresses-settled n h = writes-settled (expression (length old)) expression-of (λ m e. expresses (length old) (e ∙ ap Settled n)) (λ m w e. h m (s .sets) w (e ∙ ap Settled n))
+
+-- no walk where the verdict is empty
+pub expresses-nothing : (s : Session) (v : Verdict) → HasState s (IsSettled v) → v ≡ Empty → {old : List ℕ} {r : Reply} → r ≡ reply s (Refused 17 0)
+    → Promised s (on (expression (length old))) old old r
+expresses-nothing s v h e {old} g = refused-settled s (IsSettled v) h Empty (ap IsSettled e) g (empty-refuses (length old))
 
 -- the bytes of the keys are the saved rows
 pub rows-saved : (s : Session) (high low : List ℕ) → Keyed (standing s) high low (s .«row_count») → (x : Marked) → Represents x s → batch-of (row-list high low (s .«row_count»)) ≡ saved (x .now)
@@ -51,6 +84,5 @@ rows-saved s high low keyed x p = let t = p .formed .now-formed .table in
 -- the rows of a session
 pub saves-rows : (s : Session) → Ranged s → (high low : List ℕ) → Keyed (standing s) high low (s .«row_count») → (old new : List ℕ) → length new ≡ length old → (r : Answer)
     → TellsText (batch-of (row-list high low (s .«row_count»))) old new r → Promised s (on (save (length old))) old new (reply s r)
-saves-rows s ranged high low keyed old new l r t = promised ranged l (λ x p.
-    does-as x (save (length old)) (write (x .now) (length old) (saved (x .now))) (writing (x .now) (saves (length old))) (p .whole)
-    (subst (λ (text : List ℕ). TellsText text old new r) (rows-saved s high low keyed x p) t))
+saves-rows s ranged high low keyed old new l r t = writes s ranged old new l r (save (length old))
+    (λ x p. (saved (x .now), saves (length old), subst (λ (text : List ℕ). TellsText text old new r) (rows-saved s high low keyed x p) t))

@@ -1,4 +1,5 @@
 // The session and its calls.
+mod expressions;
 mod loading;
 mod marking;
 mod prints;

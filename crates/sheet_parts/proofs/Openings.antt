@@ -23,14 +23,16 @@ use Rattle.orderings.specs.Timelines.{timelines}
 use Rattle.orderings.proofs.Depths.{opens-iff-least}
 use Rattle.orderings.proofs.Timelines.{lawful}
 use Rattle.machine.specs.Machine.{Opening, Machine}
+use Rattle.machine.specs.Expression.{round-of}
 use Rattle.machine.specs.WellFormed.{Worked, WellFormed}
 use Rattle.machine.specs.Statements.{loop-first, opening-key, Listed}
 use Rattle.machine.proofs.Statements.{worked-listed}
+use Rattle.machine.proofs.Tours.{round-found, round-is}
 use Rattle.machine.proofs.Second.{opening-apart, openings-once}
 use Rattle.row_table.specs.Arrays.{SetsIn}
 use Rattle.row_table.proofs.Sets.{sets-in-held}
-use Rattle.rounds.specs.Arrays.{round-of, rounds-of}
-use Rattle.rounds.proofs.OpenClaims.{round-found, round-is, subject, round-at}
+use Rattle.rounds.specs.Arrays.{rounds-of}
+use Rattle.rounds.proofs.OpenClaims.{subject, round-there}
 use Rattle.sheet_parts.specs.Openings.{upto, opened, opening-in, openings-at, openings-below, openings-in}
 
 -- ---- lists one after another
@@ -152,12 +154,12 @@ module _ (m : Machine) (sets : List ℕ) (n : ℕ) (w : SetsIn (m .rows) sets n)
   held = sets-in-held (m .rows) sets n w
 
   -- at a place stands the round of the claim about its set
-  round-there : (claim : ℕ → Claim) (i : ℕ) → i < n → getD (rounds-of m claim) i 0 ≡ round-of (m .openings) (claim (getD sets i 0))
-  round-there claim i h = round-at m claim i (omega (arith, w .count)) ∙ ap (λ (l : List ℕ). round-of (m .openings) (claim (getD l i 0))) (sym (w .sets-are))
+  round-here : (claim : ℕ → Claim) (i : ℕ) → i < n → getD (rounds-of m claim) i 0 ≡ round-of (m .openings) (claim (getD sets i 0))
+  round-here = round-there m sets n held (w .count)
 
   -- where it is not 0 it is that of an opening
   open-there : (claim : ℕ → Claim) (i k : ℕ) (o : Opening) → i < n → getD (rounds-of m claim) i 0 ≡ k + 1 → o ≡ opened (k + 1) (claim (getD sets i 0)) → o among m .openings
-  open-there claim i k o h e f = let c = claim (getD sets i 0) in let r = round-there claim i h in
+  open-there claim i k o h e f = let c = claim (getD sets i 0) in let r = round-here claim i h in
       ⊎-elim (λ p. absurd (omega (arith, p .1, r, e))) (λ j. subst (λ (x : Opening). x among m .openings) (ap (λ (q : ℕ). opened q c) (sym r ∙ e) ∙ sym f) j) (round-found c (m .openings))
 
   all-open : (rounds : ℕ) → all rounds part-of m .openings
@@ -172,7 +174,7 @@ module _ (m : Machine) (sets : List ℕ) (n : ℕ) (w : SetsIn (m .rows) sets n)
   module _ (d : Listed m) where
     -- the round of an opening stands at the place of its set
     place-round : (claim : ℕ → Claim) (o : Opening) (i : ℕ) → o among m .openings → i < n → o .claim ≡ claim (getD sets i 0) → getD (rounds-of m claim) i 0 ≡ o .round
-    place-round claim o i j h e = round-there claim i h ∙ ap (round-of (m .openings)) (sym e) ∙ round-is (m .openings) (d .once) o j
+    place-round claim o i j h e = round-here claim i h ∙ ap (round-of (m .openings)) (sym e) ∙ round-is (m .openings) (d .once) o j
 
     at-place-in : (o : Opening) (c : Claim) (i : ℕ) → o among m .openings → i < n → set-of c ≡ getD sets i 0 → o .claim ≡ c → o among there (o .round) i
     at-place-in o (loops P) i j h e f = let g = f ∙ ap loops e in

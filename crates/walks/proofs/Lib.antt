@@ -3,6 +3,7 @@ pub mod Layers
 pub mod Letters
 pub mod Choices
 pub mod Following
+pub mod Descending
 pub mod Standing
-pub mod Best
+pub mod Courses
 pub mod Answers

@@ -1,13 +1,18 @@
--- A walk as arrays, and what is promised of it.
+-- The walk of one or more steps inside a set that is sought, and how it goes down layers; a walk as arrays, and what is promised of it.
 use Prim.Native.Nat.{ℕ, zero, suc, _-_, _≤_, _<_}
 use mathlib.Core.Path.{_≡_}
 use mathlib.Core.Bool.{true, false}
-use mathlib.Core.Logic.{_⊎_}
+use mathlib.Core.Logic.{_⊎_, _≢_}
 use mathlib.Core.List.{List, [], _∷_}
 use lib.ListN.{length, getD}
+use Rattle.lists.specs.Tests.{_among_}
+use Rattle.masks.specs.Mask.{_∈_}
 use Rattle.rows.specs.declared.Row.{Row}
 use Rattle.rows.specs.Rows.{standing-sets}
-use Rattle.orderings.specs.Steps.{Claim, Label, Step}
+use Rattle.orderings.specs.Steps.{Claim, Label, Step, Walk, Leads, Inside}
+use Rattle.orderings.specs.Systems.{Allowed}
+use Rattle.orderings.specs.Timelines.{timelines}
+use Rattle.orderings.specs.Decide.{step}
 use Rattle.machine.specs.Order.{Found, Candidate, Best}
 use Rattle.machine.specs.WellFormed.{Table}
 use Rattle.search.specs.declared.Claims.{Claims}
@@ -18,6 +23,17 @@ use Rattle.row_table.specs.Arrays.{Keyed}
 use Rattle.walks.specs.declared.Choice.the-variants.{Taken, Nothing}
 use Rattle.walks.specs.declared.FoundWalk.{FoundWalk}
 use Rattle.walks.specs.Choices.{named, Chooses}
+
+-- a walk of one or more steps inside p, with the claims l, from a state of starts to one of ends
+abbrev pub Courses : List Row → List Claim → ℕ → ℕ → ℕ → Found → Type 0
+Courses rows l p starts ends f = (f .start ∈ starts) × ((b : ℕ) × (b ∈ ends) × Leads (f .start) (f .walk) b)
+    × Inside p (f .walk) × Allowed (timelines rows) (λ c. c among l) (f .walk) × (f .walk ≢ [])
+
+-- the walk goes down one layer at each of k steps from a, by the first step into it
+unfoldable pub Descends : (ℕ → Label → ℕ → Type 0) → Type 0 → List ℕ → ℕ → ℕ → Walk → Type 0
+Descends W Ordered layers a zero w = w ≡ []
+Descends W Ordered layers a (suc k) w = (kind : ℕ) × (value : ℕ) × (to : ℕ) × (v : Walk) × (w ≡ step a (named kind value) to ∷ v)
+    × Chooses (getD layers k 0) (W a) Ordered (Taken kind value to) × Descends W Ordered layers to k v
 
 -- the state before the step at place i: the start, or the target of the step before
 abbrev pub state-at : ℕ → List ℕ → ℕ → ℕ

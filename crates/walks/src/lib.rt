@@ -21,7 +21,7 @@ ghost use lib.ListN.{length};
 ghost use Rattle.masks.specs.Mask.{member, _∈_};
 ghost use Rattle.sorted_keys.specs.Keys.{Ascending};
 ghost use Rattle.search.specs.Graph.{graph-of};
-ghost use Rattle.walks.specs.Layers.{Ahead, Spread};
+ghost use Rattle.walks.specs.Layers.{Ahead, Lays};
 ghost use Rattle.walks.specs.Choices.{LetterAt, Way, RowsFrom, Picked, PickedPass, InOrder, Chooses};
 ghost use Rattle.walks.specs.Walks.{Bounded, Follows, FirstWalk};
 use masks::difference;
@@ -36,37 +36,40 @@ use rows::row_of;
 use sorted_keys::Place;
 use sorted_keys::find_key;
 
-// How many steps lead to the nearest final state, or that none do.
-enum Distance {
-    At(usize),
+// Where the shortest walk of one or more steps starts, the lowest such state, and how many steps it has; or that there is none.
+pub enum Course {
+    From(u8, usize),
     Nowhere,
 }
 
-// The states by their distance from the final ones, up to the first layer that has an initial one. `back` is the graph turned round.
-fn spread(
+// Writes the states of `p` by their distance from `ends` inside `p`, up to the first layer to which a step leads from one of `starts`.
+// `back` is the graph turned round.
+pub fn lay(
     back: &Masks,
     force: Claims,
-    initials: Set,
-    finals: Set,
-    layers: &mut [Set; STATES],
-) -> Distance
-    requires { ⌜ length (now layers) ≡ 64 ⌝ }
-    ensures { λ r. ⌜ Spread (Ahead (graph-of (now (back .entry))) force) initials finals (now (layers .exit)) r ⌝ }
+    p: Set,
+    starts: Set,
+    ends: Set,
+    layers: &mut [Set],
+) -> Course
+    requires { ⌜ 64 ≤ length (now layers) ⌝ }
+    ensures kept { λ _. ⌜ length (now (layers .exit)) ≡ length (now (layers .entry)) ⌝ }
+    ensures laid { λ r. ⌜ Lays (Ahead (graph-of (now (back .entry))) force p) starts ends (now (layers .exit)) r ⌝ }
 {
-    if finals == 0 {
-        return Distance::Nowhere;
-    }
     let mut k = 0;
-    let mut layer = finals;
-    let mut seen = finals;
-    layers[0] = finals;
+    let mut layer = ends;
+    let mut seen = ends;
+    layers[0] = ends;
     loop {
-        if intersection(layer, initials) != 0 {
-            return Distance::At(k);
+        let near = moves::targets(back, force, p, layer);
+        // Before what was seen is taken away: a start may be an end, and the walk still has a step.
+        let met = intersection(near, starts);
+        if met != 0 {
+            return Course::From(lowest(met), k + 1);
         }
-        let next = difference(moves::targets(back, force, !0u64, layer), seen);
+        let next = difference(near, seen);
         if next == 0 {
-            return Distance::Nowhere;
+            return Course::Nowhere;
         }
         seen = union(seen, next);
         k += 1;
@@ -76,7 +79,7 @@ fn spread(
 }
 
 // A step: its kind (0 letter, 1 omega, 2 back, 3 mix), its letter or set, and its target; or that there is none.
-enum Choice {
+pub enum Choice {
     Taken(u8, u64, u8),
     Nothing,
 }
@@ -168,7 +171,7 @@ fn first_pass(
 }
 
 // The first step from `a` into `layer`: by kind, then by letter or set, then by target. The graph is turned round, so its rights are the lefts.
-fn first_step(
+pub fn first_step(
     high: &[u64; MOST_ROWS],
     low: &[u64; MOST_ROWS],
     row_count: usize,
@@ -280,11 +283,14 @@ pub fn first_walk(
         initials finals r ⌝ }
 {
     let mut layers = [0u64; STATES];
-    match spread(back, force, initials, finals, &mut layers) {
-        Distance::At(d) => {
-            let start = lowest(intersection(layers[d], initials));
-            follow(high, low, row_count, back, force, &layers, start, d)
+    let both = intersection(initials, finals);
+    if both != 0 {
+        return follow(high, low, row_count, back, force, &layers, lowest(both), 0);
+    }
+    match lay(back, force, !0u64, initials, finals, &mut layers) {
+        Course::From(start, steps) => {
+            follow(high, low, row_count, back, force, &layers, start, steps)
         }
-        Distance::Nowhere => no_walk(),
+        Course::Nowhere => no_walk(),
     }
 }

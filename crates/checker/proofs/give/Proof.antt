@@ -4,10 +4,10 @@ use Rattle.checker.proofs.give.Statement.{statement}
 use Rattle.checker.proofs.give.Tie as tie
 
 returns : tie.Need-returns
-returns c = let f = c .before .before in rw (f .before .before .enum-told .given .1) (f .finish .ensures)
+returns c = let f = c .before .before in rw (f .before .before .before .asked .given .1) (f .finish .ensures)
 
 returns-2 : tie.Need-returns-2
-returns-2 c = let o = c .before in rw (o .enum-told2 .given .1) (c .judge .ensures (o .before .before .before .args .sheet .now))
+returns-2 c = let o = c .before in rw (o .enum-told .given .1) (c .judge .ensures (o .before .before .before .args .buffer .now))
 
 pub give-spec : {M : Type 1} → statement M
 give-spec =

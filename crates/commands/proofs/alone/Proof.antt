@@ -47,10 +47,14 @@ unfolding words
 returns-10 c = simp (c .match .keys10)
 
 returns-11 : tie.Need-returns-11
+unfolding words
+returns-11 c = simp (c .match .keys11)
+
+returns-12 : tie.Need-returns-12
 unfolding words Past
-returns-11 c = ap command-of (sym (past-words words (c .before .args .place) (at-least 10 (c .before .args .place) (c .match .rest))))
+returns-12 c = ap command-of (sym (past-words words (c .before .args .place) (at-least 11 (c .before .args .place) (c .match .rest))))
 
 pub alone-spec : {M : Type 1} → statement M
 alone-spec =
     tie.close
-    (tie.spec returns returns-2 returns-3 returns-4 returns-5 returns-6 returns-7 returns-8 returns-9 returns-10 returns-11)
+    (tie.spec returns returns-2 returns-3 returns-4 returns-5 returns-6 returns-7 returns-8 returns-9 returns-10 returns-11 returns-12)

@@ -1,4 +1,4 @@
--- `number` meets its contract: the number that goes on with what is left, cut at 6,400.
+-- `number` meets its contract: the number that goes on with what is left, cut at `most`.
 use Prim.Native.Nat.{_+_, _*_, _≤_, _-_}
 use mathlib.Core.Path.{_≡_, refl, ap, sym, _∙_}
 use lib.ListN.{length, getD, drop}
@@ -10,13 +10,13 @@ use Rattle.commands.proofs.number.Statement.{statement}
 use Rattle.commands.proofs.number.Tie as tie
 
 abbrev Inv-loop : tie.InvT-loop
-Inv-loop text n₀ i₀ n i = (i ≤ length text) × (n ≤ 6400) × (at-most (number-from 0 text) ≡ at-most (number-from n (drop i text)))
+Inv-loop text most n₀ i₀ n i = (i ≤ length text) × (most ≤ 1048576) × (n ≤ most) × (at-most most (number-from 0 text) ≡ at-most most (number-from n (drop i text)))
 
 abbrev μ-loop : tie.MeasureT-loop
-μ-loop text n₀ i₀ n i = length text - i
+μ-loop text most n₀ i₀ n i = length text - i
 
 loop-holds : tie.Need-loop-holds Inv-loop μ-loop
-loop-holds c = (omega arith, omega arith, refl)
+loop-holds c = (omega arith, omega arith, omega arith, refl)
 
 mul-at-most : tie.Need-mul-at-most Inv-loop μ-loop
 mul-at-most c = omega arith
@@ -47,17 +47,18 @@ loop-again c =
     let h = c .before .before .before .before in
     let a = h .before .before .args in
     let t = a .text .now in
-    let r : c .at-most .result ≡ at-most (h .loop .n * 10 + digit-value (getD t (h .loop .i) 0)) = c .at-most .ensures ∙ ap (λ v. at-most (h .loop .n * 10 + v)) (c .before .value .ensures) in (
+    let r : c .at-most .result ≡ at-most (a .most) (h .loop .n * 10 + digit-value (getD t (h .loop .i) 0)) = c .at-most .ensures ∙ ap (λ v. at-most (a .most) (h .loop .n * 10 + v)) (c .before .value .ensures) in (
       omega arith,
-      omega (arith, at-most-small (h .loop .n * 10 + digit-value (getD t (h .loop .i) 0))),
-      rw (add-one, r) (h .loop .inv .2 ∙ number-more (h .loop .n) t (h .loop .i) (omega arith)),
+      omega arith,
+      omega (arith, at-most-small (a .most) (h .loop .n * 10 + digit-value (getD t (h .loop .i) 0))),
+      rw (add-one, r) (h .loop .inv .3 ∙ number-more (a .most) (h .loop .n) t (h .loop .i) (omega arith)),
     )
 
 returns : tie.Need-returns Inv-loop μ-loop
 returns c =
     let h = c .before in
     let a = h .before .before .args in
-    sym (h .loop .inv .2 ∙ number-end (h .loop .n) (a .text .now) (h .loop .i) (omega arith) (omega arith))
+    sym (h .loop .inv .3 ∙ number-end (a .most) (h .loop .n) (a .text .now) (h .loop .i) (omega arith) (omega arith))
 
 pub number-spec : {M : Type 1} → statement M
 number-spec =

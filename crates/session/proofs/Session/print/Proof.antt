@@ -1,5 +1,5 @@
 -- `print` meets its contract, by the state of the session.
-use Rattle.machine.specs.Causes.{printing}
+use Rattle.machine.specs.Causes.{printing, to-print}
 use Rattle.machine.proofs.Phases.{open-refuses, running-refuses}
 use Rattle.session.proofs.Gate.{gate}
 use borrow.Author.Needs.{needs}
@@ -21,6 +21,6 @@ print-spec =
     (λ c κs. search gate)
     (λ c. search gate)
     (λ c. search (gate, open-refuses, printing))
-    (λ c. search (gate, running-refuses))
+    (λ c. search (gate, running-refuses, to-print))
     (λ c. search needs)
     (λ c. search needs))
