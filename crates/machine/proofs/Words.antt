@@ -1,5 +1,5 @@
--- Request C-12: expressions, computed: of the cases and of the request's sentences, one by one (`cases`, `letters`, `tours`, `rounds`, `pieces`, `nested`), and
--- the numbers that refuse one (`refusals`).
+-- Request C-12: expressions, computed: of the cases and of the request's sentences, one by one (`case-words`, `letters`, `tours`, `rounds`, `pieces`, `nested`), the
+-- numbers that refuse one (`refused-words`), and of batches (`batch-words`).
 use mathlib.Core.Path.{_≡_, refl}
 use mathlib.Core.List.{List, [], _∷_}
 use native.Mathlib.Decide.{ℕ-discrete}
@@ -7,14 +7,17 @@ use Rattle.masks.specs.Mask.{member}
 use Rattle.rows.specs.declared.Row.{Row}
 use Rattle.rows.specs.declared.Row.the-variants.{Initial, Final, Successor, LeftLimit, RightLimit}
 use Rattle.rows.specs.Rows.{row-bytes, standing-sets, same-row}
+use Rattle.rows.specs.Reading.{set-at, row-at, row-cause, read-row}
+use Rattle.rows.specs.Batch.{on-turn, on-read, feed-from, feed}
 use Rattle.orderings.specs.Steps.{members}
 use Rattle.orderings.specs.Decide.{reach, holds?, accepts?}
-use Rattle.machine.specs.Machine.{open-with, fresh, closed, opened-next, next-round}
+use Rattle.machine.specs.Machine.{open-with, fresh, load-row, closed, opened-next, next-round}
 use Rattle.machine.specs.Search.{walk-of, least, shortest}
 use Rattle.machine.specs.Text.{text, decimal}
 use Rattle.machine.specs.Word.{round-trip}
 use Rattle.machine.specs.Expression.{walk-by, least-by, nearest, piece, tour, earlier, part, expression-of}
 use Rattle.machine.specs.Calls.{close, expression, Outcome, wrote, refused, call-in, call, run, settle}
+use Rattle.machine.specs.Program.{after-load, batch-expression}
 
 -- what the call answers on rows that are settled
 abbrev word : List Row → Outcome
@@ -80,3 +83,13 @@ pub refused-words : (call fresh (expression 0) .answer ≡ refused 9 0)
     × (call (run (open-with (Initial 0 ∷ Final 1 ∷ Successor 0 7 0 ∷ LeftLimit 1 1 ∷ [])) settle) (expression 4) .answer ≡ wrote (text "(7)w"))
 unfolding ℕ-discrete member row-bytes standing-sets same-row members reach holds? accepts? closed opened-next next-round walk-of least shortest decimal walk-by least-by nearest piece round-trip tour earlier part expression-of call-in
 refused-words = (refl, refl, refl, refl, refl, refl, refl, refl)
+
+-- one batch: the exact buffer and one byte less, an empty verdict, a load that is refused, whatever the buffer
+pub batch-words : (batch-expression (1 ∷ 0 ∷ 2 ∷ 1 ∷ 3 ∷ 0 ∷ 7 ∷ 1 ∷ []) 1 ≡ wrote (text "7"))
+    × (batch-expression (1 ∷ 0 ∷ 2 ∷ 0 ∷ []) 0 ≡ refused 12 0)
+    × (batch-expression (1 ∷ 0 ∷ []) 99 ≡ refused 17 0)
+    × (batch-expression (1 ∷ 0 ∷ []) 0 ≡ refused 17 0)
+    × (batch-expression (1 ∷ 0 ∷ 0 ∷ []) 99 ≡ refused 2 2)
+    × (batch-expression (1 ∷ 0 ∷ 0 ∷ []) 0 ≡ refused 2 2)
+unfolding ℕ-discrete member row-bytes standing-sets same-row set-at row-at row-cause read-row on-turn on-read feed-from feed members reach holds? accepts? load-row closed opened-next next-round walk-of least shortest decimal walk-by least-by nearest piece round-trip tour earlier part expression-of call-in after-load
+batch-words = (refl, refl, refl, refl, refl, refl)
