@@ -18,38 +18,46 @@ enum Way {
     Library,
 }
 
-// What the library returns, as an answer.
-fn answer_of(code: u64, place: u64) -> Answer {
-    if code < REFUSAL {
-        return Answer::Wrote(code as usize);
-    }
-    Answer::Refused((code / REFUSAL % 256) as u8, place as usize)
+// What a call returns, as the library tells it.
+struct Returned {
+    code: u64,
+    place: u64,
 }
 
-fn ask_library(batch: &[u8], buffer: &mut [u8]) -> Answer {
+fn ask_checker(batch: &[u8], buffer: &mut [u8]) -> Returned {
+    match checker::expression(batch, buffer) {
+        Answer::Wrote(n) => Returned {
+            code: n as u64,
+            place: 0,
+        },
+        Answer::Refused(number, place) => Returned {
+            code: number as u64 * REFUSAL,
+            place: place as u64,
+        },
+        _ => Returned { code: 0, place: 0 },
+    }
+}
+
+fn ask_library(batch: &[u8], buffer: &mut [u8]) -> Returned {
     let mut place = 0u64;
     let code = ffi::gozhmerik_expression(batch, buffer, &mut place);
-    answer_of(code, place)
+    Returned { code, place }
 }
 
-fn ask(way: Way, batch: &[u8], buffer: &mut [u8]) -> Answer {
+fn ask(way: Way, batch: &[u8], buffer: &mut [u8]) -> Returned {
     match way {
-        Way::Checker => checker::expression(batch, buffer),
+        Way::Checker => ask_checker(batch, buffer),
         Way::Library => ask_library(batch, buffer),
     }
 }
 
-// No more than there is.
-fn at_most(length: usize) -> isize {
-    if length < ROOM {
-        length as isize
-    } else {
-        ROOM as isize
-    }
+// No buffer is longer.
+fn at_most(n: usize) -> isize {
+    if n < ROOM { n as isize } else { ROOM as isize }
 }
 
 // Asks with the first bytes of the buffer.
-fn lend(way: Way, batch: &[u8], length: usize, buffer: &mut [u8]) -> Answer {
+fn lend(way: Way, batch: &[u8], length: usize, buffer: &mut [u8]) -> Returned {
     let n = io::count(at_most(length), buffer);
     ask(way, batch, &mut buffer[..n])
 }
@@ -68,33 +76,26 @@ fn holds(buffer: &[u8], n: usize, text: &[u8]) -> bool {
 // Says whether a buffer of the length gets the text, or what is refused.
 fn writes(way: Way, batch: &[u8], text: &[u8], length: usize) -> bool {
     let mut buffer = [170u8; ROOM];
-    match lend(way, batch, length, &mut buffer) {
-        Answer::Wrote(n) => {
-            let is_same = holds(&buffer, n, text);
-            say_same(is_same);
-            is_same
-        }
-        Answer::Refused(number, place) => {
-            say_refused(number as u64, place as u64);
-            false
-        }
-        _ => false,
+    let returned = lend(way, batch, length, &mut buffer);
+    if returned.code >= REFUSAL {
+        say_refused(returned.code, returned.place);
+        return false;
     }
+    let is_same = holds(&buffer, returned.code as usize, text);
+    say_same(is_same);
+    is_same
 }
 
 // Says what is refused with a buffer of the length. Is it, and is the buffer as it was?
 fn refuses(way: Way, batch: &[u8], length: usize) -> bool {
     let mut buffer = [170u8; ROOM];
-    match lend(way, batch, length, &mut buffer) {
-        Answer::Refused(number, place) => {
-            say_refused(number as u64, place as u64);
-            is_untouched(&buffer)
-        }
-        _ => {
-            say(b"writes");
-            false
-        }
+    let returned = lend(way, batch, length, &mut buffer);
+    if returned.code < REFUSAL {
+        say(b"writes");
+        return false;
     }
+    say_refused(returned.code, returned.place);
+    is_untouched(&buffer)
 }
 
 fn tell_none(way: Way, batch: &[u8]) -> bool {

@@ -49,9 +49,9 @@ fn say_same(is_same: bool) {
 }
 
 // Says what is refused.
-fn say_refused(number: u64, place: u64) {
+fn say_refused(code: u64, place: u64) {
     say(b"refuses ");
-    say_number(number);
+    say_number(code / REFUSAL);
     say(b" at ");
     say_number(place);
 }
@@ -64,7 +64,7 @@ fn say_library(batch: &[u8], text: &[u8]) {
     if code < REFUSAL {
         return say_same(same(first(&out, code as usize), text));
     }
-    say_refused(code / REFUSAL, place);
+    say_refused(code, place);
 }
 
 // Does the text begin with the line of the verdict?
@@ -82,7 +82,7 @@ fn say_verdict(batch: &[u8], text: &[u8]) {
     if code < REFUSAL {
         return say_same(says(text, code));
     }
-    say_refused(code / REFUSAL, place);
+    say_refused(code, place);
 }
 
 // Says what becomes of a batch that is asked for its sheet, and whether the program writes the text.

@@ -51,8 +51,8 @@ fn express(
     rounds: Progress,
 ) -> Answer
     requires { ⌜ («row_count» ≤ 256) × («set_count» ≤ 64) × (rounds .rounds ≤ 129) ⌝ }
-    ensures { λ r. ⌜ TellsSettled Expression verdict (now (high .entry)) (now (low .entry)) «row_count» (now (sets .entry))
-        «set_count» (automaton-of (now (graph .entry)) initials finals) rounds
+    ensures { λ r. ⌜ TellsSettled Expression verdict (now (high .entry)) (now (low .entry)) «row_count»
+        (now (sets .entry)) «set_count» (automaton-of (now (graph .entry)) initials finals) rounds
         (now (buffer .entry)) (now (buffer .exit)) r ⌝ }
 {
     match verdict {
