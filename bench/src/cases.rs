@@ -3,7 +3,7 @@
 use crate::batches::{initial, last, left, letter, right, strike};
 use crate::compare;
 use crate::engine::{self, Call};
-use std::path::Path;
+use std::path::{Path, PathBuf};
 
 /// Each case: its rows and its sheet.
 pub fn cases() -> Vec<(&'static str, Vec<Vec<u8>>, &'static str)> {
@@ -79,6 +79,10 @@ fn expect_sheet(name: &str, batch: &[u8], sheet: &[u8]) {
     prints([("plain Rust", engine::plain), ("engine", engine::sheet)], name, batch, sheet);
 }
 
+fn expect_batch(name: &str, file: &[u8], batch: &[u8]) {
+    prints([("plain Rust", plain::hoa), ("engine", engine::hoa)], name, file, batch);
+}
+
 fn expect_expression(name: &str, batch: &[u8], expression: &[u8]) {
     prints([("plain Rust", plain::expression), ("engine", engine::expression)], name, batch, expression);
 }
@@ -96,36 +100,65 @@ fn expect(name: &str, batch: &[u8], sheet: &[u8]) {
     compare::expression(batch);
 }
 
-/// A batch of the repository, with what is beside it: a sheet, an expression or both.
+/// A batch of the repository, with what is beside it: a sheet, an expression or both; neither where it is that of an HOA
+/// file.
 pub struct Stored {
     pub name: String,
     pub batch: Vec<u8>,
     sheet: Option<Vec<u8>>,
     expression: Option<Vec<u8>>,
+    hoa: bool,
+}
+
+/// The files of a folder of the repository that end so, by name.
+fn paths(folder: &str, end: &str) -> Vec<PathBuf> {
+    let folder = Path::new(env!("CARGO_MANIFEST_DIR")).join("..").join(folder);
+    let entries = std::fs::read_dir(&folder).unwrap_or_else(|_| panic!("no folder {}", folder.display()));
+    let mut found: Vec<_> = entries.map(|entry| entry.unwrap().path()).collect();
+    found.retain(|path| path.extension().is_some_and(|found| found == end));
+    found.sort();
+    assert!(!found.is_empty(), "no {end} in {}", folder.display());
+    found
+}
+
+fn name(path: &Path) -> String {
+    path.file_stem().unwrap().to_string_lossy().into_owned()
 }
 
 /// The batches of a folder of the repository: each NAME.batch with NAME.sheet and NAME.expression, by name.
 fn stored(folder: &str) -> Vec<Stored> {
-    let folder = Path::new(env!("CARGO_MANIFEST_DIR")).join("..").join(folder);
     let mut found = vec![];
-    for entry in std::fs::read_dir(&folder).unwrap_or_else(|_| panic!("no folder {}", folder.display())) {
-        let path = entry.unwrap().path();
-        if path.extension().is_some_and(|end| end == "batch") {
-            let name = path.file_stem().unwrap().to_string_lossy().into_owned();
-            let sheet = std::fs::read(path.with_extension("sheet")).ok();
-            let expression = std::fs::read(path.with_extension("expression")).ok();
-            assert!(sheet.is_some() || expression.is_some(), "nothing beside the batch {name}");
-            found.push(Stored { name, batch: std::fs::read(&path).unwrap(), sheet, expression });
-        }
+    for path in paths(folder, "batch") {
+        let sheet = std::fs::read(path.with_extension("sheet")).ok();
+        let expression = std::fs::read(path.with_extension("expression")).ok();
+        let hoa = path.with_extension("hoa").exists();
+        assert!(sheet.is_some() || expression.is_some() || hoa, "nothing beside {}", path.display());
+        found.push(Stored { name: name(&path), batch: std::fs::read(&path).unwrap(), sheet, expression, hoa });
     }
-    found.sort_by(|one, other| one.name.cmp(&other.name));
-    assert!(!found.is_empty(), "no batches in {}", folder.display());
     found
 }
 
-/// Those of the vectors that have a sheet.
+/// The HOA files of a folder of the repository: each NAME.hoa, and the batch or the refusal beside it.
+fn hoa_files(folder: &str) -> Vec<(String, Vec<u8>, Vec<u8>)> {
+    let mut found = vec![];
+    for path in paths(folder, "hoa") {
+        let batch = std::fs::read(path.with_extension("batch"));
+        let answer = batch.or_else(|_| std::fs::read(path.with_extension("refusal")));
+        let answer = answer.unwrap_or_else(|_| panic!("nothing beside {}", path.display()));
+        found.push((name(&path), std::fs::read(&path).unwrap(), answer));
+    }
+    found
+}
+
+/// Those of the vectors that have a sheet, without the batches of HOA files.
 pub fn vectors() -> Vec<Stored> {
-    stored("crates/cases/data").into_iter().filter(|stored| stored.sheet.is_some()).collect()
+    stored("crates/cases/data").into_iter().filter(|stored| stored.sheet.is_some() && !stored.hoa).collect()
+}
+
+/// The HOA files among the vectors that have a batch.
+pub fn hoa_vectors() -> Vec<Vec<u8>> {
+    let accepted = |(_, file, answer): (String, Vec<u8>, Vec<u8>)| (!answer.starts_with(b"refused")).then_some(file);
+    hoa_files("crates/cases/data").into_iter().filter_map(accepted).collect()
 }
 
 /// Rows, sets and states at their limits and one beyond.
@@ -163,7 +196,7 @@ pub fn run() {
     limits();
     let (vectors, examples) = (stored("crates/cases/data"), stored("examples"));
     let mut expressions = 0;
-    for Stored { name, batch, sheet, expression } in vectors.iter().chain(&examples) {
+    for Stored { name, batch, sheet, expression, .. } in vectors.iter().chain(&examples) {
         // The program's limit on its input is not the library's.
         if let Some(sheet) = sheet.as_ref().filter(|sheet| *sheet != b"too long\n") {
             expect(name, batch, sheet);
@@ -174,9 +207,15 @@ pub fn run() {
             expressions += 1;
         }
     }
+    let files = [hoa_files("crates/cases/data"), hoa_files("examples")].concat();
+    for (name, file, answer) in &files {
+        expect_batch(name, file, answer);
+        compare::file(file);
+    }
     println!(
-        "cases A to K, the limits, {} vectors, {} examples, {expressions} expressions of these: as they must be",
+        "cases A to K, the limits, {} vectors, {} examples, {expressions} expressions of these, {} HOA files: as they must be",
         vectors.len(),
-        examples.len()
+        examples.len(),
+        files.len()
     );
 }

@@ -1,9 +1,11 @@
 //! Every answer of the engine against plain Rust: return value, place, and the whole buffer; and its verdict against the sheet's.
+//! Of HOA files also the verdict on their batches against a search of the automaton.
 
 use crate::batches::{any, told, Random};
 use crate::engine::{self, Call};
+use crate::files::{spoilt, Automaton};
 
-/// Bytes that no sheet and no expression has, so that a byte written too much is seen.
+/// Bytes that no sheet, no expression and no batch of an HOA file has, so that a byte written too much is seen.
 fn filled(random: &mut Random, length: usize) -> Vec<u8> {
     let first = 128 + random.below(100) as u8;
     (0..length).map(|at| first + (at % 27) as u8).collect()
@@ -48,7 +50,7 @@ fn same(plain: Call, engine: Call, batch: &[u8], buffer: &[u8], place: u64) -> u
 }
 
 fn stop(batch: &[u8], plain: &Answer, engine: &Answer) -> ! {
-    println!("difference on a batch of {} bytes, buffer of {}:\n{}", batch.len(), plain.2.len(), hex(batch));
+    println!("difference on {} bytes, buffer of {}:\n{}", batch.len(), plain.2.len(), hex(batch));
     for (who, (value, place, buffer)) in [("plain Rust", plain), ("engine", engine)] {
         println!("{who}: refusal {}, length {}, place {place}", value >> 32, *value as u32);
         println!("{}", String::from_utf8_lossy(&buffer[..buffer.len().min(*value as u32 as usize)]));
@@ -74,10 +76,11 @@ impl Refusals {
     }
 }
 
-/// Sheets, verdicts and expressions of so many batches each.
+/// Sheets, verdicts and expressions of so many batches each, and the batches of so many HOA files.
 pub fn run(seed: u64, count: usize) {
     sheets(&mut Random(seed), count);
     expressions(&mut Random(seed), count);
+    files(&mut Random(seed), count);
 }
 
 fn sheets(random: &mut Random, count: usize) {
@@ -148,4 +151,58 @@ pub fn expression(batch: &[u8]) {
     for length in lengths(value) {
         same_expression(random, batch, length);
     }
+}
+
+/// Half of the files as they must be, half damaged.
+fn files(random: &mut Random, count: usize) {
+    let seed = random.0;
+    let mut refusals = Refusals([0; 32]);
+    let (mut bytes, mut nonempty, mut short) = (0, 0, 0);
+    for _ in 0..count {
+        let automaton = Automaton::random(random);
+        let file = match random.below(2) {
+            0 => automaton.text(),
+            _ => spoilt(random, &automaton),
+        };
+        let mut batch = [0; plain::LONGEST_HOA_BATCH];
+        let value = plain::hoa(&file, &mut batch, &mut 0);
+        short += same_batch(random, &file, value);
+        refusals.count(value);
+        bytes += file.len();
+        if file == automaton.text() {
+            let verdict = engine::verdict(&batch[..value as usize], &mut [], &mut 0);
+            assert!(verdict == automaton.accepts() as u64, "verdict {verdict} on\n{}", String::from_utf8_lossy(&file));
+            nonempty += verdict;
+        }
+    }
+    println!(
+        "HOA files compared on {count} from seed {seed}, {bytes} bytes: no difference; {} batches, {short} buffers too short; {nonempty} verdicts are non-empty",
+        refusals.0[0]
+    );
+    refusals.print();
+}
+
+/// Compares the batch of one file in buffers that have room, exactly or more, and, if it has one, in shorter ones; the
+/// value is the answer where there is room. How many were too short.
+fn same_batch(random: &mut Random, file: &[u8], value: u64) -> usize {
+    let exact = value as u32 as usize;
+    let mut lengths = vec![0, exact, plain::LONGEST_HOA_BATCH, exact + 1 + random.below(900) as usize];
+    if exact > 0 {
+        lengths.extend([exact - 1, random.below(exact as u64) as usize]);
+    }
+    let mut short = 0;
+    for length in lengths {
+        let buffer = filled(random, length);
+        let got = same(plain::hoa, engine::hoa, file, &buffer, random.next());
+        let fits = length >= exact;
+        assert!(got == if fits { value } else { 12 << 32 }, "value {got} in {length} bytes");
+        short += !fits as usize;
+    }
+    short
+}
+
+/// Compares the batch of one file in all buffers.
+pub fn file(file: &[u8]) {
+    let value = plain::hoa(file, &mut [0; plain::LONGEST_HOA_BATCH], &mut 0);
+    same_batch(&mut Random(file.len() as u64), file, value);
 }

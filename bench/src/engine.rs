@@ -7,6 +7,7 @@ extern "C" {
     fn gozhmerik_verdict(batch: *const u8, batch_len: usize, place: *mut u64) -> u64;
     fn gozhmerik_expression(batch: *const u8, batch_len: usize, text: *mut u8, text_len: usize, place: *mut u64)
         -> u64;
+    fn gozhmerik_hoa(file: *const u8, file_len: usize, batch: *mut u8, batch_len: usize, place: *mut u64) -> u64;
 }
 
 /// Whether the archive is linked.
@@ -49,6 +50,18 @@ pub fn expression(batch: &[u8], text: &mut [u8], place: &mut u64) -> u64 {
 #[cfg(not(engine))]
 pub fn expression(batch: &[u8], text: &mut [u8], place: &mut u64) -> u64 {
     plain::expression(batch, text, place)
+}
+
+/// The length of the batch of an HOA file, or the refusal's number times 2^32 with its place in `place`.
+#[cfg(engine)]
+#[inline]
+pub fn hoa(file: &[u8], batch: &mut [u8], place: &mut u64) -> u64 {
+    unsafe { gozhmerik_hoa(file.as_ptr(), file.len(), batch.as_mut_ptr(), batch.len(), place) }
+}
+
+#[cfg(not(engine))]
+pub fn hoa(file: &[u8], batch: &mut [u8], place: &mut u64) -> u64 {
+    plain::hoa(file, batch, place)
 }
 
 /// What the verdict must be: the first line of plain Rust's sheet, or its refusal.

@@ -5,6 +5,7 @@ mod batches;
 mod cases;
 mod compare;
 mod engine;
+mod files;
 mod timing;
 
 fn main() {
@@ -20,4 +21,5 @@ fn main() {
     }
     timing::families();
     timing::growth();
+    timing::files();
 }

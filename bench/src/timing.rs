@@ -1,10 +1,11 @@
-//! The time of each family for the engine, for plain Rust and for the engine's verdict alone, and the time of its expressions, taken in turns; the
-//! best of many repetitions counts.
+//! The time of each family for the engine, for plain Rust and for the engine's verdict alone, the time of its expressions, and that of HOA files,
+//! taken in turns; the best of many repetitions counts.
 
 use crate::batches::{
     automaton, far, grown, initial, ladder, last, left, letter, nested_sets, repeated, right, Random,
 };
 use crate::engine::{self, Call};
+use crate::files::Automaton;
 use crate::{cases, compare};
 use std::hint::black_box;
 use std::time::{Duration, Instant};
@@ -65,10 +66,10 @@ fn span(all: Vec<u64>) -> Option<String> {
     }
 }
 
-/// The lengths of the expressions of a family, or how they are refused.
-fn expressions(batches: &[Vec<u8>], room: usize) -> String {
+/// The lengths of what a call writes for a family, or how all are refused.
+fn lengths(call: Call, batches: &[Vec<u8>], room: usize) -> String {
     let mut text = vec![0; room];
-    let values: Vec<u64> = batches.iter().map(|batch| plain::expression(batch, &mut text, &mut 0)).collect();
+    let values: Vec<u64> = batches.iter().map(|batch| call(batch, &mut text, &mut 0)).collect();
     let lengths = span(values.iter().copied().filter(|value| value >> 32 == 0).collect());
     lengths.unwrap_or_else(|| format!("refused {}", span(values.iter().map(|value| value >> 32).collect()).unwrap()))
 }
@@ -110,10 +111,24 @@ fn head(title: &str) {
     );
 }
 
+fn text_head(title: &str, written: &str) {
+    println!("\n{title:<34} {:>7} {written:>16} {:>12} {:>12} {:>8}", "bytes", "engine ns", "plain ns", "ratio");
+}
+
 fn expression_line(name: &str, batches: &[Vec<u8>], room: usize) {
     batches.iter().for_each(|batch| compare::expression(batch));
-    let (plain, [engine]) = times(plain::expression, [engine::expression], batches, room);
-    print!("{name:<34} {:>7} {:>16}", bytes(batches), expressions(batches, room));
+    text_line(name, plain::expression, engine::expression, batches, room);
+}
+
+fn file_line(name: &str, files: &[Vec<u8>]) {
+    files.iter().for_each(|file| compare::file(file));
+    text_line(name, plain::hoa, engine::hoa, files, plain::LONGEST_HOA_BATCH);
+}
+
+/// A line for calls that write one text.
+fn text_line(name: &str, plain: Call, engine: Call, batches: &[Vec<u8>], room: usize) {
+    print!("{name:<34} {:>7} {:>16}", bytes(batches), lengths(plain, batches, room));
+    let (plain, [engine]) = times(plain, [engine], batches, room);
     match engine::THERE {
         true => println!(" {engine:>12.0} {plain:>12.0} {:>8.2}", engine / plain),
         false => println!(" {:>12} {plain:>12.0} {:>8}", "-", "-"),
@@ -128,10 +143,7 @@ pub fn families() {
     all.extend(long(random));
     head("family (time of one batch)");
     all.iter().for_each(|Family { name, batches }| line(name, batches));
-    println!(
-        "\n{:<34} {:>7} {:>16} {:>12} {:>12} {:>8}",
-        "expressions", "bytes", "bytes of text", "engine ns", "plain ns", "ratio"
-    );
+    text_head("expressions", "bytes of text");
     all.iter().for_each(|Family { name, batches }| expression_line(name, batches, plain::LONGEST_SHEET));
     let told = |batch: &Vec<u8>| plain::expression(batch, &mut [0; plain::LONGEST_SHEET], &mut 0) >> 32 == 0;
     let grown: Vec<_> = (0..).map(|_| grown(random).concat()).filter(told).take(64).collect();
@@ -222,4 +234,19 @@ pub fn growth() {
         rows.extend((0..64 - rungs as u8).map(|at| left(1 << at | 1 << ((at + 1) % 64), at)));
         line(&format!("{rungs} rungs"), &[rows.concat()]);
     }
+}
+
+/// HOA files to their batches.
+pub fn files() {
+    let random = &mut Random(21);
+    text_head("HOA files (time of one)", "bytes of batch");
+    let small = Automaton { states: 2, start: 0, marked: vec![false, true], edges: vec![vec![0, 1], vec![0]] };
+    file_line("2 states, 3 edges", &[small.text()]);
+    file_line("6 states, 36 edges", &[Automaton::full(random, 3, 6).text()]);
+    file_line("6 states, 10,896 lines of edges", &[Automaton::full(random, 3, 1816).text()]);
+    file_line("6 states, 174,762 lines of edges", &[Automaton::full(random, 3, 29_127).text()]);
+    let digits = format!("HOA: v1\nStates: {}\n", "9".repeat(65_519));
+    file_line("a number of 65,519 digits", &[digits.into_bytes()]);
+    file_line("the vectors that have a batch", &cases::hoa_vectors());
+    file_line("random", &(0..256).map(|_| Automaton::random(random).text()).collect::<Vec<_>>());
 }

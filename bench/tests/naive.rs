@@ -6,6 +6,11 @@
 mod batches;
 #[path = "naive/expressions.rs"]
 mod expressions;
+#[allow(dead_code)]
+#[path = "../src/files.rs"]
+mod files;
+#[path = "naive/hoa.rs"]
+mod hoa;
 
 use std::collections::{BTreeMap, BTreeSet};
 
@@ -332,4 +337,89 @@ fn expressions_of_the_vectors() {
         }
     }
     println!("vectors: {seen:?}");
+}
+
+/// Plain Rust on an HOA file in a buffer of this length, as `told`.
+fn converted(file: &[u8], length: usize) -> (u64, u64, Vec<u8>) {
+    let mut batch = vec![255; length];
+    let mut place = 99;
+    let value = plain::hoa(file, &mut batch, &mut place);
+    (value, place, batch)
+}
+
+/// The answers that plain Rust must give to an HOA file, in buffers of several lengths.
+fn expect_batch(file: &[u8], want: &Result<Vec<u8>, (u8, usize)>) {
+    let on = String::from_utf8_lossy(file);
+    for length in [0, 1, 778, 1000].into_iter().chain(want.iter().flat_map(|batch| [batch.len() - 1, batch.len()])) {
+        let refused = |number: u8, at: usize| ((number as u64) << 32, at as u64, vec![255; length]);
+        let expected = match want {
+            Err((number, at)) => refused(*number, *at),
+            Ok(batch) if length < batch.len() => refused(12, 0),
+            Ok(batch) => {
+                let mut bytes = batch.clone();
+                bytes.resize(length, 255);
+                (batch.len() as u64, 99, bytes)
+            }
+        };
+        assert_eq!(converted(file, length), expected, "on\n{on}");
+    }
+}
+
+/// The batch of each file, and what its sheet says of the automaton: by the definition, by plain Rust, and by a search of the file's edges.
+#[test]
+fn files_are_the_definition() {
+    let mut random = batches::Random(21);
+    let (mut refused, mut nonempty, mut empty) = ([0; 2], 0, 0);
+    for at in 0..count() {
+        let automaton = files::Automaton::random(&mut random);
+        let file = if at % 2 == 0 { automaton.text() } else { files::spoilt(&mut random, &automaton) };
+        let told = hoa::read(&file);
+        let want = told.as_ref().map(|told| hoa::batch(&told.rows())).map_err(|refusal| *refusal);
+        expect_batch(&file, &want);
+        assert!(at % 2 == 1 || want.is_ok(), "refused {file:02x?}");
+        let (told, batch) = match (told, want) {
+            (Ok(told), Ok(batch)) => (told, batch),
+            (Err((number, _)), _) | (_, Err((number, _))) => {
+                refused[number as usize - 20] += 1;
+                continue;
+            }
+        };
+        let rows = load(&batch).expect("a batch that loads");
+        assert_eq!(hoa::batch(&rows), batch, "rows twice or not in order");
+        let cycle = told.marked_cycle();
+        let mut text = [0; plain::LONGEST_SHEET];
+        let length = plain::plain_sheet(&batch, &mut text).expect("a sheet");
+        assert_eq!(text[..length].starts_with(b"verdict nonempty"), cycle, "on {batch:02x?}");
+        assert_eq!(settle(&rows, true).walk.is_some(), cycle, "on {batch:02x?}");
+        assert!(at % 2 == 1 || automaton.accepts() == cycle, "on {batch:02x?}");
+        *if cycle { &mut nonempty } else { &mut empty } += 1;
+    }
+    println!(
+        "{} files: {nonempty} non-empty, {empty} empty, {} refused as 20, {} as 21",
+        count(),
+        refused[0],
+        refused[1]
+    );
+}
+
+/// Those of the vectors, by the definition.
+#[test]
+fn files_of_the_vectors() {
+    let folder = concat!(env!("CARGO_MANIFEST_DIR"), "/../crates/cases/data");
+    let mut count = 0;
+    for entry in std::fs::read_dir(folder).unwrap() {
+        let path = entry.unwrap().path();
+        if path.extension().is_some_and(|end| end == "hoa") {
+            let file = std::fs::read(&path).unwrap();
+            let want = hoa::read(&file).map(|told| hoa::batch(&told.rows()));
+            expect_batch(&file, &want);
+            let (end, answer) = match want {
+                Ok(batch) => ("batch", batch),
+                Err((number, at)) => ("refusal", format!("refused {number} at {at}\n").into_bytes()),
+            };
+            assert_eq!(std::fs::read(path.with_extension(end)).ok(), Some(answer), "{}", path.display());
+            count += 1;
+        }
+    }
+    println!("{count} vectors");
 }

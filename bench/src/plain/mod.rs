@@ -1,6 +1,7 @@
 //! A plain, unproved implementation of document 01, written for speed: the yardstick of the proved engine.
 
 mod expression;
+mod hoa;
 mod load;
 mod print;
 mod search;
@@ -17,6 +18,9 @@ use std::cell::RefCell;
 
 /// No sheet is longer (document 01, "The sheet").
 pub const LONGEST_SHEET: usize = 6400;
+
+/// No batch of an HOA file is longer: 36 edges and 63 sets.
+pub const LONGEST_HOA_BATCH: usize = 778;
 
 /// A refusal: its number and its place.
 pub type Refusal = (u8, usize);
@@ -56,7 +60,18 @@ pub fn plain_sheet(batch: &[u8], out: &mut [u8]) -> Result<usize, Refusal> {
 /// Settles the batch likewise and writes the walk of its sheet as an expression (request C-12); the length of the text,
 /// or the refusal's number times 2^32 with its place in `place`, which leaves `text` as it was.
 pub fn expression(batch: &[u8], text: &mut [u8], place: &mut u64) -> u64 {
-    match told(batch, text) {
+    code(told(batch, text), place)
+}
+
+/// The rows of the automaton in an HOA file as a batch (request C-21), with the same conventions.
+pub fn hoa(file: &[u8], batch: &mut [u8], place: &mut u64) -> u64 {
+    code(hoa::convert(file, batch), place)
+}
+
+/// An answer as the library gives it.
+#[inline(always)]
+fn code(answer: Result<usize, Refusal>, place: &mut u64) -> u64 {
+    match answer {
         Ok(length) => length as u64,
         Err((number, at)) => {
             *place = at as u64;

@@ -85,7 +85,7 @@ record-after : (es : List (Exchange MarkedCall Reply)) (x : Marked) (s : Session
 record-after [] x s h t = h
 record-after (e ∷ es) x s h t = record-after es (marked-call x (e .asked) .machine) (e .reply .session) (step (record { record-is = h; served = t .0 })) (t .1)
 
-handed-is : (cs : List MarkedCall) (s : Session) → HandedBack cs s → Represents (marked-run fresh-marked cs) s
+pub handed-is : (cs : List MarkedCall) (s : Session) → HandedBack cs s → Represents (marked-run fresh-marked cs) s
 handed-is cs s h = subst (λ (x : List MarkedCall). Represents (marked-run fresh-marked x) s) (h .asked-are)
     (subst (λ (t : Session). Represents (plain-after (h .exchanges)) t) (h .last) (record-after (h .exchanges) fresh-marked (record-of fresh-marked) (fresh-is (record-of fresh-marked) refl) (h .trace)))
 
@@ -94,7 +94,7 @@ map-rounds : (k : ℕ) → map on (replicate k round) ≡ replicate k (on round)
 map-rounds zero = refl
 map-rounds (suc k) = ap (λ (l : List MarkedCall). on round ∷ l) (map-rounds k)
 
-on-rounds : (x : Marked) (cs : List Call) (k : ℕ) → marked-run x (map on cs ++ replicate k (on round)) .now ≡ run (x .now) (cs ++ replicate k round)
+pub on-rounds : (x : Marked) (cs : List Call) (k : ℕ) → marked-run x (map on cs ++ replicate k (on round)) .now ≡ run (x .now) (cs ++ replicate k round)
 on-rounds x cs k = ap (λ (l : List MarkedCall). marked-run x l .now) (ap (λ (l : List MarkedCall). map on cs ++ l) (sym (map-rounds k)) ∙ sym (map-append on cs (replicate k round)))
     ∙ ap (λ (y : Marked). y .now) (run-on x (cs ++ replicate k round))
 

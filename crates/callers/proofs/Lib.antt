@@ -2,3 +2,4 @@
 pub mod Handed
 pub mod Variants
 pub mod Expressions
+pub mod Files

@@ -1,6 +1,7 @@
 -- What a caller that makes a list of calls comes to.
 use Prim.Native.Nat.{ℕ, _≤_, _<_}
 use mathlib.Core.Path.{_≡_}
+use mathlib.Core.Logic.{_↔_}
 use mathlib.Core.Option.{some}
 use mathlib.Core.List.{List, [], _∷_, _++_, map}
 use lib.ListN.{length, take, replicate}
@@ -17,12 +18,17 @@ use Rattle.machine.specs.Calls.{load, close, round, reopen, verdict, print, exp
 use Rattle.machine.specs.Causes.{NotOpen}
 use Rattle.machine.specs.Marks.{unmarked, fresh-marked, MarkedCall, on, mark, return-to}
 use Rattle.machine.specs.Statements.{after-calls}
+use Rattle.hoa_files.specs.Automata.{Buchi}
+use Rattle.hoa_files.specs.Files.{IsFileOf}
+use Rattle.hoa_files.specs.Cycles.{MarkedCycle}
+use Rattle.hoa_files.specs.Promise.{Converts}
 use Rattle.session.specs.declared.Session.{Session}
 use Rattle.session.specs.declared.Reply.{Reply}
 use Rattle.session.specs.Record.{record-of}
 use Rattle.session.specs.Standing.{reply, with-marks}
 use Rattle.callers.specs.declared.Added.{Added}
 use Rattle.callers.specs.declared.Expressed.{Expressed}
+use Rattle.callers.specs.declared.FileSettled.{FileSettled}
 use Rattle.callers.specs.declared.TwoVerdicts.{TwoVerdicts}
 use Rattle.callers.specs.declared.Refusals.{Refusals}
 use Rattle.callers.specs.declared.Tried.{Tried}
@@ -135,6 +141,21 @@ pub record SavedAgain (batch old new : List ℕ) (r : Reply) : Type 0 where
       × (r .answer ≡ Done) × (r .session ≡ record-of (unmarked (open-with (after-calls (on (load batch) ∷ []) .rows))))
   -- a buffer too short for them is refused, and stays as it was
   pub short : length old < length (saved (after-calls (on (load batch) ∷ []))) → (r .answer ≡ Refused 12 0) × (new ≡ old)
+
+-- the rows of an automaton's file are loaded into a fresh session, which is closed and does rounds: request C-21 at it
+pub record FileWorked (h : Buchi) (batch : List ℕ) (s : Session) : Type 0 where
+  pub count : ℕ
+  pub few : count ≤ 129
+  pub handed : HandedBack (worked batch count) s
+  -- it is settled, as non-empty exactly when a marked state that the start reaches lies on a cycle
+  pub settles-with : Verdict
+  pub settled : s .phase ≡ Settled settles-with
+  pub non-empty : (s .phase ≡ Settled NonEmpty) ↔ MarkedCycle h
+
+-- a file is converted, and what was written is loaded
+pub record SettlesFile (file old new : List ℕ) (r : FileSettled) : Type 0 where
+  pub converts : Converts file old new (r .converted)
+  pub worked-so : (h : Buchi) (n : ℕ) → IsFileOf file h → r .converted ≡ Wrote n → FileWorked h (take n new) (r .session)
 
 -- after any calls a mark, a load that is disliked, and a return: request C-11 at them
 pub record TriedVariant (cs : List MarkedCall) (s : Session) (name batch : List ℕ) (r : Tried) : Type 0 where

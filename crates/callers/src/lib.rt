@@ -4,6 +4,7 @@ pub mod sequences;
 
 use machine::Answer;
 use session::Reply;
+use session::Session;
 
 // What the prints of `sequences::add_late` answered, and the session then.
 pub struct Added {
@@ -15,6 +16,12 @@ pub struct Added {
 pub struct Expressed {
     pub printed: Answer,
     pub told: Reply,
+}
+
+// What the conversion of `sequences::settle_file` answered, and the session with the rows of the file, settled; a fresh one where it was refused.
+pub struct FileSettled {
+    pub converted: Answer,
+    pub session: Session,
 }
 
 // What the calls of `sequences::refused_first` answered.

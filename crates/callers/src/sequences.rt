@@ -1,6 +1,7 @@
 // Lists of calls, made by a caller: what is promised are the demands at them.
 use crate::Added;
 use crate::Expressed;
+use crate::FileSettled;
 use crate::Refusals;
 use crate::Tried;
 use crate::TwoVerdicts;
@@ -22,8 +23,8 @@ use session::Session;
 ghost use mathlib.Core.List.{[], _∷_};
 ghost use Rattle.machine.specs.Calls.{load, close};
 ghost use Rattle.machine.specs.Marks.{on};
-ghost use Rattle.callers.specs.Handed.{HandedBack, FirstCall, RoundsOn, DoesRounds, PrintedAfter, ExpressedAfter};
-ghost use Rattle.callers.specs.Handed.{AddsLate, RefusedFirst, VerdictFirst, SavedAgain, TriesVariant};
+ghost use Rattle.callers.specs.Handed.{HandedBack, FirstCall, RoundsOn, DoesRounds, RoundsAfter, PrintedAfter, ExpressedAfter};
+ghost use Rattle.callers.specs.Handed.{AddsLate, RefusedFirst, VerdictFirst, SavedAgain, SettlesFile, TriesVariant};
 
 // Load into a fresh session.
 fn loaded(batch: &[u8]) -> Reply
@@ -70,12 +71,19 @@ fn rounds_until(session: Session) -> Session
     s
 }
 
+// Load, close, rounds until one is refused.
+fn settled(batch: &[u8]) -> Session
+    ensures { λ r. ⌜ RoundsAfter (on (load (now (batch .entry))) ∷ on close ∷ []) r ⌝ }
+{
+    let r = closed(batch);
+    rounds_until(r.session)
+}
+
 // Load, close, rounds until one is refused, print.
 pub fn print_settled(batch: &[u8], buffer: &mut [u8]) -> Reply
     ensures { λ r. ⌜ PrintedAfter (now (batch .entry)) (now (buffer .entry)) (now (buffer .exit)) r ⌝ }
 {
-    let r = closed(batch);
-    let s = rounds_until(r.session);
+    let s = settled(batch);
     call_print(s, buffer)
 }
 
@@ -148,6 +156,20 @@ pub fn save_again(batch: &[u8], buffer: &mut [u8]) -> Reply
         Answer::Decided(_) => kept,
         Answer::Refused(_, _) => kept,
     }
+}
+
+// The rows of a file, loaded into a fresh session; close, and rounds until one is refused.
+pub fn settle_file(file: &[u8], batch: &mut [u8]) -> FileSettled
+    ensures { λ r. ⌜ SettlesFile (now (file .entry)) (now (batch .entry)) (now (batch .exit)) r ⌝ }
+{
+    let converted = hoa_files::convert(file, batch);
+    let session = match converted {
+        Answer::Done => call_fresh(),
+        Answer::Wrote(n) => settled(&batch[..n]),
+        Answer::Decided(_) => call_fresh(),
+        Answer::Refused(_, _) => call_fresh(),
+    };
+    FileSettled { converted, session }
 }
 
 // A mark, rows that are loaded and then disliked, and a return.

@@ -1,7 +1,10 @@
 // Runs the checker and the functions of the library on stored batches, and compares each sheet with the stored one, byte by byte, and each
-// verdict with its first line; and each expression with the stored one.
-// Its arguments are pairs of file names: a batch, and the sheet that it must give, or the expression.
+// verdict with its first line; and each expression with the stored one. The same for stored HOA files and their batches or refusals.
+// Its arguments are pairs of file names: a batch, and the sheet that it must give, or the expression; or an HOA file, and the batch or the
+// line of the refusal.
+mod asking;
 mod expressions;
+mod files;
 
 use machine::LONGEST_SHEET;
 use program_output::beyond;
@@ -14,6 +17,14 @@ ghost use Rattle.io.specs.Counts.{Counts};
 
 // What the number of a refusal is multiplied by.
 const REFUSAL: u64 = 4294967296;
+
+// What the second file of a pair holds.
+enum Stored {
+    Sheet,
+    Expression,
+    Batch,
+    Refusal,
+}
 
 // Opens the file that an argument names, and writes its name out.
 fn open_named(index: usize) -> i32 {
@@ -106,33 +117,49 @@ fn ends_in(index: usize, text: &[u8]) -> bool {
     same(beyond(&path[..length], length - text.len()), text)
 }
 
-// Says what becomes of a batch, and whether it is the text.
-fn tell(batch: &[u8], text: &[u8], is_expression: bool) -> bool {
-    if is_expression {
-        return expressions::tell(batch, text);
+// What the file holds that an argument names, by the end of its name.
+fn kind_of(index: usize) -> Stored {
+    if ends_in(index, b".expression") {
+        return Stored::Expression;
     }
-    tell_sheet(batch, text)
+    if ends_in(index, b".batch") {
+        return Stored::Batch;
+    }
+    if ends_in(index, b".refusal") {
+        return Stored::Refusal;
+    }
+    Stored::Sheet
 }
 
-// Does the batch in one file give the text in the other? Files that cannot be read give nothing.
-fn gives(batch_file: i32, text_file: i32, is_expression: bool) -> bool {
-    if batch_file < 0 || text_file < 0 {
+// Says what becomes of an input, and whether it is the text.
+fn tell(input: &[u8], text: &[u8], stored: Stored) -> bool {
+    match stored {
+        Stored::Sheet => tell_sheet(input, text),
+        Stored::Expression => expressions::tell(input, text),
+        Stored::Batch => files::tell(input, text, false),
+        Stored::Refusal => files::tell(input, text, true),
+    }
+}
+
+// Does the input in one file give the text in the other? Files that cannot be read give nothing.
+fn gives(input_file: i32, text_file: i32, stored: Stored) -> bool {
+    if input_file < 0 || text_file < 0 {
         return false;
     }
-    let mut batch = [0u8; 65538];
-    let n = read_file(batch_file, &mut batch);
+    let mut input = [0u8; 65538];
+    let n = read_file(input_file, &mut input);
     let mut text = [0u8; 16384];
     let k = read_file(text_file, &mut text);
-    tell(&batch[..n], &text[..k], is_expression)
+    tell(&input[..n], &text[..k], stored)
 }
 
 // Runs one case, says how it went, and counts it where it went wrong.
-fn run_case(batch_index: usize, text_index: usize) -> u64
+fn run_case(input_index: usize, text_index: usize) -> u64
     ensures { λ r. ⌜ r ≤ 1 ⌝ }
 {
-    let batch_file = open_named(batch_index);
+    let input_file = open_named(input_index);
     let text_file = open_named(text_index);
-    let is_given = gives(batch_file, text_file, ends_in(text_index, b".expression"));
+    let is_given = gives(input_file, text_file, kind_of(text_index));
     say(b"\n");
     if is_given { 0 } else { 1 }
 }

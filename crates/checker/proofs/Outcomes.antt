@@ -1,9 +1,9 @@
 -- What a fresh machine comes to after one batch, by the answer of its load.
-use Prim.Native.Nat.{ℕ, _+_, _^_, _<_, _≤_}
+use Prim.Native.Nat.{ℕ, _<_, _≤_}
 use mathlib.Core.Path.{_≡_, refl, ap, sym, _∙_, subst}
 use mathlib.Core.Bool.{Bool, true, false}
 use mathlib.Core.List.{List, [], _++_}
-use lib.ListN.{length, drop, replicate, length-append}
+use lib.ListN.{length, drop, replicate}
 use native.Mathlib.Omega.{arith}
 use Rattle.lists.specs.Writing.{Wrote}
 use Rattle.lists.proofs.Deciding.{not-so, ltb·}
@@ -23,7 +23,6 @@ use Rattle.machine.proofs.Answers.{done-by, wrote-by, decided-by, refused-by, t
 use Rattle.machine.proofs.Outcomes.{deciding}
 use Rattle.machine.proofs.Phases.{load-feeds}
 use Rattle.machine.proofs.Program.{outcome-size}
-use Rattle.texts.proofs.Digits.{number-short}
 use Rattle.row_table.specs.Arrays.{Filed, Comes}
 use Rattle.checker.specs.declared.Asked.the-variants.{Verdict as AskedVerdict}
 use Rattle.checker.specs.Promise.{asking, Checks}
@@ -73,16 +72,6 @@ verdict-keeps l old = ap (λ (y : Next). buffer-after (going-on (asking AskedVer
     go (failed n place) = refl
 
 -- ---- what the program writes
-
--- the line of a refusal is short
-pub refusal-short : (n place : ℕ) → n < 2 ^ 64 → place < 2 ^ 64 → length (refusal-line n place) ≤ 53
-refusal-short n place h g =
-    let k = number-short n h in
-    let l = number-short place g in
-    simp length-append (omega arith)
-
-pub wrote-fits : (t old new : List ℕ) (r : ℕ) → Wrote t old new r → r ≤ length new
-wrote-fits t old new r w = let e : length new ≡ length t + length (drop (length t) old) = ap length (w .bytes-are) ∙ length-append t (drop (length t) old) in omega (arith, w .length-is)
 
 -- what the program writes is in the buffer
 abbrev Shows : List ℕ → List ℕ → List ℕ → ℕ → Type 0

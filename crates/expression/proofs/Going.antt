@@ -9,7 +9,7 @@ use lib.ListN.{length, take, drop, length-append, length-take, length-drop}
 use native.Mathlib.Omega.{arith}
 use Rattle.lists.specs.Tests.{_among_, gather}
 use Rattle.lists.specs.Writing.{Wrote}
-use Rattle.lists.proofs.Places.{gather-append}
+use Rattle.lists.proofs.Places.{gather-append, gather-last}
 use Rattle.lists.proofs.Writing.{wrote-nothing, wrote-at-part}
 use Rattle.orderings.specs.Steps.{Step}
 use Rattle.orderings.specs.Decide.{step}
@@ -153,7 +153,7 @@ module _ (highs lows : List ℕ) (n : ℕ) (b : Graph) (k : ℕ) (opened : List 
           rest = rest;
           all = all ∙ sym (append-assoc done (p ∷ []) rest);
           stands = stands;
-          wrote = subst (λ (t : List ℕ). Wrote t old new next) (sym (gather-append (part-text R) done (p ∷ []) ∙ ap (λ (t : List ℕ). G done ++ t) (append-nil (part-text R p))))
+          wrote = subst (λ (t : List ℕ). Wrote t old new next) (sym (gather-last (part-text R) done p))
               (puts .written (omega (arith, wrote .length-is)) .follows (G done) old wrote);
         }
 

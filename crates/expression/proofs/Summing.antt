@@ -7,7 +7,7 @@ use mathlib.Core.List.{List, [], _∷_, _++_, append-assoc, append-nil, List·Me
 use lib.ListN.{length, length-append}
 use native.Mathlib.Omega.{arith}
 use Rattle.lists.specs.Tests.{_among_, gather}
-use Rattle.lists.proofs.Places.{gather-append}
+use Rattle.lists.proofs.Places.{gather-last}
 use Rattle.orderings.specs.Steps.{Claim, Step, needs}
 use Rattle.orderings.specs.Systems.{InForce}
 use Rattle.machine.specs.Machine.{Machine}
@@ -94,7 +94,7 @@ module _ (highs lows : List ℕ) (n : ℕ) (b : Graph) (k : ℕ) (bytes : List �
       let e : size + length (before-text (c .before)) + length (step-text W (p .step)) ≡ length (gather (part-text W) (s .done ++ (p ∷ []))) =
       omega (
         arith,
-        ap (length {A = ℕ}) (gather-append (part-text W) (s .done) (p ∷ []) ∙ ap (λ (t : List ℕ). gather (part-text W) (s .done) ++ t) (append-nil (part-text W p))),
+        ap (length {A = ℕ}) (gather-last (part-text W) (s .done) p),
         length-append (gather (part-text W) (s .done)) (part-text W p),
         length-append (before-text (p .before)) (step-text W (p .step)),
         ap (λ (j : ℕ). length (before-text j)) (shown .0),

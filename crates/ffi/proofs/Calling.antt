@@ -4,14 +4,16 @@ use mathlib.Core.Path.{_≡_, refl, ap, sym, _∙_, subst}
 use mathlib.Core.List.{List, _++_}
 use lib.ListN.{length, take, drop}
 use lib.Seq.{length-take-le}
+use Rattle.rows.specs.Rows.{batch-of}
 use Rattle.machine.specs.declared.Answer.{Answer}
 use Rattle.machine.specs.declared.Answer.the-variants.{Done, Wrote, Decided, Refused}
 use Rattle.machine.specs.declared.Verdict.{Verdict}
-use Rattle.machine.specs.Calls.{Outcome, done, wrote, decided, refused, returned, buffer-after}
+use Rattle.machine.specs.Calls.{Outcome, done, wrote, decided, refused, written, returned, buffer-after, Tells}
 use Rattle.machine.proofs.Answers.{done-by, wrote-by, decided-by, refused-by, front-after}
 use Rattle.machine.specs.Program.{outcome, batch-verdict, batch-expression}
 use Rattle.checker.specs.Promise.{Checks, GivesVerdict, GivesExpression}
-use Rattle.ffi.specs.Promise.{code-of, place-after, Coded, Codes, Called, CalledVerdict, lent, CalledExpression}
+use Rattle.hoa_files.specs.Promise.{Converts}
+use Rattle.ffi.specs.Promise.{code-of, place-after, Coded, Codes, CodedIn, Called, CalledVerdict, lent, CalledExpression, CalledHoa}
 
 module _ (before : ℕ) (a : Answer) where
   coded : {o : Outcome} (q : Outcome) (after r : ℕ) → o ≡ q → r ≡ code-of q → after ≡ place-after q before → Coded o before after r
@@ -29,10 +31,22 @@ module _ (before : ℕ) (a : Answer) where
   pub codes-refused : (n place : ℕ) → a ≡ Refused n place → Codes a before place (n * 4294967296)
   codes-refused n place e o h = coded (refused n place) place (n * 4294967296) (refused-by o n place (sym h ∙ ap returned e)) refl refl
 
+-- an outcome that is told, with its buffer
+coded-in : (o : Outcome) (old new : List ℕ) (a : Answer) → Tells o old new a → (before after r : ℕ) → Codes a before after r → CodedIn o old new before after r
+coded-in o old new a k before after r h = let d = h o (k .answer-is) in record { code-is = d .code-is; buffer-is = k .buffer-is; place-is = d .place-is }
+
 -- of the check of a batch
 pub called : (batch old new : List ℕ) (a : Answer) → Checks batch old new a → (before after r : ℕ) → Codes a before after r → Called batch old new before after r
-called batch old new a k before after r h = let d = h (outcome batch (length old)) (k .answer-is) in
-    record { code-is = d .code-is; sheet-is = k .buffer-is; place-is = d .place-is }
+called batch old new a k before after r h = coded-in (outcome batch (length old)) old new a k before after r h
+
+-- of an HOA file
+pub called-hoa : (file old new : List ℕ) (a : Answer) → Converts file old new a → (before after r : ℕ) → Codes a before after r → CalledHoa file old new before after r
+called-hoa file old new a k before after r h =
+    record {
+      some-outcome = k .some-outcome;
+      accepted = λ rows t. coded-in (written (length old) (batch-of rows)) old new a (k .accepted rows t) before after r h;
+      refuses = λ n place t. coded-in (refused n place) old new a (k .refuses n place t) before after r h;
+    }
 
 -- of its verdict
 pub called-verdict : (batch : List ℕ) (a : Answer) → GivesVerdict batch a → (before after r : ℕ) → Codes a before after r → CalledVerdict batch before after r
@@ -48,7 +62,7 @@ called-expression batch old part n e f same a k before after r h =
     let d = h o (k .answer-is) in
     record {
       code-is = d .code-is ∙ ap code-of is;
-      text-is =
+      buffer-is =
           ap (λ (l : List ℕ). l ++ drop n old) (k .buffer-is) ∙ front-after o old n (ap length (sym (k .buffer-is)) ∙ same) ∙ ap (λ (x : Outcome). buffer-after x old) is;
       place-is = d .place-is ∙ ap (λ (x : Outcome). place-after x before) is;
     }

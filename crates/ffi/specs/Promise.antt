@@ -1,14 +1,19 @@
--- The outcome of one batch as a number, a place and a buffer.
+-- The outcome of one call as a number, a place and a buffer.
 use Prim.Native.Nat.{ℕ, _*_}
 use mathlib.Core.Path.{_≡_}
+use mathlib.Core.Logic.{_⊎_}
 use mathlib.Core.Bool.{cond}
 use mathlib.Core.List.{List}
 use lib.Dec.{ltb}
 use lib.ListN.{length}
+use Rattle.rows.specs.declared.Row.{Row}
+use Rattle.rows.specs.Rows.{batch-of}
 use Rattle.machine.specs.declared.Answer.{Answer}
 use Rattle.machine.specs.declared.Verdict.the-variants.{NonEmpty, Empty}
-use Rattle.machine.specs.Calls.{Outcome, done, wrote, decided, refused, returned, due, buffer-after}
+use Rattle.machine.specs.Calls.{Outcome, done, wrote, decided, refused, written, returned, due, buffer-after}
 use Rattle.machine.specs.Program.{outcome, batch-verdict, batch-expression}
+use Rattle.hoa_files.specs.Files.{FileCause}
+use Rattle.hoa_files.specs.Promise.{HasTable}
 
 -- the length of the text, 1 for a non-empty and 0 for an empty verdict, or 2 to the power 32 times the number of the refusal
 abbrev pub code-of : Outcome → ℕ
@@ -34,11 +39,15 @@ pub record Coded (o : Outcome) (before after r : ℕ) : Type 0 where
 abbrev pub Codes : Answer → ℕ → ℕ → ℕ → Type 0
 Codes a before after r = (o : Outcome) → returned a ≡ due o → Coded o before after r
 
+-- an outcome as a number, a place and a buffer
+pub record CodedIn (o : Outcome) (old new : List ℕ) (before after r : ℕ) : Type 0 where
+  pub code-is : r ≡ code-of o
+  pub buffer-is : new ≡ buffer-after o old
+  pub place-is : after ≡ place-after o before
+
 -- what one call leaves, of the plain machine's outcome for that batch and that length of buffer
-pub record Called (batch old new : List ℕ) (before after r : ℕ) : Type 0 where
-  pub code-is : r ≡ code-of (outcome batch (length old))
-  pub sheet-is : new ≡ buffer-after (outcome batch (length old)) old
-  pub place-is : after ≡ place-after (outcome batch (length old)) before
+abbrev pub Called : List ℕ → List ℕ → List ℕ → ℕ → ℕ → ℕ → Type 0
+Called batch old new before after r = CodedIn (outcome batch (length old)) old new before after r
 
 -- what one call for a verdict leaves
 abbrev pub CalledVerdict : List ℕ → ℕ → ℕ → ℕ → Type 0
@@ -49,7 +58,11 @@ abbrev pub lent : ℕ → ℕ
 lent size = cond (ltb 4294967295 size) 4294967295 size
 
 -- what one call for an expression leaves, of the plain machine's outcome for that batch and for the bytes lent; the buffer is the whole one
-pub record CalledExpression (batch old new : List ℕ) (before after r : ℕ) : Type 0 where
-  pub code-is : r ≡ code-of (batch-expression batch (lent (length old)))
-  pub text-is : new ≡ buffer-after (batch-expression batch (lent (length old))) old
-  pub place-is : after ≡ place-after (batch-expression batch (lent (length old))) before
+abbrev pub CalledExpression : List ℕ → List ℕ → List ℕ → ℕ → ℕ → ℕ → Type 0
+CalledExpression batch old new before after r = CodedIn (batch-expression batch (lent (length old))) old new before after r
+
+-- what one call for an HOA file leaves: its rows as a batch, or its cause; every file has the one or the other
+pub record CalledHoa (file old new : List ℕ) (before after r : ℕ) : Type 0 where
+  pub some-outcome : ((rows : List Row) × HasTable file rows) ⊎ ((n : ℕ) × ((place : ℕ) × FileCause file n place))
+  pub accepted : (rows : List Row) → HasTable file rows → CodedIn (written (length old) (batch-of rows)) old new before after r
+  pub refuses : (n place : ℕ) → FileCause file n place → CodedIn (refused n place) old new before after r

@@ -3,7 +3,7 @@ use machine::Answer;
 use machine::Verdict;
 ghost use Prim.Native.Nat.{_≤_};
 ghost use mathlib.Core.Path.{_≡_};
-ghost use Rattle.ffi.specs.Promise.{Codes, Called, CalledVerdict, lent, CalledExpression};
+ghost use Rattle.ffi.specs.Promise.{Codes, Called, CalledVerdict, lent, CalledExpression, CalledHoa};
 
 // The most bytes of a buffer that are lent for an expression: values of 2^32 and above are refusals, so a longer text could not be told from one.
 const MOST_LENT: usize = 4294967295;
@@ -61,4 +61,14 @@ pub extern "C" fn gozhmerik_expression(batch: &[u8], text: &mut [u8], place: &mu
 {
     let n = lent(text.len());
     code(checker::expression(batch, &mut text[..n]), place)
+}
+
+// Converts one HOA file. Returns the length of the batch of its rows, which it writes; or 2^32 times the number of the refusal, whose place it
+// writes to `place`, and leaves the buffer as it was.
+#[no_mangle]
+pub extern "C" fn gozhmerik_hoa(file: &[u8], batch: &mut [u8], place: &mut u64) -> u64
+    ensures { λ r. ⌜ CalledHoa (now (file .entry)) (now (batch .entry)) (now (batch .exit))
+        (now (place .entry)) (now (place .exit)) r ⌝ }
+{
+    code(hoa_files::convert(file, batch), place)
 }

@@ -3,12 +3,12 @@ use Prim.Native.Nat.{ℕ, zero, suc, _≤_, _<_, _*_}
 use mathlib.Core.Path.{_≡_, refl, ap, sym, _∙_}
 use mathlib.Core.Bool.{Bool, true, false}
 use mathlib.Core.Logic.{_⊎_, inl, inr, ⊎-elim}
-use mathlib.Core.List.{List, [], _∷_, _++_, List·Memᴰ·head, List·Memᴰ·tail, List·Memᴰ·cases-cons, List·Memᴰ·append-cases, Memᴰ·cast}
+use mathlib.Core.List.{List, [], _∷_, _++_, map, List·Memᴰ·head, List·Memᴰ·tail, List·Memᴰ·cases-cons, List·Memᴰ·append-cases, Memᴰ·cast}
 use lib.ListN.{length, length-append}
 use native.Mathlib.Nat.{suc-mul}
 use native.Mathlib.Omega.{arith}
 use Rattle.lists.specs.Tests.{_among_, _part-of_, Once, put, keep, gather, range}
-use Rattle.lists.proofs.Deciding.{kept}
+use Rattle.lists.proofs.Deciding.{kept, map-out, range-out}
 
 -- without an element that it has, a list is one shorter
 cut-out : {A : Type 0} {x : A} {m : List A} → x among m → (n : List A) × (length m ≡ suc (length n)) × ((y : A) → y among m → (y ≡ x) ⊎ y among n)
@@ -61,6 +61,15 @@ keep-grows {A} f g (x ∷ l) h = go (f x) (g x) (h x (List·Memᴰ·head refl)) 
 pub range-length : (a n : ℕ) → length (range a n) ≡ n
 range-length a zero = refl
 range-length a (suc n) = ap suc (range-length (suc a) n)
+
+-- numbers that rise by one, and what a function that keeps apart makes of a list
+pub range-once : (a n : ℕ) → Once (range a n)
+range-once a zero = tt
+range-once a (suc n) = ((λ m. omega (arith, range-out (suc a) n a m .0)), range-once (suc a) n)
+
+pub map-once : {A B : Type 0} (f : A → B) (l : List A) → ((x y : A) → f x ≡ f y → x ≡ y) → Once l → Once (map f l)
+map-once f [] h o = tt
+map-once f (x ∷ l) h o = ((λ m. let r = map-out f (f x) l m in o .0 (rw (h x (r .0) (r .2)) (r .1))), map-once f l h (o .1))
 
 -- two lists without repeats that share nothing
 pub once-append : {A : Type 0} (l m : List A) → Once l → Once m → ((x : A) → x among l → ¬ (x among m)) → Once (l ++ m)

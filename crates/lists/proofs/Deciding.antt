@@ -1,5 +1,6 @@
 -- What tests say: of numbers (`eqb·`, `ltb·`, `leb·`), joined (`and·`, `or·`, `not·`), over lists (`any·`, `all·`, `keep·`, `has·`); two tests of one
--- statement are alike (`alike`); and what is in a list made of another (`gather-in`, `gather-out`, `map-in`, `map-out`, `map-same`).
+-- statement are alike (`alike`); what is true or not gives a test its answer (`says-yes`, `says-no`); and what is in a list made of another (`gather-in`,
+-- `gather-out`, `map-in`, `map-out`, `map-same`) or of numbers (`range-in`, `range-out`).
 use Prim.Native.Nat.{ℕ, zero, suc, _≤_, _<_, _+_}
 use mathlib.Core.Path.{_≡_, refl, ap, sym, subst}
 use mathlib.Core.Bool.{Bool, true, false, _&&_, _||_, not, false≢true}
@@ -8,6 +9,7 @@ use mathlib.Core.List.{List, [], _∷_, map, List·Memᴰ·head, List·Memᴰ·t
 use lib.Dec.{T, eqb, eqb→eq, eqb-refl, ltb, ltb→lt, lt→ltb, leb, leb→le, le→leb}
 use native.Mathlib.Omega.{arith}
 use native.Mathlib.Nat.{eq-or-lt-of-le}
+use borrow.Author.Tests.{not-false}
 use Rattle.lists.specs.Tests.{Decides, _among_, any, all, put, keep, gather, range}
 
 -- a test that passes, and one that fails
@@ -26,6 +28,13 @@ yes· d = d .to refl
 
 pub no· : {A : Type 0} → Decides false A → ¬ A
 no· d a = false≢true (d .of a)
+
+-- the answer of a test, from what is true or not
+pub says-yes : {A : Type 0} → A → Decides true A
+says-yes a = record { to = λ t. a; of = λ b. refl }
+
+pub says-no : {A : Type 0} → ¬ A → Decides false A
+says-no n = record { to = λ t. absurd (false≢true t); of = λ a. absurd (n a) }
 
 pub dec· : {b : Bool} {A : Type 0} → Decides b A → Dec A
 dec· {b} d = go b d
@@ -84,6 +93,13 @@ not· {b} {A} d = go b d
     go : (b : Bool) → Decides b A → Decides (not b) (¬ A)
     go true d = record { to = λ t. absurd (false≢true t); of = λ n. absurd (n (yes· d)) }
     go false d = record { to = λ t. no· d; of = λ n. refl }
+
+-- what a test that is turned round says, as in `if !is_digit(b)`
+pub denied : {b : Bool} {A : Type 0} → Decides b A → not b ≡ true → ¬ A
+denied d e = not· d .to e
+
+pub granted : {b : Bool} {A : Type 0} → Decides b A → not b ≡ false → A
+granted {b} d e = d .to (not-false b e)
 
 module _ {A : Type 0} {f : A → Bool} {P : A → Type 0} (d : (x : A) → Decides (f x) (P x)) where
   pub any· : (l : List A) → Decides (any f l) ((x : A) × x among l × P x)
@@ -144,3 +160,7 @@ map-same f g (x ∷ l) h = let e = h x (List·Memᴰ·head refl) in let r = map-
 pub range-in : (a n s : ℕ) → a ≤ s → s < a + n → s among range a n
 range-in a zero s h k = absurd (omega arith)
 range-in a (suc n) s h k = ⊎-elim (λ e. List·Memᴰ·head (sym e)) (λ l. List·Memᴰ·tail (range-in (suc a) n s l (omega arith))) (eq-or-lt-of-le h)
+
+pub range-out : (a n s : ℕ) → s among range a n → (a ≤ s) × (s < a + n)
+range-out a zero s m = absurd (List·Memᴰ·not-nil m)
+range-out a (suc n) s m = ⊎-elim (λ e. (omega arith, omega arith)) (λ i. let r = range-out (suc a) n s i in (omega (arith, r .0), omega (arith, r .1))) (List·Memᴰ·cases-cons m)

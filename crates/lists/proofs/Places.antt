@@ -4,7 +4,7 @@ use Prim.Native.Nat.{ℕ, zero, suc, _+_, _≤_, _<_}
 use mathlib.Core.Path.{_≡_, refl, ap, sym, _∙_, subst}
 use mathlib.Core.Bool.{Bool, true, false, false≢true}
 use mathlib.Core.Logic.{⊎-elim}
-use mathlib.Core.List.{List, [], _∷_, _++_, map, append-assoc, List·Memᴰ·head, List·Memᴰ·tail, List·Memᴰ·not-nil, List·Memᴰ·cases-cons}
+use mathlib.Core.List.{List, [], _∷_, _++_, map, append-assoc, append-nil, List·Memᴰ·head, List·Memᴰ·tail, List·Memᴰ·not-nil, List·Memᴰ·cases-cons}
 use lib.ListN.{length, take, drop, getD, set, length-take, List·getD-eq-default}
 use lib.Seq.{getD-take, getD-drop, getD-set-same, getD-set-other}
 use borrow.Author.Count.{below-more}
@@ -48,9 +48,18 @@ split-once x [] (y ∷ m) r s h k e = absurd (k (List·Memᴰ·head cc))
 split-once x (y ∷ l) [] r s h k e = absurd (h (List·Memᴰ·head cc))
 split-once x (y ∷ l) (z ∷ m) r s h k e = let p = split-once x l m r s (λ i. h (List·Memᴰ·tail i)) (λ i. k (List·Memᴰ·tail i)) cc in let i = p .0 in (cc, p .1)
 
+-- a list that is not empty has a last element
+pub last-of : {A : Type 0} (l : List A) → 0 < length l → (k : List A) × (x : A) × (l ≡ k ++ (x ∷ []))
+last-of [] h = absurd (omega arith)
+last-of (x ∷ []) h = ([], x, refl)
+last-of {A} (x ∷ y ∷ l) h = let (k, s, e) = last-of (y ∷ l) (omega arith) in (x ∷ k, s, ap (λ (m : List A). x ∷ m) e)
+
 pub gather-append : {A B : Type 0} (f : A → List B) (l m : List A) → gather f (l ++ m) ≡ gather f l ++ gather f m
 gather-append f [] m = refl
 gather-append {A} {B} f (x ∷ l) m = ap (λ (k : List B). f x ++ k) (gather-append f l m) ∙ sym (append-assoc (f x) (gather f l) (gather f m))
+
+pub gather-last : {A B : Type 0} (f : A → List B) (l : List A) (x : A) → gather f (l ++ (x ∷ [])) ≡ gather f l ++ f x
+gather-last {B = B} f l x = gather-append f l (x ∷ []) ∙ ap (λ (k : List B). gather f l ++ k) (append-nil (f x))
 
 -- what the first n places of an array hold, and the place of what they hold
 pub held-at : {A : Type 0} (n : ℕ) (l m : List A) → take n l ≡ m → (i : ℕ) (d : A) → i < n → getD l i d ≡ getD m i d

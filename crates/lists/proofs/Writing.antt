@@ -1,4 +1,4 @@
--- Laws of writing at the front of a buffer, and into the rest after what was written.
+-- Laws of writing at the front of a buffer (`wrote-fits`, `wrote-back`: what was written is within it, and is read), and into the rest after what was written.
 use Prim.Native.Nat.{ℕ, suc, _+_, _-_, _≤_}
 use mathlib.Core.Path.{_≡_, refl, ap, sym, _∙_}
 use mathlib.Core.List.{List, [], _∷_, _++_, append-assoc, append-nil}
@@ -28,13 +28,21 @@ wrote-all t l h = record { length-is = refl; bytes-are = put-after [] t l h }
 pub wrote-nothing : (old : List ℕ) → Wrote [] old old 0
 wrote-nothing old = record { length-is = refl; bytes-are = refl }
 
+-- what was written is within the buffer, and its front is the text
+module _ {t old new : List ℕ} {n : ℕ} (w : Wrote t old new n) where
+  pub wrote-fits : n ≤ length new
+  wrote-fits = omega (arith, w .length-is, ap length (w .bytes-are) ∙ length-append t (drop (length t) old))
+
+  pub wrote-back : take n new ≡ t
+  wrote-back = ap (take n) (w .bytes-are) ∙ take-at t (drop (length t) old) n (sym (w .length-is))
+
 -- a text t, and then u into the part after it: t ++ u
 pub wrote-part : (t u old mid part : List ℕ) {a b : ℕ} → Wrote t old mid a → Wrote u (take (length mid - a) (drop a mid)) part b
     → Wrote (t ++ u) old (take a mid ++ (part ++ drop (length mid - a) (drop a mid))) (a + b)
 wrote-part t u old mid part {a} {b} w v =
     let whole : take (length mid - a) (drop a mid) ≡ drop a mid = take-all (length mid - a) (drop a mid) (simp length-drop (omega arith)) in
     let none : drop (length mid - a) (drop a mid) ≡ [] = drop-of-length-le (drop a mid) {i = length mid - a} (simp length-drop (omega arith)) in
-    let front : take a mid ≡ t = ap (take a) (w .bytes-are) ∙ take-at t (drop (length t) old) a (sym (w .length-is)) in
+    let front : take a mid ≡ t = wrote-back w in
     let rest : drop a mid ≡ drop (length t) old = ap (drop a) (w .bytes-are) ∙ drop-at t (drop (length t) old) a (sym (w .length-is)) in
     let body : part ≡ u ++ drop (length (t ++ u)) old =
     v .bytes-are ∙ ap (λ (l : List ℕ). u ++ drop (length u) l) (whole ∙ rest)

@@ -27,7 +27,7 @@ use Rattle.machine.proofs.Settling.{Settles, settles}
 use Rattle.machine.proofs.Tables.{no-rows}
 use Rattle.machine.proofs.Outcomes.{Done, load-done, Comes, comes}
 use Rattle.machine.proofs.History.{opened-formed, run-formed, call-formed, settle-runs}
-use Rattle.machine.proofs.Statements.{load-sorted, sheet-fits, print-accepts}
+use Rattle.machine.proofs.Statements.{second-settles, sheet-fits, print-accepts}
 use Rattle.machine.proofs.Rising.{verdict-of-rounds}
 use Rattle.machine.proofs.Expressing.{expressed}
 
@@ -59,8 +59,8 @@ module _ (rows : List Row) (t : Table rows) where
   formed = settled-formed rows t
 
   is-second : second rows ≡ m
-  unfolding m second
-  is-second = ap (λ x. run x settle) (load-sorted rows t)
+  unfolding m
+  is-second = second-settles rows t
 
   -- a buffer of 6,400 bytes or more is long enough
   prints-sheet : (size : ℕ) → 6400 ≤ size → call (run (open-with rows) settle) (print size) .answer ≡ wrote (sheet (s .verdict) (second rows))

@@ -21,16 +21,13 @@ use Rattle.machine.specs.Text.{text, set-text, number-text}
 use Rattle.machine.specs.Sheet.{line, verdict-text, claim-text, verdict-line, opening-line, walk-lines, sheet}
 use Rattle.machine.specs.WellFormed.{WellFormed}
 use Rattle.machine.specs.Statements.{Said, said, SheetSays}
-use Rattle.machine.proofs.Text.{read-number, number-reads, digits-only, read-hex, set-reads}
-use Rattle.machine.proofs.Sheet.{Visible, verdict-visible, opening-visible}
+use Rattle.machine.proofs.Text.{number-once, digits-only, read-hex, set-reads}
+use Rattle.machine.proofs.Sheet.{line-split, Visible, verdict-visible, opening-visible}
 use Rattle.machine.proofs.Statements.{settled-listed}
 
 -- equal lines, and what follows them
-lines-split : (l m r s : List ℕ) → Visible l → Visible m → line l ++ r ≡ line m ++ s → (l ≡ m) × (r ≡ s)
-lines-split l m r s h k e = split-once 10 l m r s (λ i. omega (arith, h 10 i .0)) (λ i. omega (arith, k 10 i .0)) (sym (append-assoc l (10 ∷ []) r) ∙ e ∙ append-assoc m (10 ∷ []) s)
-
-number-once : (x y : ℕ) → number-text x ≡ number-text y → x ≡ y
-number-once x y e = sym (number-reads x) ∙ ap (λ (l : List ℕ). read-number l 0) e ∙ number-reads y
+visible-split : (l m r s : List ℕ) → Visible l → Visible m → line l ++ r ≡ line m ++ s → (l ≡ m) × (r ≡ s)
+visible-split l m r s h k = line-split l m r s (λ i. omega (arith, h 10 i .0)) (λ i. omega (arith, k 10 i .0))
 
 set-once : (P Q : ℕ) → P < 256 ^ 8 → Q < 256 ^ 8 → set-text P ≡ set-text Q → P ≡ Q
 set-once P Q h k e = sym (set-reads P h) ∙ ap (λ (l : List ℕ). read-hex l 0) e ∙ set-reads Q k
@@ -44,7 +41,7 @@ claim-once (mixes P) (mixes Q) h k e = ap mixes (set-once P Q h k (append-cancel
 -- ---- the lines
 
 verdict-once : (v v′ : Verdict) (k k′ : ℕ) (r s : List ℕ) → verdict-line v k ++ r ≡ verdict-line v′ k′ ++ s → (v ≡ v′) × (k ≡ k′) × (r ≡ s)
-verdict-once v v′ k k′ r s e = let p = lines-split _ _ r s (verdict-visible v k) (verdict-visible v′ k′) e in let q = by v v′ (p .0) in (q .0, q .1, p .1)
+verdict-once v v′ k k′ r s e = let p = visible-split _ _ r s (verdict-visible v k) (verdict-visible v′ k′) e in let q = by v v′ (p .0) in (q .0, q .1, p .1)
   where
     by : (v v′ : Verdict) → text "verdict " ++ (verdict-text v ++ (text " rounds " ++ number-text k)) ≡ text "verdict " ++ (verdict-text v′ ++ (text " rounds " ++ number-text k′))
         → (v ≡ v′) × (k ≡ k′)
@@ -59,7 +56,7 @@ Sets l = (o : Opening) → o among l → set-of (o .claim) < 256 ^ 8
 
 opening-once : (o p : Opening) (r s : List ℕ) → set-of (o .claim) < 256 ^ 8 → set-of (p .claim) < 256 ^ 8 → opening-line o ++ r ≡ opening-line p ++ s → (o ≡ p) × (r ≡ s)
 opening-once o p r s h k e =
-    let i = lines-split _ _ r s (opening-visible o) (opening-visible p) e in
+    let i = visible-split _ _ r s (opening-visible o) (opening-visible p) e in
     let j = split-once 32 (number-text (o .round)) (number-text (p .round)) (claim-text (o .claim)) (claim-text (p .claim)) (λ m. omega (arith, digits-only (o .round) 32 m .0)) (λ m. omega (arith, digits-only (p .round) 32 m .0))
     (append-cancel-left (text "open ") _ _ (i .0)) in
     let a = number-once (o .round) (p .round) (j .0) in

@@ -15,7 +15,7 @@ use Rattle.machine.specs.declared.Verdict.{Verdict}
 use Rattle.machine.specs.declared.Verdict.the-variants.{NonEmpty, Empty}
 use Rattle.machine.specs.declared.Phase.the-variants.{Settled}
 use Rattle.machine.specs.Machine.{Opening, Machine, open-with}
-use Rattle.machine.specs.Calls.{run, settle, second}
+use Rattle.machine.specs.Calls.{second}
 use Rattle.machine.specs.WellFormed.{Table, after}
 use Rattle.machine.specs.Statements.{loop-first, opening-key, Listed, Number, ByRounds, no-round, one-round, Works, SecondWorks}
 use Rattle.machine.proofs.Rounding.{close-closed, round-rounded}
@@ -23,7 +23,7 @@ use Rattle.machine.proofs.Settling.{after-after, Settles, settles, few-
 use Rattle.machine.proofs.Openings.{after-listed}
 use Rattle.machine.proofs.Loading.{loads-back}
 use Rattle.machine.proofs.History.{settle-runs}
-use Rattle.machine.proofs.Statements.{load-sorted}
+use Rattle.machine.proofs.Statements.{second-settles}
 
 -- one verdict and one round number
 pub number-unique : (rows : List Row) (v w : Verdict) (j k : ℕ) → Number rows v j → Number rows w k → (v ≡ w) × (j ≡ k)
@@ -95,8 +95,7 @@ module _ (rows : List Row) where
     }
 
     second-after : second rows ≡ after rows (s .rounds)
-    unfolding second
-    second-after = ap (λ x. run x settle) (load-sorted rows t) ∙ settle-runs rows t
+    second-after = second-settles rows t ∙ settle-runs rows t
 
     pub second-works : SecondWorks rows
     second-works = let w : Works rows (second rows) = rw second-after settled-works in

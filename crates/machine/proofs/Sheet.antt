@@ -1,17 +1,18 @@
 -- A sheet is at most 6,400 bytes (`sheet-short`). The text of a line has no line end in it (`verdict-visible`, `opening-visible`), and a sheet is
--- bytes (`sheet-bytes`).
+-- bytes (`sheet-bytes`). Where bytes begin with one such line and with another, the two are one (`line-split`).
 use Prim.Native.Nat.{ℕ, _≤_, _<_}
-use mathlib.Core.Path.{_≡_, refl}
+use mathlib.Core.Path.{_≡_, refl, sym, _∙_}
 use mathlib.Core.Bool.{true, _&&_}
 use mathlib.Core.Logic.{⊎-elim}
 use mathlib.Core.Option.{Option, none, some}
-use mathlib.Core.List.{List, [], _∷_, _++_, List·Memᴰ·not-nil, List·Memᴰ·append-cases, List·Memᴰ·eq-of-singleton}
+use mathlib.Core.List.{List, [], _∷_, _++_, append-assoc, List·Memᴰ·not-nil, List·Memᴰ·append-cases, List·Memᴰ·eq-of-singleton}
 use lib.Dec.{ltb, leb}
 use lib.ListN.{length, length-append}
 use native.Mathlib.Omega.{arith}
 use Rattle.lists.specs.Tests.{_among_, all, gather}
 use Rattle.lists.proofs.Deciding.{ltb·, leb·, and·, all·, gather-out}
 use Rattle.lists.proofs.Counting.{gather-length}
+use Rattle.lists.proofs.Places.{split-once}
 use Rattle.rows.specs.declared.Row.{Row}
 use Rattle.rows.specs.Rows.{AllFit, Bytes}
 use Rattle.rows.proofs.Reading.{bytes-append}
@@ -26,6 +27,10 @@ use Rattle.machine.specs.Sheet.{line, verdict-text, claim-text, label-te
 use Rattle.machine.proofs.Search.{shortest-some}
 use Rattle.machine.proofs.Walks.{ValueFits, walk-states, walk-values, best-short}
 use Rattle.machine.proofs.Text.{number-length, digits-only, hex-length, hex-digits}
+
+-- equal lines with no line end in them, and what follows them
+pub line-split : (l m r s : List ℕ) → ¬ (10 among l) → ¬ (10 among m) → line l ++ r ≡ line m ++ s → (l ≡ m) × (r ≡ s)
+line-split l m r s h k e = split-once 10 l m r s h k (sym (append-assoc l (10 ∷ []) r) ∙ e ∙ append-assoc m (10 ∷ []) s)
 
 verdict-length : (v : Verdict) (k : ℕ) → k ≤ 999 → length (verdict-line v k) ≤ 28
 verdict-length NonEmpty k h = simp length-append (omega (arith, number-length 3 k (omega arith) (omega arith)))

@@ -31,8 +31,12 @@ use Rattle.machine.proofs.History.{settle-runs, no-more, as-many}
 use Rattle.machine.proofs.Marks.{calls-formed}
 
 -- a table of rows, loaded in one batch, sorted
-pub load-sorted : (rows : List Row) → Table rows → call fresh (load (batch-of (sort-by row-bytes rows))) .machine ≡ open-with rows
+load-sorted : (rows : List Row) → Table rows → call fresh (load (batch-of (sort-by row-bytes rows))) .machine ≡ open-with rows
 load-sorted rows t = ap (λ (x : Next). x .machine) (loads-back (open-with rows) t)
+
+pub second-settles : (rows : List Row) → Table rows → second rows ≡ run (open-with rows) settle
+unfolding second
+second-settles rows t = ap (λ x. run x settle) (load-sorted rows t)
 
 -- what a machine writes when it prints
 print-writes : (m : Machine) {size k : ℕ} {l : List ℕ} → Writes m (print size) l k → (v : Verdict) × (m .phase ≡ Settled v) × (l ≡ sheet v m) × (k ≡ size)
@@ -59,8 +63,7 @@ module _ (m : Machine) (w : WellFormed m) where
 
   -- the second machine is the first
   pub second-is : (v : Verdict) → m .phase ≡ Settled v → second (m .rows) ≡ m
-  unfolding second
-  second-is v e = ap (λ x. run x settle) (load-sorted (m .rows) (w .table)) ∙ settle-runs (m .rows) (w .table) ∙ sym (settled-is v e)
+  second-is v e = second-settles (m .rows) (w .table) ∙ settle-runs (m .rows) (w .table) ∙ sym (settled-is v e)
 
   pub worked-listed : Worked m → Listed m
   worked-listed k = subst Listed (sym (k .1)) (after-listed (m .rows) (k .0))

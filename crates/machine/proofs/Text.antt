@@ -1,4 +1,4 @@
--- Numbers and sets are read back from their texts (`number-reads`, `no-leading-zero`, `set-reads`), how long these are (`number-length`,
+-- Numbers and sets are read back from their texts (`number-reads`, `number-once`, `no-leading-zero`, `set-reads`), how long these are (`number-length`,
 -- `hex-length`), and which bytes they have (`digits-only`, `hex-digits`).
 use Prim.Native.Nat.{ℕ, zero, suc, _+_, _-_, _*_, _/_, _%_, _^_, _≤_, _<_}
 use mathlib.Core.Path.{_≡_, refl, ap, sym, _∙_, subst}
@@ -13,7 +13,7 @@ use Rattle.lists.specs.Tests.{Decides, _among_}
 use Rattle.lists.proofs.Deciding.{ltb·, so, not-so, yes·, no·}
 use Rattle.machine.specs.Text.{digit, hex, set-text, decimal, number-text}
 
-digit-low : (d : ℕ) → d < 10 → digit d ≡ 48 + d
+pub digit-low : (d : ℕ) → d < 10 → digit d ≡ 48 + d
 digit-low d h = go (ltb d 10) (ltb· d 10)
   where
     go : (b : Bool) → Decides b (d < 10) → cond b (48 + d) (87 + d) ≡ 48 + d
@@ -54,6 +54,10 @@ numeral-reads (more {x} {l} h n) = rw (read-append l ((48 + x % 10) ∷ []) 0, n
 -- a number is read back from its text
 pub number-reads : (x : ℕ) → read-number (number-text x) 0 ≡ x
 number-reads x = numeral-reads (numeral x)
+
+-- the same digits are the same number
+pub number-once : (x y : ℕ) → number-text x ≡ number-text y → x ≡ y
+number-once x y e = sym (number-reads x) ∙ ap (λ (l : List ℕ). read-number l 0) e ∙ number-reads y
 
 numeral-digits : {x : ℕ} {l : List ℕ} → Numeral x l → (b : ℕ) → b among l → (48 ≤ b) × (b ≤ 57)
 numeral-digits (one h) b m = let e = List·Memᴰ·eq-of-singleton m in (omega (arith, e), omega (arith, e))

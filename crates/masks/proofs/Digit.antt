@@ -1,7 +1,7 @@
 -- The binary digits of a number, which the laws of membership are proved from.
 use Prim.Native.Nat.{ℕ, zero, suc, _+_, _-_, _/_, _%_, _^_, _≤_, _<_, zero-le, suc-le-suc}
 use mathlib.Core.Path.{_≡_, refl, sym, ap, _∙_}
-use mathlib.Core.Bool.{Bool, true, false, not, _&&_, _||_}
+use mathlib.Core.Bool.{Bool, true, false, not, _&&_, _||_, false≢true}
 use native.Mathlib.Nat.{zero-div, div-one, div-div-eq-div-mul, pow-succ', pow-suc, mod-lt, zero-lt-suc, not-suc-le-zero, le-of-suc-le-suc}
 use native.Mathlib.Omega.{arith}
 use lib.Dec.{eqb, eqb·zero-suc, eqb·suc-zero, eqb·suc-suc}
@@ -25,6 +25,12 @@ digit-suc t m =
 pub digit-none : (t : ℕ) → digit t 0 ≡ false
 unfolding digit
 digit-none t = ap (λ (x : ℕ). eqb (x % 2) 1) (zero-div (2 ^ t))
+
+-- a number below 2 to the power of n has no digit from n on
+pub digit-small : (n s m : ℕ) → m < 2 ^ n → digit s m ≡ true → s < n
+digit-small zero s m l h = let e : m ≡ 0 = omega arith in absurd (false≢true (sym (ap (digit s) e ∙ digit-none s) ∙ h))
+digit-small (suc n) zero m l h = omega arith
+digit-small (suc n) (suc s) m l h = omega (arith, digit-small n s (m / 2) (omega (arith, pow-suc 2 n)) (sym (digit-suc s m) ∙ h))
 
 pub two-pos : 0 < 2
 two-pos = zero-lt-suc 1

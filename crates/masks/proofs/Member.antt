@@ -1,18 +1,18 @@
--- Laws of membership: a state and a set (`member-lt`, `has-test`), the operations on sets (`member-and`, `member-or`, `member-difference`,
+-- Laws of membership: a state and a set (`member-lt`, `member-small`, `has-test`), the operations on sets (`member-and`, `member-or`, `member-difference`,
 -- `member-with`, and what each has: `union-cases`, `difference-cases`), sets with the same states (`same`).
-use Prim.Native.Nat.{ℕ, _-_, _*_, _/_, _%_, _^_, _≤_, _<_}
+use Prim.Native.Nat.{ℕ, zero, suc, _-_, _*_, _/_, _%_, _^_, _≤_, _<_}
 use mathlib.Core.Path.{_≡_, refl, sym, ap, ap₂, _∙_}
 use mathlib.Core.Bool.{Bool, true, false, not, _&&_, _||_, and-eq-true-iff, true≢false, or-true}
 use mathlib.Core.Logic.{_⊎_, inl, inr, ⊎-elim, _↔_}
-use native.Mathlib.Nat.{one-mul}
+use native.Mathlib.Nat.{one-mul, mod-le, pow-suc, pow-le-pow-right}
 use native.Mathlib.Decide.{decLt}
 use native.Mathlib.Omega.{arith}
 use lib.Dec.{eqb, ltb, lit<}
 use lib.Pow.{shl-exact}
-use lib.Bits.{bitAnd, bitOr, and-mask}
+use lib.Bits.{bitAnd, bitOr, and-mask, or-lt}
 use borrow.Author.Tests.{ltb-true, lt-ltb, le-ltb, eqb-true, eq-eqb, ne-eqb, not-true}
 use Rattle.masks.specs.Mask.{member, _∈_, _⊆_}
-use Rattle.masks.proofs.Digit.{digit, digit-none, digit-and, digit-or, digit-not, digit-single, digit-ext}
+use Rattle.masks.proofs.Digit.{digit, digit-none, digit-small, two-pos, digit-and, digit-or, digit-not, digit-single, digit-ext}
 
 -- a number is below another, or not
 pub lt-or-le : (a b : ℕ) → (a < b) ⊎ (b ≤ a)
@@ -52,6 +52,15 @@ member-none t = ⊎-elim (λ h. member-digit t 0 h ∙ digit-none t) (member-pas
 pub in-none : (t : ℕ) → t ∈ 0 → ⊥
 in-none t h = not-both h (member-none t)
 
+-- a set with a state is not 0
+pub some-member : (t m : ℕ) → t ∈ m → 0 < m
+some-member t zero h = absurd (in-none t h)
+some-member t (suc m) h = omega arith
+
+-- a set of n states has states below n
+pub member-small : (n s m : ℕ) → m < 2 ^ n → s ∈ m → s < n
+member-small n s m l h = digit-small n s m l (sym (member-digit s m (member-lt s m h)) ∙ h)
+
 -- ---- the operations
 
 -- what an operation does to the digits of the states, it does to the members
@@ -83,6 +92,13 @@ pub member-with : (t m s : ℕ) → s < 64 → member t (bitOr m ((1 * 2 ^ s) % 
 member-with t m s h =
     let e : (1 * 2 ^ s) % 2 ^ 64 ≡ 2 ^ s = shl-exact 1 s 64 (lit< tt) (omega arith) ∙ one-mul (2 ^ s) in
     member-or t m ((1 * 2 ^ s) % 2 ^ 64) ∙ ap (λ (x : Bool). member t m || x) (ap (member t) e ∙ member-single t s h)
+
+-- a set of n states and one state more is one
+pub with-state : (n m s : ℕ) → n ≤ 64 → m < 2 ^ n → s < n → (w : ℕ) × (w < 2 ^ n) × ((t : ℕ) → member t w ≡ (member t m || eqb t s))
+with-state n m s k l i =
+    let x = (1 * 2 ^ s) % 2 ^ 64 in
+    let p : 2 ^ suc s ≤ 2 ^ n = pow-le-pow-right two-pos i in
+    (bitOr m x, or-lt n m x l (omega (arith, mod-le (1 * 2 ^ s) (2 ^ 64), pow-suc 2 s, p)), λ t. member-with t m s (omega arith))
 
 -- `(m >> s) & 1 == 1`
 pub has-test : (m s : ℕ) → s < 64 → eqb (bitAnd (m / 2 ^ s) 1) 1 ≡ member s m

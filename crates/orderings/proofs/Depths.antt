@@ -69,6 +69,13 @@ module _ (S : System) where
   has-subject [] c v m = absurd (List·Memᴰ·not-nil m)
   has-subject (l ∷ D) c v m = ⊎-elim (λ e. rw e (v .0)) (has-subject D c (v .3)) (List·Memᴰ·cases-cons m)
 
+  -- what is open holds with the claims that were open before
+  pub open-earlier : (k : ℕ) (c : S .Claim) → OpenBy S k c → (j : ℕ) × Holds S (OpenBy S j) c
+  unfolding OpenBy
+  open-earlier zero c o = absurd o
+  open-earlier (suc k) c (inl o) = open-earlier k c o
+  open-earlier (suc k) c (inr i) = (k, i)
+
   module _ (law : Lawful S) where
     pub holds-more : {In In′ : S .Claim → Type 0} → ((c : S .Claim) → In c → In′ c) → (c : S .Claim) → Holds S In c → Holds S In′ c
     holds-more up c h = (h .0, law .more (λ w a. (a .0, allowed-more S up w (a .1))) c (h .1))

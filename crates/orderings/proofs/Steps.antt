@@ -1,9 +1,13 @@
--- Walks of document 01's steps: joined (`leads-append`, `inside-append`), and the states on them (`on-start`, `on-middle`, `on-end`, `on-later`);
--- walks inside a set with claims in force (`Runs`, `runs-append`, `runs-cut`, `leg-of`).
-use Prim.Native.Nat.{ℕ}
+-- Walks of document 01's steps: joined (`leads-append`, `inside-append`), and the states on them (`on-start`, `on-middle`, `on-end`, `on-later`), which are a set
+-- (`set-on`); walks inside a set with claims in force (`Runs`, `runs-append`, `runs-cut`, `leg-of`).
+use Prim.Native.Nat.{ℕ, _^_, _≤_, _<_}
 use mathlib.Core.Path.{_≡_, refl, ap, sym, _∙_, subst}
-use mathlib.Core.Logic.{inl, inr, _≢_}
+use mathlib.Core.Logic.{inl, inr, ⊎-elim, _↔_, _≢_}
 use mathlib.Core.List.{List, [], _∷_, _++_}
+use native.Mathlib.Nat.{one-le-pow}
+use Rattle.masks.specs.Mask.{_∈_}
+use Rattle.masks.proofs.Digit.{two-pos}
+use Rattle.masks.proofs.Member.{with-same, with-more, with-cases, in-none, with-state}
 use Rattle.rows.specs.declared.Row.{Row}
 use Rattle.orderings.specs.Steps.{Claim, Walk, Leads, Inside, On}
 use Rattle.orderings.specs.Claims.{Through}
@@ -33,6 +37,19 @@ on-end s a (t ∷ v) h = inr (on-end s (t .to) v (h .1))
 pub on-later : (s a : ℕ) (v : Walk) (b : ℕ) (w : Walk) → Leads a v b → On s b w → On s a (v ++ w)
 on-later s a [] b w h o = subst (λ x. On s x w) (sym h) o
 on-later s a (t ∷ v) b w h o = inr (on-later s (t .to) v b w (h .1) o)
+
+-- the states on a walk, all below n, are a set
+pub set-on : (n : ℕ) → n ≤ 64 → (w : Walk) (a : ℕ) → ((s : ℕ) → On s a w → s < n) → (P : ℕ) × (P < 2 ^ n) × ((s : ℕ) → (s ∈ P) ↔ On s a w)
+set-on n k [] a f = let r = with-state n 0 a k (one-le-pow n 2 two-pos) (f a refl) in
+    (r .0, r .1, λ s. ((λ i. ⊎-elim (λ j. absurd (in-none s j)) (λ e. e) (with-cases 0 a (r .0) (r .2) s i)), λ e. rw e (with-same 0 a (r .0) (r .2))))
+set-on n k (t ∷ w) a f = let b = set-on n k w (t .to) (λ s o. f s (inr o)) in let r = with-state n (b .0) a k (b .1) (f a (inl refl)) in (
+  r .0,
+  r .1,
+  λ s. (
+    (λ i. ⊎-elim (λ j. inr (b .2 s .0 j)) inl (with-cases (b .0) a (r .0) (r .2) s i)),
+    ⊎-elim (λ e. rw e (with-same (b .0) a (r .0) (r .2))) (λ o. with-more (b .0) a (r .0) (r .2) s (b .2 s .1 o)),
+  ),
+)
 
 module _ (rows : List Row) (In : Claim → Type 0) (P : ℕ) where
   -- the walk leads from a to b inside P, with the claims in force

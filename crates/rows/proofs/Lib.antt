@@ -1,4 +1,4 @@
--- The laws of rows, batches, sets and keys; first what is computed of rows and their bytes.
+-- The laws of rows, batches, sets, keys and the order of rows; first what is computed of rows and their bytes.
 pub mod Pins
 pub mod Same
 pub mod Reading
@@ -6,3 +6,4 @@ pub mod Batch
 pub mod Sets
 pub mod ByteOrder
 pub mod Keys
+pub mod RowOrder

@@ -4,7 +4,7 @@ ghost use mathlib.Core.Path.{_≡_};
 ghost use mathlib.Core.List.{[], _∷_};
 ghost use Prim.Native.Nat.{_+_, _≤_};
 ghost use lib.ListN.{length};
-ghost use Rattle.lists.specs.Writing.{Wrote};
+ghost use Rattle.lists.specs.Writing.{Wrote, WroteAt};
 ghost use Rattle.rows.specs.Rows.{row-bytes};
 ghost use Rattle.rows.specs.Reading.{set-at, width, state-places, set-places, read-row, Known, Headed};
 ghost use Rattle.rows.specs.Keys.{high, low, row-from, set-or-none};
@@ -228,6 +228,14 @@ pub fn write_row(buf: &mut [u8], row: Row) -> usize
         }
         Row::Strike(s) => put_state(buf, 6, s),
     }
+}
+
+// Writes the row's bytes from `at` on, and returns the next place.
+pub fn row_at(buf: &mut [u8], at: usize, row: Row) -> usize
+    requires { ⌜ at + length (row-bytes row) ≤ length (now buf) ⌝ }
+    ensures { λ r. ⌜ WroteAt (row-bytes row) (now (buf .entry)) (now (buf .exit)) at r ⌝ }
+{
+    at + write_row(&mut buf[at..], row)
 }
 
 // The first word of the row's key.

@@ -14,11 +14,19 @@ use Rattle.lists.specs.Writing.{Wrote}
 use Rattle.lists.proofs.Deciding.{ltb·, yes·, no·, so, not-so}
 use Rattle.machine.specs.Text.{digit, hex, set-text, decimal, number-text}
 use Rattle.machine.specs.Sheet.{line}
+use Rattle.machine.specs.Program.{refusal-line}
 use Rattle.machine.proofs.Text.{hex-length, number-length}
 use Rattle.texts.specs.Digits.{low-digits}
 
 pub number-short : (x : ℕ) → x < 2 ^ 64 → length (number-text x) ≤ 20
 number-short x h = number-length 20 x (omega arith) (omega arith)
+
+-- the line of a refusal is short
+pub refusal-short : (n place : ℕ) → n < 2 ^ 64 → place < 2 ^ 64 → length (refusal-line n place) ≤ 53
+refusal-short n place h g =
+    let k = number-short n h in
+    let l = number-short place g in
+    simp length-append (omega arith)
 
 -- a number and a set, each after a word
 pub two-length : (first second : List ℕ) (k P : ℕ)

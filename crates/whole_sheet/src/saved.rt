@@ -1,22 +1,13 @@
 // The rows of a table, written from their keys into a lent buffer as one batch.
 use machine::Answer;
 use machine::MOST_ROWS;
-use rows::Row;
 ghost use mathlib.Core.Path.{_≡_};
-ghost use Prim.Native.Nat.{_≤_, _+_};
+ghost use Prim.Native.Nat.{_≤_};
 ghost use lib.ListN.{length};
-ghost use Rattle.lists.specs.Writing.{Wrote, WroteAt};
-ghost use Rattle.rows.specs.Rows.{row-bytes, batch-of};
+ghost use Rattle.lists.specs.Writing.{Wrote};
+ghost use Rattle.rows.specs.Rows.{batch-of};
 ghost use Rattle.machine.specs.Calls.{TellsText};
 ghost use Rattle.whole_sheet.specs.Saving.{row-list};
-
-// Writes the row's bytes from `at` on, and returns the next place.
-fn row_at(buf: &mut [u8], at: usize, row: Row) -> usize
-    requires { ⌜ at + length (row-bytes row) ≤ length (now buf) ⌝ }
-    ensures { λ r. ⌜ WroteAt (row-bytes row) (now (buf .entry)) (now (buf .exit)) at r ⌝ }
-{
-    at + rows::write_row(&mut buf[at..], row)
-}
 
 // How many bytes the rows of the first `n` keys have.
 fn rows_len(high: &[u64; MOST_ROWS], low: &[u64; MOST_ROWS], n: usize) -> usize
@@ -42,7 +33,7 @@ fn put_rows(buffer: &mut [u8], high: &[u64; MOST_ROWS], low: &[u64; MOST_ROWS], 
     let mut next = 0;
     while next < n {
         let row = rows::row_of(high[next], low[next]);
-        at = row_at(buffer, at, row);
+        at = rows::row_at(buffer, at, row);
         next += 1;
     }
     at

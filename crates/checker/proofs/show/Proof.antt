@@ -7,7 +7,8 @@ use Rattle.machine.specs.declared.Answer.{Answer}
 use Rattle.machine.specs.Program.{refusal-line}
 use Rattle.rows.proofs.Reading.{all-bytes}
 use Rattle.checker.specs.Promise.{Checks}
-use Rattle.checker.proofs.Outcomes.{refusal-short, kept-buffer, shows-long, shows-done, shows-wrote, shows-decided, shows-refused}
+use Rattle.texts.proofs.Digits.{refusal-short}
+use Rattle.checker.proofs.Outcomes.{kept-buffer, shows-long, shows-done, shows-wrote, shows-decided, shows-refused}
 use borrow.Author.Needs.{needs}
 use Rattle.checker.proofs.show.Statement.{statement}
 use Rattle.checker.proofs.show.Tie as tie

@@ -1,13 +1,10 @@
 -- `is_name` meets its contract. The invariant: the bytes passed are letters.
 use Prim.Native.Nat.{ℕ, _≤_, _<_, _-_}
-use mathlib.Core.Path.{refl, sym, _∙_}
-use mathlib.Core.Bool.{false, false≢true}
 use native.Mathlib.Omega.{arith}
 use borrow.Author.Needs.{needs}
 use borrow.Author.Count.{below-more}
-use borrow.Author.Tests.{not-true, not-false}
 use lib.ListN.{length, getD}
-use Rattle.lists.specs.Tests.{Decides}
+use Rattle.lists.proofs.Deciding.{says-yes, says-no, denied, granted}
 use Rattle.machine.specs.Marks.{Name}
 use Rattle.lists.proofs.Places.{getD-among, place-of}
 use Rattle.marks.proofs.is_name.Statement.{statement}
@@ -19,15 +16,11 @@ Inv-loop name i₀ i = (i ≤ length name) × ((j : ℕ) → j < i → (97 ≤ g
 abbrev μ-loop : tie.MeasureT-loop
 μ-loop name i₀ i = length name - i
 
--- what is refused is no name
-refused : {A : Type 0} → ¬ A → Decides false A
-refused n = record { to = λ t. absurd (false≢true t); of = λ a. absurd (n a) }
-
 returns : tie.Need-returns Inv-loop μ-loop
-returns c = refused (λ n. omega (arith, n .some-byte))
+returns c = says-no (λ n. omega (arith, n .some-byte))
 
 returns-2 : tie.Need-returns-2 Inv-loop μ-loop
-returns-2 c = refused (λ n. omega (arith, n .short))
+returns-2 c = says-no (λ n. omega (arith, n .short))
 
 loop-holds : tie.Need-loop-holds Inv-loop μ-loop
 loop-holds c = (omega arith, λ j h. absurd (omega arith))
@@ -35,10 +28,10 @@ loop-holds c = (omega arith, λ j h. absurd (omega arith))
 returns-3 : tie.Need-returns-3 Inv-loop μ-loop
 returns-3 c =
     let h = c .before .before .before .before in
-    refused (λ n. false≢true (sym (not-true _ (c .if3 .taken)) ∙ c .before .is-letter .ensures .of (n .letters _ (getD-among _ (h .loop .i) 0 (omega arith)))))
+    says-no (λ n. denied (c .before .is-letter .ensures) (c .if3 .taken) (n .letters _ (getD-among _ (h .loop .i) 0 (omega arith))))
 
 loop-again : tie.Need-loop-again Inv-loop μ-loop
-loop-again c = (omega arith, below-more _ _ (c .before .before .before .before .loop .inv .1) (c .before .is-letter .ensures .to (not-false _ (c .if3 .left))))
+loop-again c = (omega arith, below-more _ _ (c .before .before .before .before .loop .inv .1) (granted (c .before .is-letter .ensures) (c .if3 .left)))
 
 returns-4 : tie.Need-returns-4 Inv-loop μ-loop
 returns-4 c =
@@ -46,7 +39,7 @@ returns-4 c =
       some-byte = omega arith;
       short = omega arith;
       letters = λ b m. let p = place-of _ b m in rw (p .2) at (c .before .loop .inv .1 (p .0) (omega arith));
-    } in record { to = λ t. named; of = λ n. refl }
+    } in says-yes named
 
 pub is-name-spec : {M : Type 1} → statement M
 is-name-spec =

@@ -2,13 +2,13 @@
 -- of, the arrays are those of the machine after as many rounds.
 use Prim.Native.Nat.{ℕ, _+_, _-_, _≤_}
 use mathlib.Core.Path.{_≡_, refl, sym, subst, _∙_}
-use mathlib.Core.Bool.{false, false≢true}
+use mathlib.Core.Bool.{false}
 use mathlib.Core.Logic.{inl, inr}
 use mathlib.Core.List.{List}
 use native.Mathlib.Omega.{arith}
 use lib.ListN.{length}
 use borrow.Author.Needs.{needs}
-use borrow.Author.Tests.{not-true, not-false}
+use Rattle.lists.proofs.Deciding.{denied, granted}
 use Rattle.masks.proofs.Member.{member-none}
 use Rattle.rows.specs.declared.Row.{Row}
 use Rattle.machine.specs.declared.Phase.{Phase}
@@ -110,7 +110,7 @@ loop-again c =
       record { old = old; with-new = all .with-new .ensures; forward = forward ends; backward = backward ends },
       seen .reached-more .ensures,
       λ rows g. subst (λ (p : Phase). Stage rows (graph-of (a .graph .now)) (a .set-count) both (looped .note .last .0) (c .note2 .last .0) p (at .loop .count + 1)) (sym (judged .judge .ensures))
-          (stage-more rows g (inv .6 rows g) (test .is-running .ensures .to (not-false (test .is-running .result) (ends .before .before .before .before .if1 .left))) (record {
+          (stage-more rows g (inv .6 rows g) (granted (test .is-running .ensures) (ends .before .before .before .before .if1 .left)) (record {
             opens = new .open-next .ensures;
             with-new = all .with-new .ensures;
             tested = tested .accepted .ensures (graph-of (a .graph .now)) both (seen .reached-more .ensures);
@@ -130,7 +130,7 @@ returns-2 : tie.Need-returns-2 Inv-loop μ-loop
 returns-2 c rows g =
     let test = c .before in
     let inv = test .before .before .loop .inv in
-    stage-end (inv .6 rows g) _ (inv .0) (inr (λ f. false≢true (sym (not-true (test .is-running .result) (c .if1 .taken)) ∙ test .is-running .ensures .of f)))
+    stage-end (inv .6 rows g) _ (inv .0) (inr (denied (test .is-running .ensures) (c .if1 .taken)))
 
 pub run-rounds-spec : {M : Type 1} → statement M
 run-rounds-spec =

@@ -1,6 +1,6 @@
 -- `run` lends the bytes that were read, and no others.
 use mathlib.Core.Path.{subst}
-use Rattle.sheet_run.specs.Input.{Held}
+use Rattle.program_input.specs.Input.{Held}
 use borrow.Author.Needs.{needs}
 use Rattle.sheet_run.proofs.run.Statement.{statement}
 use Rattle.sheet_run.proofs.run.Tie as tie
@@ -8,7 +8,7 @@ use Rattle.sheet_run.proofs.run.Reads as reads
 use Rattle.sheet_run.proofs.run.Lts as lts
 use Rattle.os.proofs.fail.Reads as fail-reads
 use Rattle.sheet_run.proofs.answer.Reads as answer-reads
-use Rattle.sheet_run.proofs.read_input.Reads as read-input-reads
+use Rattle.program_input.proofs.read_input.Reads as read-input-reads
 
 array-share-prefix-buffer : tie.Need-array-share-prefix-buffer
 array-share-prefix-buffer c = let r = c .before .before .before .before .read-input in subst (λ x. Held x (r .last .0)) (c .before .n .given .1) (r .ensures) .0

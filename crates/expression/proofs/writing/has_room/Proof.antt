@@ -1,10 +1,10 @@
 -- `has_room` meets its contract.
 use Prim.Native.Nat.{ℕ, _+_, _-_, _≤_, _<_}
-use mathlib.Core.Bool.{false, false≢true}
+use mathlib.Core.Bool.{false}
 use lib.Dec.{leb}
 use native.Mathlib.Omega.{arith}
 use Rattle.lists.specs.Tests.{Decides}
-use Rattle.lists.proofs.Deciding.{iff·, leb·}
+use Rattle.lists.proofs.Deciding.{iff·, leb·, says-no}
 use Rattle.expression.proofs.writing.has_room.Statement.{statement}
 use Rattle.expression.proofs.writing.has_room.Tie as tie
 
@@ -12,7 +12,7 @@ room : (len at n : ℕ) → at ≤ len → Decides (leb n (len - at)) (at + n �
 room len at n h = iff· {A = n ≤ len - at} (λ i. omega arith) (λ i. omega arith) (leb· n (len - at))
 
 no-room : (len at n : ℕ) → len < at → Decides false (at + n ≤ len)
-no-room len at n h = record { to = λ t. absurd (false≢true t); of = λ i. absurd (omega arith) }
+no-room len at n h = says-no (λ i. omega arith)
 
 returns : tie.Need-returns
 returns c = room _ _ _ (c .if1 .taken)

@@ -2,20 +2,19 @@
 use mathlib.Core.Path.{_∙_}
 use native.Mathlib.Omega.{arith}
 use borrow.Author.Needs.{needs}
-use borrow.Author.Tests.{not-true, not-false}
 use lib.ListN.{take, length-take}
-use Rattle.masks.proofs.Member.{not-both}
+use Rattle.lists.proofs.Deciding.{denied, granted}
 use Rattle.machine.specs.Marks.{Name}
 use Rattle.marks.proofs.Placing.{first-within, place-in}
 use Rattle.marks.proofs.Marks.place.Statement.{statement}
 use Rattle.marks.proofs.Marks.place.Tie as tie
 
 returns : tie.Need-returns
-returns c n = let i = c .before in not-both (i .is-name .ensures .of n) (not-true (i .is-name .result) (c .if1 .taken))
+returns c = denied (c .before .is-name .ensures) (c .if1 .taken)
 
 -- it is a name
 named : (c : tie.Else1) → Name (c .before .before .before .args .name .now)
-named c = c .before .is-name .ensures .to (not-false (c .before .is-name .result) (c .if1 .left))
+named c = granted (c .before .is-name .ensures) (c .if1 .left)
 
 name-number-requires : tie.Need-name-number-requires
 name-number-requires c κs = named (c .before .before) .short

@@ -1,9 +1,6 @@
 -- `search::openings::covered` meets its contract: forward from m, backward from n.
-use mathlib.Core.Bool.{false≢true}
 use borrow.Author.Needs.{needs}
-use borrow.Author.Tests.{not-true, not-false}
-use Rattle.lists.proofs.Deciding.{iff·}
-use Rattle.masks.proofs.Member.{not-both}
+use Rattle.lists.proofs.Deciding.{iff·, says-no, denied, granted}
 use Rattle.search.proofs.Hops.{hop-back, hop-turn}
 use Rattle.search.proofs.Joining.{covered-iff}
 use Rattle.search.proofs.openings.covered.Statement.{statement}
@@ -14,11 +11,7 @@ returns : tie.Need-returns
 returns c =
     let met = c .before in
     let after = met .before .reach in
-    record {
-      to = λ e. absurd (false≢true e);
-      of = λ h. let k = h .chain in
-          absurd (not-both (met .meets .ensures .of (k .1, after .ensures (k .1) .1 (k .0, k .2, k .4), k .3)) (not-true (met .meets .result) (c .if1 .taken)));
-    }
+    says-no (λ h. let k = h .chain in denied (met .meets .ensures) (c .if1 .taken) (k .1, after .ensures (k .1) .1 (k .0, k .2, k .4), k .3))
 
 returns-2 : tie.Need-returns-2
 returns-2 c =
@@ -33,7 +26,7 @@ returns-2 c =
     let args = start .args in
     let all = covered-iff (hop-back (start .pre .turned)) (hop-turn (start .pre .turned)) (args .m) (args .n) (after .result) (before .result)
     (begun .result) (ended .result) (both .result) (after .ensures) (before .ensures) (begun .ensures) (ended .ensures) (both .ensures) in
-    let end = met .meets .ensures .to (not-false (met .meets .result) (left .if1 .left)) in
+    let end = granted (met .meets .ensures) (left .if1 .left) in
     let from = after .ensures (end .0) .0 (end .1) in
     iff·
     (λ f. record { states = λ s h. all s .0 (f s h); chain = (from .0, end .0, from .1, end .2, from .2) })

@@ -1,8 +1,8 @@
 -- `search::openings::joined` meets its contract: from one state of p all of p is reached, forward and backward.
 use mathlib.Core.Path.{refl}
-use mathlib.Core.Bool.{false≢true}
 use borrow.Author.Needs.{needs}
 use borrow.Author.Tests.{eqb-true, eq-eqb}
+use Rattle.lists.proofs.Deciding.{says-no}
 use Rattle.masks.proofs.Member.{in-none, member-lt}
 use Rattle.search.proofs.Chains.{chain-back}
 use Rattle.search.proofs.Hops.{hop-back, hop-turn}
@@ -22,11 +22,8 @@ returns-2 c =
     let w = c .before .before .with in
     let low = c .before .before .before .lowest in
     let start = c .before .before .before .before .before in
-    record {
-      to = λ e. absurd (false≢true e);
-      of = λ h. absurd (c .if2 .taken (reaches-all (start .args .p) (low .result) (w .result) (r .result) (w .ensures) (r .ensures)
-          (λ a b e. e .end) (start .fits .p .fits) (r .ok) (λ t. h _ t (low .ensures .0))));
-    }
+    says-no (λ h. c .if2 .taken (reaches-all (start .args .p) (low .result) (w .result) (r .result) (w .ensures) (r .ensures)
+    (λ a b e. e .end) (start .fits .p .fits) (r .ok) (λ t. h _ t (low .ensures .0))))
 
 returns-3 : tie.Need-returns-3
 returns-3 c =

@@ -1,13 +1,12 @@
 -- `search::openings::may_loop` meets its contract.
-use mathlib.Core.Bool.{false≢true}
 use borrow.Author.Needs.{needs}
-use Rattle.lists.proofs.Deciding.{iff·}
+use Rattle.lists.proofs.Deciding.{iff·, says-no}
 use Rattle.masks.proofs.Member.{not-both, intersection-left, intersection-right, intersection-both}
 use Rattle.search.proofs.openings.may_loop.Statement.{statement}
 use Rattle.search.proofs.openings.may_loop.Tie as tie
 
 returns : tie.Need-returns
-returns c = record { to = λ e. absurd (false≢true e); of = λ h. absurd (not-both (c .if1 .taken) (h .0)) }
+returns c = says-no (λ h. not-both (c .if1 .taken) (h .0))
 
 returns-2 : tie.Need-returns-2
 returns-2 c =

@@ -1,25 +1,23 @@
 -- `search::openings::may_mix` meets its contract.
-use mathlib.Core.Bool.{false≢true}
 use borrow.Author.Needs.{needs}
-use borrow.Author.Tests.{not-true, not-false}
-use Rattle.lists.proofs.Deciding.{iff·}
+use Rattle.lists.proofs.Deciding.{iff·, says-no, denied, granted}
 use Rattle.masks.proofs.Member.{not-both}
 use Rattle.search.proofs.Filtering.{threaded}
 use Rattle.search.proofs.openings.may_mix.Statement.{statement}
 use Rattle.search.proofs.openings.may_mix.Tie as tie
 
 returns : tie.Need-returns
-returns c = record { to = λ e. absurd (false≢true e); of = λ h. absurd (not-both (c .if1 .taken) (h .0)) }
+returns c = says-no (λ h. not-both (c .if1 .taken) (h .0))
 
 returns-2 : tie.Need-returns-2
 returns-2 c =
     let m = c .before .meets in
-    record { to = λ e. absurd (false≢true e); of = λ h. absurd (not-both (m .ensures .of (h .1 .leaves)) (not-true (m .result) (c .if2 .taken))) }
+    says-no (λ h. denied (m .ensures) (c .if2 .taken) (h .1 .leaves))
 
 returns-3 : tie.Need-returns-3
 returns-3 c =
     let m = c .before .meets2 in
-    record { to = λ e. absurd (false≢true e); of = λ h. absurd (not-both (m .ensures .of (h .1 .enters)) (not-true (m .result) (c .if3 .taken))) }
+    says-no (λ h. denied (m .ensures) (c .if3 .taken) (h .1 .enters))
 
 returns-4 : tie.Need-returns-4
 returns-4 c =
@@ -34,7 +32,7 @@ returns-4 c =
     let a = free .before .args in
     iff· (λ h. (free .if1 .left, h)) (λ h. h .1)
     (threaded (a .p) (a .m) (a .n) (a .to) (a .from) (after .result) (before .result) (both .result)
-    (starts .ensures .to (not-false (starts .result) (left .if2 .left))) (ends .ensures .to (not-false (ends .result) (entered .if3 .left)))
+    (granted (starts .ensures) (left .if2 .left)) (granted (ends .ensures) (entered .if3 .left))
     (after .ensures) (before .ensures) (both .ensures) (c .is-subset .ensures))
 
 pub may-mix-spec : {M : Type 1} → statement M

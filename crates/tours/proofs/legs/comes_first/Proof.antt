@@ -1,12 +1,11 @@
 -- `tours::legs::comes_first` meets its contract.
 use Prim.Native.Nat.{_<_}
 use mathlib.Core.Path.{_≡_, refl}
-use mathlib.Core.Bool.{false≢true}
 use mathlib.Core.Logic.{inl, inr, ⊎-elim, _≢_}
 use native.Mathlib.Omega.{arith}
 use lib.Dec.{ltb}
 use Rattle.lists.specs.Tests.{Decides}
-use Rattle.lists.proofs.Deciding.{iff·, ltb·}
+use Rattle.lists.proofs.Deciding.{iff·, ltb·, says-no}
 use Rattle.tours.specs.declared.legs.Leg.{Leg}
 use Rattle.tours.specs.Laid.{ComesFirst}
 use Rattle.tours.proofs.legs.comes_first.Statement.{statement}
@@ -23,7 +22,7 @@ module _ (a b : Leg) (some : a .steps ≢ 0) (others : b .steps ≢ 0) where
       (λ h. ⊎-elim (λ z. absurd (others z)) (⊎-elim (λ l. l) (λ l. absurd (n (l .0)))) (h .1)) (ltb· (a .steps) (b .steps))
 
 returns : tie.Need-returns
-returns c = record { to = λ e. absurd (false≢true e); of = λ h. absurd (omega (arith, h .0, c .if1 .taken)) }
+returns c = says-no (λ h. omega (arith, h .0, c .if1 .taken))
 
 returns-2 : tie.Need-returns-2
 returns-2 c = record { to = λ e. (omega (arith, c .before .before .if1 .left), inl (c .if2 .taken)); of = λ h. refl }

@@ -1,0 +1,2 @@
+-- What programs read.
+pub mod Input

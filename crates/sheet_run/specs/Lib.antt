@@ -1,2 +1,0 @@
--- What the program `sheet` reads.
-pub mod Input
