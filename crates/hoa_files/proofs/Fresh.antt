@@ -21,7 +21,8 @@ use Rattle.machine.proofs.Tables.{same-table, sort-table}
 use Rattle.machine.proofs.Loading.{loads-back}
 use Rattle.hoa_files.specs.Automata.{Buchi, Readable}
 use Rattle.hoa_files.specs.Tables.{Edge, IsMarked, SetOfStates, RowOf, the-start, the-final, an-edge, a-limit, RowsOf}
-use Rattle.hoa_files.proofs.States.{few-subsets, edge-inside}
+use Rattle.hoa_files.proofs.States.{edge-inside}
+use Rattle.buchi_rows.proofs.Kept.{few-subsets}
 
 -- the rows that there can be: 2, 36 and 63
 abbrev edge-rows-from : ℕ → List Row

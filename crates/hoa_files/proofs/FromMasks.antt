@@ -17,9 +17,9 @@ use Rattle.hoa_files.specs.declared.BuchiMasks.{BuchiMasks}
 use Rattle.hoa_files.specs.Automata.{Buchi, Readable}
 use Rattle.hoa_files.specs.Tables.{RowOf, the-start, the-final, an-edge, a-limit, RowsOf}
 use Rattle.hoa_files.specs.Reading.{edge-place, InMasks}
-use Rattle.hoa_files.specs.Writing.{edge-rows, limit-rows, masked-rows}
+use Rattle.buchi_rows.specs.Writing.{edge-rows, limit-rows, masked-rows}
 use Rattle.hoa_files.proofs.States.{edge-inside}
-use Rattle.hoa_files.proofs.Kept.{meet·}
+use Rattle.buchi_rows.proofs.Kept.{meet·}
 use Rattle.hoa_files.proofs.Ordered.{edge-rows-out, limit-rows-out, edge-at, edge-rows-in, limit-rows-in, edge-rows-kind, limit-rows-kind, edge-rows-once, limit-rows-once, edge-rows-sorted, limit-rows-sorted}
 
 -- the rows of the automaton that the masks hold

@@ -17,8 +17,6 @@ pub mod PartRead
 pub mod BodyRead
 pub mod HeadRead
 -- the rows: as they are written, in order, all of them, of every automaton, and into a fresh machine
-pub mod Kept
-pub mod EdgesLeft
 pub mod Ordered
 pub mod FromMasks
 pub mod IntoMasks

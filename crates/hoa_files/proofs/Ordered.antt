@@ -20,8 +20,8 @@ use Rattle.rows.specs.Rows.{row-bytes, Fits}
 use Rattle.rows.specs.Keys.{high, low}
 use Rattle.rows.proofs.RowOrder.{row-before, row-kind}
 use Rattle.hoa_files.specs.Reading.{edge-place}
-use Rattle.hoa_files.specs.Writing.{edge-row, edge-rows, meet?, limit-row, limit-rows}
-use Rattle.hoa_files.proofs.States.{few-subsets}
+use Rattle.buchi_rows.specs.Writing.{edge-row, edge-rows, meet?, limit-row, limit-rows}
+use Rattle.buchi_rows.proofs.Kept.{few-subsets}
 
 -- the rows of the numbers that pass a test
 module _ (f : ℕ → Row) (t : ℕ → Bool) (a n : ℕ) where

@@ -22,11 +22,10 @@ use Rattle.machine.proofs.Answers.{answer-by}
 use Rattle.hoa_files.specs.Automata.{Buchi, Readable}
 use Rattle.hoa_files.specs.Files.{FileCause}
 use Rattle.hoa_files.specs.Tables.{RowsOf}
-use Rattle.hoa_files.specs.Writing.{edge-row, edge-rows, meet?, limit-row, limit-rows, masked-rows}
+use Rattle.buchi_rows.specs.Writing.{edge-row, edge-rows, meet?, limit-row, limit-rows, masked-rows}
 use Rattle.hoa_files.specs.Promise.{HasTable, Converts, HoaWrites, too-long, refusal, batch, WritesShown}
 use Rattle.hoa_files.proofs.Causes.{file-has-no-cause, cause-once}
-use Rattle.hoa_files.proofs.States.{few-subsets}
-use Rattle.hoa_files.proofs.Kept.{kept-length, edge-length, limit-length}
+use Rattle.buchi_rows.proofs.Kept.{few-subsets, kept-length, edge-length, limit-length}
 use Rattle.hoa_files.proofs.FromMasks.{masked-table, rows-of}
 use Rattle.hoa_files.proofs.IntoMasks.{some-masks}
 use Rattle.hoa_files.proofs.Fresh.{one-table}

@@ -1,12 +1,11 @@
 -- The states of an automaton: which stands where as states are added (`at-old`, `at-new`, `at-either`), that edges lead from state to state
 -- (`edge-inside`), and that marks and edges can be decided (`dec-marked`, `dec-edge`).
-use Prim.Native.Nat.{ℕ, suc, _≤_, _<_, _^_}
+use Prim.Native.Nat.{ℕ, suc, _≤_, _<_}
 use mathlib.Core.Path.{_≡_, refl, sym, ap, subst, _∙_}
 use mathlib.Core.Bool.{Bool, true, false}
 use mathlib.Core.Logic.{_⊎_, inl, inr, ⊎-elim}
 use mathlib.Core.List.{List, [], _∷_, _++_, append-assoc, head-eq-of-cons-eq, tail-eq-of-cons-eq, List·Memᴰ·head, Memᴰ·append-right}
 use lib.ListN.{length, length-append, getD, take, drop, length-take}
-use lib.Pow.{pow-mono}
 use lib.Seq.{getD-at, split-at}
 use native.Mathlib.Omega.{arith}
 use native.Mathlib.Decide.{decLt}
@@ -25,10 +24,6 @@ bare = state-with false []
 -- the automaton of some states, with any start
 abbrev pub with-states : List BuchiState → Buchi
 with-states sts = record { start = 0; states = sts }
-
--- six states have few sets
-pub few-subsets : (n : ℕ) → n ≤ 6 → 2 ^ n ≤ 64
-few-subsets n h = pow-mono {i = n} {j = 6} h
 
 -- ---- which state stands where, as states are added
 

@@ -4,5 +4,4 @@ pub mod Files
 pub mod Tables
 pub mod Cycles
 pub mod Reading
-pub mod Writing
 pub mod Promise

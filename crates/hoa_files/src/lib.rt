@@ -1,5 +1,4 @@
 // Büchi automata from HOA files: a file in, its rows as a batch out.
-pub mod batches;
 pub mod body;
 pub mod heads;
 pub mod parts;
@@ -49,7 +48,7 @@ pub enum ReadFile {
 
 // What the program writes: a text at the start of an array that has room for any.
 pub struct Converted {
-    pub text: [u8; batches::LONGEST],
+    pub text: [u8; buchi_rows::LONGEST],
     pub length: usize,
 }
 
@@ -68,7 +67,7 @@ pub fn convert(file: &[u8], batch: &mut [u8]) -> Answer
     ensures { λ r. ⌜ Converts (now (file .entry)) (now (batch .entry)) (now (batch .exit)) r ⌝ }
 {
     match read(file) {
-        ReadFile::Read(a) => batches::write(batch, a.states, a.start, a.marked, a.edges),
+        ReadFile::Read(a) => buchi_rows::write(batch, a.states, a.start, a.marked, a.edges),
         ReadFile::Refused(cause, place) => Answer::Refused(cause, place),
     }
 }
@@ -93,7 +92,7 @@ fn show(input: &[u8], out: &mut [u8]) -> usize
 pub fn shown(input: &[u8]) -> Converted
     ensures { λ r. ⌜ Shows (now (input .entry)) r ⌝ }
 {
-    let mut text = [0u8; batches::LONGEST];
+    let mut text = [0u8; buchi_rows::LONGEST];
     let length = show(input, &mut text);
     Converted { text, length }
 }

@@ -9,9 +9,9 @@ use Rattle.lists.proofs.Places.{gather-append}
 use Rattle.lists.proofs.Writing.{wrote-at-front, wrote-at-more}
 use Rattle.rows.specs.declared.Row.the-variants.{Initial, Final}
 use Rattle.rows.specs.Rows.{row-bytes, batch-of}
-use Rattle.hoa_files.specs.Writing.{edge-rows, limit-rows, masked-rows}
-use Rattle.hoa_files.proofs.batches.put_rows.Statement.{statement}
-use Rattle.hoa_files.proofs.batches.put_rows.Tie as tie
+use Rattle.buchi_rows.specs.Writing.{edge-rows, limit-rows, masked-rows}
+use Rattle.buchi_rows.proofs.put_rows.Statement.{statement}
+use Rattle.buchi_rows.proofs.put_rows.Tie as tie
 
 -- the initial and the final state have two bytes each
 initial-length : (s : ℕ) → length (row-bytes (Initial s)) ≡ 2

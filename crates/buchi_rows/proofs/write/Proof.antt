@@ -5,9 +5,9 @@ use lib.ListN.{length-take}
 use Rattle.lists.proofs.Writing.{wrote-fits, wrote-back}
 use Rattle.rows.specs.Rows.{batch-of}
 use Rattle.machine.proofs.Answers.{tells-text, tells-short}
-use Rattle.hoa_files.specs.Writing.{masked-rows}
-use Rattle.hoa_files.proofs.batches.write.Statement.{statement}
-use Rattle.hoa_files.proofs.batches.write.Tie as tie
+use Rattle.buchi_rows.specs.Writing.{masked-rows}
+use Rattle.buchi_rows.proofs.write.Statement.{statement}
+use Rattle.buchi_rows.proofs.write.Tie as tie
 
 returns : tie.Need-returns
 returns c =

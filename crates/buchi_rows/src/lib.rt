@@ -1,4 +1,4 @@
-// The rows of an automaton as a batch.
+// The rows of a Büchi automaton of at most six states as a batch, from its masks.
 use machine::Answer;
 use masks::Set;
 use rows::Row;
@@ -7,7 +7,7 @@ ghost use lib.ListN.{length};
 ghost use Rattle.lists.specs.Writing.{Wrote, WroteAt};
 ghost use Rattle.rows.specs.Rows.{row-bytes, batch-of};
 ghost use Rattle.machine.specs.Calls.{TellsText};
-ghost use Rattle.hoa_files.specs.Writing.{edge-rows, limit-row, limit-rows, masked-rows};
+ghost use Rattle.buchi_rows.specs.Writing.{edge-rows, limit-row, limit-rows, masked-rows};
 
 // The state that every limit leads to, and the only final one.
 const FINAL_STATE: u8 = 6;

@@ -3,10 +3,10 @@ use native.Mathlib.Omega.{arith}
 use borrow.Author.Needs.{needs}
 use Rattle.lists.proofs.Writing.{wrote-at-part}
 use Rattle.rows.specs.Rows.{row-bytes}
-use Rattle.hoa_files.specs.Writing.{limit-row}
-use Rattle.hoa_files.proofs.Kept.{limit-length}
-use Rattle.hoa_files.proofs.batches.limit_at.Statement.{statement}
-use Rattle.hoa_files.proofs.batches.limit_at.Tie as tie
+use Rattle.buchi_rows.specs.Writing.{limit-row}
+use Rattle.buchi_rows.proofs.Kept.{limit-length}
+use Rattle.buchi_rows.proofs.limit_at.Statement.{statement}
+use Rattle.buchi_rows.proofs.limit_at.Tie as tie
 
 add-result : tie.Need-add-result
 add-result c =

@@ -8,11 +8,10 @@ use borrow.Author.Needs.{needs}
 use lib.Dec.{lit<}
 use lib.Pow.{pow-pos, shl-exact}
 use Rattle.lists.proofs.Deciding.{alike}
-use Rattle.hoa_files.specs.Writing.{meet?, limit-row, limit-rows}
-use Rattle.hoa_files.proofs.States.{few-subsets}
-use Rattle.hoa_files.proofs.Kept.{meet·, WroteKept, kept-start, kept-next, kept-past, kept-short, limit-length}
-use Rattle.hoa_files.proofs.batches.limits_at.Statement.{statement}
-use Rattle.hoa_files.proofs.batches.limits_at.Tie as tie
+use Rattle.buchi_rows.specs.Writing.{meet?, limit-row, limit-rows}
+use Rattle.buchi_rows.proofs.Kept.{few-subsets, meet·, WroteKept, kept-start, kept-next, kept-past, kept-short, limit-length}
+use Rattle.buchi_rows.proofs.limits_at.Statement.{statement}
+use Rattle.buchi_rows.proofs.limits_at.Tie as tie
 
 abbrev Inv-loop : tie.InvT-loop
 Inv-loop buf₀ at states marked next₀ end set₀ buf next set = (set ≤ 2 ^ states) × WroteKept limit-row (λ P. meet? P marked) 1 buf₀ buf at next set

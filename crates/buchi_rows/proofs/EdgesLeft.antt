@@ -16,8 +16,8 @@ use Rattle.masks.specs.Mask.{member, _∈_, TakesLowest}
 use Rattle.masks.proofs.Digit.{digit-none, digit-not}
 use Rattle.masks.proofs.Member.{member-digit, member-none, member-small}
 use Rattle.rows.specs.Rows.{row-bytes, batch-of}
-use Rattle.hoa_files.specs.Writing.{edge-row, edge-rows}
-use Rattle.hoa_files.proofs.Kept.{kept-length, edge-length}
+use Rattle.buchi_rows.specs.Writing.{edge-row, edge-rows}
+use Rattle.buchi_rows.proofs.Kept.{kept-length, edge-length}
 
 -- tests that are alike keep the same numbers
 keep-alike : (f g : ℕ → Bool) (a n : ℕ) → ((i : ℕ) → a ≤ i → i < a + n → f i ≡ g i) → keep f (range a n) ≡ keep g (range a n)

@@ -4,6 +4,7 @@ use mathlib.Core.Path.{_≡_, refl, ap, sym, _∙_}
 use mathlib.Core.Bool.{Bool, true, false}
 use mathlib.Core.List.{List, [], _∷_, _++_, map, append-assoc, append-nil}
 use lib.ListN.{length, length-map}
+use lib.Pow.{pow-mono}
 use native.Mathlib.Nat.{mul-le-mul-right}
 use native.Mathlib.Omega.{arith}
 use Rattle.lists.specs.Tests.{Decides, put, keep, range}
@@ -15,7 +16,11 @@ use Rattle.masks.specs.Mask.{member, _∈_}
 use Rattle.masks.proofs.Member.{member-lt}
 use Rattle.rows.specs.declared.Row.{Row}
 use Rattle.rows.specs.Rows.{row-bytes, batch-of}
-use Rattle.hoa_files.specs.Writing.{meet?, edge-row, limit-row}
+use Rattle.buchi_rows.specs.Writing.{meet?, edge-row, limit-row}
+
+-- six states have few sets
+pub few-subsets : (n : ℕ) → n ≤ 6 → 2 ^ n ≤ 64
+few-subsets n h = pow-mono {i = n} {j = 6} h
 
 -- two sets have a state in common
 pub meet· : (P Q : ℕ) → Decides (meet? P Q) ((t : ℕ) × (t ∈ P) × (t ∈ Q))

@@ -3,9 +3,9 @@ use lib.Count.{ones}
 use native.Mathlib.Omega.{arith}
 use borrow.Author.Needs.{needs}
 use Rattle.rows.specs.Rows.{row-bytes}
-use Rattle.hoa_files.proofs.EdgesLeft.{WroteFirst, first-start, first-next, first-room, first-end}
-use Rattle.hoa_files.proofs.batches.edges_at.Statement.{statement}
-use Rattle.hoa_files.proofs.batches.edges_at.Tie as tie
+use Rattle.buchi_rows.proofs.EdgesLeft.{WroteFirst, first-start, first-next, first-room, first-end}
+use Rattle.buchi_rows.proofs.edges_at.Statement.{statement}
+use Rattle.buchi_rows.proofs.edges_at.Tie as tie
 
 abbrev Inv-loop : tie.InvT-loop
 Inv-loop buf₀ at edges next₀ left₀ buf next left = WroteFirst edges buf₀ buf at next left

@@ -3,9 +3,9 @@ use native.Mathlib.Omega.{arith}
 use lib.ListN.{length-set}
 use borrow.Author.Needs.{needs}
 use Rattle.lists.proofs.Writing.{wrote-all}
-use Rattle.hoa_files.proofs.Kept.{limit-bytes}
-use Rattle.hoa_files.proofs.batches.put_limit.Statement.{statement}
-use Rattle.hoa_files.proofs.batches.put_limit.Tie as tie
+use Rattle.buchi_rows.proofs.Kept.{limit-bytes}
+use Rattle.buchi_rows.proofs.put_limit.Statement.{statement}
+use Rattle.buchi_rows.proofs.put_limit.Tie as tie
 
 slice-write-buf-2 : tie.Need-slice-write-buf-2
 slice-write-buf-2 c = simp length-set (omega arith)

@@ -1,0 +1,2 @@
+-- The rows of a Büchi automaton, from its masks.
+pub mod Writing
