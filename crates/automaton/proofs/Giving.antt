@@ -15,18 +15,18 @@ use Rattle.rows.specs.declared.Row.{Row}
 use Rattle.rows.specs.declared.Row.the-variants.{Initial, Final, Successor, LeftLimit, RightLimit, Strike}
 use Rattle.rows.specs.Rows as Rows
 use Rattle.rows.specs.Rows.{AllFit}
-use Rattle.rows.proofs.Sets.{sets-rise}
 use Rattle.orderings.specs.Steps.{letter, members, Struck, Unstruck, Possible}
 use Rattle.orderings.proofs.Timelines.{members-iff}
-use Rattle.search.specs.Graph.{part, graph-of, Unindexed}
+use Rattle.search.specs.Graph.{part, graph-of, Unindexed, Indexed}
 use Rattle.search.specs.Masked.{Masked}
 use Rattle.search.proofs.Parts.{past-part, letters-at, sets-at, lefts-at, rights-at}
 use Rattle.row_table.specs.Arrays.{SetsIn}
 use Rattle.automaton.specs.declared.Automaton.{Automaton}
-use Rattle.automaton.specs.Promise.{Gives}
-use Rattle.automaton.specs.Striking.{Strikes}
+use Rattle.automaton.specs.Promise.{Gives, automaton-of}
+use Rattle.automaton.specs.Passed.{Some, Passed}
+use Rattle.automaton.specs.Striking.{Strikes, Finishes}
 use Rattle.automaton.proofs.Adding.{past-padded}
-use Rattle.automaton.proofs.Passing.{Some, Passed}
+use Rattle.automaton.proofs.Passing.{struck-unindexed}
 
 -- r is m without the struck states
 abbrev pub Without : ℕ → ℕ → ℕ → Type 0
@@ -38,8 +38,8 @@ module _ (rows : List Row) (fit : AllFit rows) (sets : List ℕ) (k : ℕ) (coun
   one-row x t f h = ((λ i. let s = h .0 i in Memᴰ·cast (sym (s .2 .0)) (s .1)), λ m. h .1 (x, m, (refl, f m)))
 
   -- the masks before anything was struck, and those of the automaton
-  module _ (old : List ℕ) (initials finals struck : ℕ) (bare : Unindexed old k) (h : Passed sets k rows old initials finals struck) (a : Automaton)
-      (out : Strikes sets k struck old (a .graph)) (ini : Without initials struck (a .initials)) (fin : Without finals struck (a .finals)) where
+  module _ (old : List ℕ) (initials finals struck : ℕ) (bare : Unindexed old k) {Order : Type 0} (o : Order) (h : Passed Order sets k rows old initials finals struck) (a : Automaton)
+      (out : Strikes k struck old (a .graph)) (ini : Without initials struck (a .initials)) (fin : Without finals struck (a .finals)) where
     struck-iff : (s : ℕ) → (s ∈ struck) ↔ Struck rows s
     struck-iff s = one-row (Strike s) s (fit (Strike s)) (h .marks .takes s)
 
@@ -79,10 +79,10 @@ module _ (rows : List Row) (fit : AllFit rows) (sets : List ℕ) (k : ℕ) (coun
         → (r ∈ m′) ↔ ((r ∈ m) × ¬ (i ∈ out .gone) × ¬ (r ∈ struck)) → (r ∈ m′) ↔ (x among rows × Unstruck rows (r ∷ members (getD sets i 0)))
     limit-iff x i r l f m m′ is keeps = (
       (λ j. let w = keeps .0 j in
-          (one-row x r f is .0 (w .0), and-clear r (members P) (w .2) (λ s m g. w .1 (out .is-gone i .1 (l, (s, members-iff P s .0 m, struck-iff s .1 g)))))),
+          (one-row x r f is .0 (w .0), and-clear r (members P) (w .2) (λ s m g. w .1 (out .is-gone i .1 (l, (s, subst (λ m. s ∈ m) (sym (h .kept i l)) (members-iff P s .0 m), struck-iff s .1 g)))))),
       λ (k, u). keeps .1 (
         one-row x r f is .1 k,
-        (λ g. let w = out .is-gone i .0 g .1 in not-struck (w .0) (r ∷ members P) u (List·Memᴰ·tail (members-iff P (w .0) .1 (w .1))) (w .2)),
+        (λ g. let w = out .is-gone i .0 g .1 in not-struck (w .0) (r ∷ members P) u (List·Memᴰ·tail (members-iff P (w .0) .1 (subst (λ m. w .0 ∈ m) (h .kept i l) (w .1)))) (w .2)),
         not-struck r (r ∷ members P) u (List·Memᴰ·head refl),
       ),
     )
@@ -119,9 +119,9 @@ module _ (rows : List Row) (fit : AllFit rows) (sets : List ℕ) (k : ℕ) (coun
             getD-take k (graph-of (a .graph) .sets) i 0 g ∙ set-is i g ∙ sym (getD-take k sets i 0 g)) ∙ are;
         letter-iff = λ p q. letter-iff p q (dec· (ltb· p 64));
         left-iff = λ i r l. rw (lefts-at (a .graph) i (omega arith), set-is i l)
-            (let x = LeftLimit (getD sets i 0) r in limit-iff x i r l (λ m. fit x m .2) _ _ (h .enters (sets-rise rows sets k are count) i r l) (out .lefts (h .size) i l r));
+            (let x = LeftLimit (getD sets i 0) r in limit-iff x i r l (λ m. fit x m .2) _ _ (h .enters o i r l) (out .lefts (h .size) i l r));
         right-iff = λ i r l. rw (rights-at (a .graph) i (omega arith), set-is i l)
-            (let x = RightLimit r (getD sets i 0) in limit-iff x i r l (λ m. fit x m .2) _ _ (h .leaves (sets-rise rows sets k are count) i r l) (out .rights (h .size) i l r));
+            (let x = RightLimit r (getD sets i 0) in limit-iff x i r l (λ m. fit x m .2) _ _ (h .leaves o i r l) (out .rights (h .size) i l r));
       };
       sets-in = λ w. record {
         count = w .count;
@@ -140,6 +140,16 @@ gives-as {rows} {sets} {k} graph new initials finals e g = record {
   initial-iff = g .initial-iff;
   final-iff = g .final-iff;
 }
+
+-- with all rows passed, what was made of the graph
+pub finished : {rows : List Row} → AllFit rows → {sets : List ℕ} {k : ℕ} → k ≡ length (Rows.standing-sets rows) → take k sets ≡ Rows.standing-sets rows → k ≤ 64
+    → {old : List ℕ} {initials finals struck : ℕ} → Unindexed old k → {Order : Type 0} → Order → Passed Order sets k rows old initials finals struck
+    → {new : List ℕ} {i f : ℕ} → Finishes k struck old new → Without initials struck i → Without finals struck f → Gives rows sets k (automaton-of new i f)
+finished {rows} fit {sets} {k} count are few {old} {initials} {finals} {struck} bare o h {new} {i} {f} out ini fin =
+    gives-as (out .left) new i f (out .indexes .graph-stays) (passed-all rows fit sets k count are few old initials finals struck bare o h (automaton-of (out .left) i f) (out .strikes) ini fin)
+
+pub finished-indexed : {k struck : ℕ} {old new : List ℕ} → k ≤ 64 → Unindexed old k → Finishes k struck old new → Indexed new
+finished-indexed few bare out = out .indexes .indexed (struck-unindexed few (out .strikes) bare)
 
 -- the graph holds the sets as the array did that they came from
 pub graph-sets-in : (rows : List Row) (sets : List ℕ) (k : ℕ) (a : Automaton) → Gives rows sets k a → SetsIn rows sets k → SetsIn rows (graph-of (a .graph) .sets) k

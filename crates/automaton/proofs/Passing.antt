@@ -9,60 +9,22 @@ use lib.ListN.{length, getD}
 use native.Mathlib.Omega.{arith}
 use Rattle.lists.specs.Tests.{_among_}
 use Rattle.masks.specs.Mask.{_∈_}
-use Rattle.masks.proofs.Member.{in-none}
-use Rattle.sorted_keys.specs.Keys.{Rising}
+use Rattle.masks.proofs.Member.{lt-or-le, in-none}
 use Rattle.rows.specs.declared.Row.{Row}
 use Rattle.rows.specs.declared.Row.the-variants.{Initial, Final, Successor, LeftLimit, RightLimit, Strike}
 use Rattle.search.specs.Graph.{Unindexed}
-use Rattle.automaton.specs.Promise.{Adds, AddsAt, HasSets, PlaceOf}
+use Rattle.automaton.specs.Passed.{Some, Starts, Ends, Takes, Leads, Enters, Leaves, Marked, Passed}
+use Rattle.automaton.specs.Promise.{Adds, AddsAt, HasSets}
 use Rattle.automaton.specs.Striking.{Strikes}
 use Rattle.automaton.proofs.Adding.{put-iff}
-
--- some row of the list has P
-abbrev pub Some : (Row → Type 0) → List Row → Type 0
-Some P l = (x : Row) × x among l × P x
-
--- what puts a state into a mask
-abbrev Starts : ℕ → Row → Type 0
-Starts t x = (x ≡ Initial t) × (t < 64)
-
-abbrev Ends : ℕ → Row → Type 0
-Ends t x = (x ≡ Final t) × (t < 64)
-
-abbrev Takes : ℕ → Row → Type 0
-Takes t x = (x ≡ Strike t) × (t < 64)
-
-abbrev Leads : ℕ → ℕ → Row → Type 0
-Leads p q x = (a : ℕ) × (x ≡ Successor p a q) × (p < 64) × (q < 64)
-
-abbrev Enters : ℕ → ℕ → Row → Type 0
-Enters P t x = (x ≡ LeftLimit P t) × (t < 64)
-
-abbrev Leaves : ℕ → ℕ → Row → Type 0
-Leaves P t x = (x ≡ RightLimit t P) × (t < 64)
-
--- the masks of the initial, the final and the struck states of the rows of a list
-pub record Marked (l : List Row) (initials finals struck : ℕ) : Type 0 where
-  pub starts : (t : ℕ) → (t ∈ initials) ↔ Some (Starts t) l
-  pub ends : (t : ℕ) → (t ∈ finals) ↔ Some (Ends t) l
-  pub takes : (t : ℕ) → (t ∈ struck) ↔ Some (Takes t) l
-
--- and the graph, as an array of masks, is theirs, with these sets
-pub record Passed (sets : List ℕ) (n : ℕ) (l : List Row) (graph : List ℕ) (initials finals struck : ℕ) : Type 0 where
-  pub size : length graph ≡ 448
-  pub kept : (i : ℕ) → i < n → getD graph (64 + i) 0 ≡ getD sets i 0
-  pub marks : Marked l initials finals struck
-  pub leads : (p q : ℕ) → p < 64 → (q ∈ getD graph p 0) ↔ Some (Leads p q) l
-  pub enters : Rising sets n → (i t : ℕ) → i < n → (t ∈ getD graph (128 + i) 0) ↔ Some (Enters (getD sets i 0) t) l
-  pub leaves : Rising sets n → (i t : ℕ) → i < n → (t ∈ getD graph (192 + i) 0) ↔ Some (Leaves (getD sets i 0) t) l
 
 -- ---- nothing passed
 
 nobody : (P : Row → Type 0) (t : ℕ) {m : ℕ} → m ≡ 0 → (t ∈ m) ↔ Some P []
 nobody P t e = ((λ i. absurd (in-none t (subst (λ m. t ∈ m) e i))), λ p. absurd (List·Memᴰ·not-nil (p .1)))
 
-pub none-passed : (sets : List ℕ) (n : ℕ) (graph : List ℕ) → n ≤ 64 → HasSets sets n graph → Passed sets n [] graph 0 0 0
-none-passed sets n graph few has = record {
+pub none-passed : (Order : Type 0) (sets : List ℕ) (n : ℕ) (graph : List ℕ) → n ≤ 64 → HasSets sets n graph → Passed Order sets n [] graph 0 0 0
+none-passed Order sets n graph few has = record {
   size = has .length-is;
   kept = has .sets-are;
   marks = record { starts = λ t. nobody (Starts t) t refl; ends = λ t. nobody (Ends t) t refl; takes = λ t. nobody (Takes t) t refl };
@@ -76,19 +38,30 @@ none-passed sets n graph few has = record {
 never : _≡_ {A = ℕ} 0 1 → ⊥
 never e = omega arith
 
-module _ (P : Row → Type 0) (l : List Row) (x : Row) where
-  more : Some P (l ++ (x ∷ [])) ↔ (Some P l ⊎ P x)
+-- the rows of l′ are those of l, and x
+abbrev pub Grown : List Row → Row → List Row → Type 0
+Grown l x l′ = (y : Row) → y among l′ ↔ ((y ≡ x) ⊎ y among l)
+
+-- a row put behind the others
+pub grown-last : (l : List Row) (x : Row) → Grown l x (l ++ (x ∷ []))
+grown-last l x y = (
+  (λ m. ⊎-elim inr (λ i. inl (List·Memᴰ·eq-of-singleton i)) (List·Memᴰ·append-cases l m)),
+  ⊎-elim (λ e. Memᴰ·append-right l (List·Memᴰ·head e)) (Memᴰ·append-left (x ∷ [])),
+)
+
+module _ (P : Row → Type 0) {l l′ : List Row} {x : Row} (g : Grown l x l′) where
+  more : Some P l′ ↔ (Some P l ⊎ P x)
   more = (
-    (λ s. ⊎-elim (λ m. inl (s .0, m, s .2)) (λ m. inr (subst P (List·Memᴰ·eq-of-singleton m) (s .2))) (List·Memᴰ·append-cases l (s .1))),
-    ⊎-elim (λ s. (s .0, Memᴰ·append-left (x ∷ []) (s .1), s .2)) (λ p. (x, Memᴰ·append-right l (List·Memᴰ·head refl), p)),
+    (λ s. ⊎-elim (λ e. inr (subst P e (s .2))) (λ m. inl (s .0, m, s .2)) (g (s .0) .0 (s .1))),
+    ⊎-elim (λ s. (s .0, g (s .0) .1 (inr (s .1)), s .2)) (λ p. (x, g x .1 (inl refl), p)),
   )
 
   -- the row adds to the mask
-  own : {X Y : Type 0} → Y ↔ (X ⊎ P x) → X ↔ Some P l → Y ↔ Some P (l ++ (x ∷ []))
+  own : {X Y : Type 0} → Y ↔ (X ⊎ P x) → X ↔ Some P l → Y ↔ Some P l′
   own f h = ((λ y. more .1 (⊎-elim (λ i. inl (h .0 i)) inr (f .0 y))), λ s. f .1 (⊎-elim (λ i. inl (h .1 i)) inr (more .0 s)))
 
   -- it does not
-  other : {X : Type 0} → ¬ P x → X ↔ Some P l → X ↔ Some P (l ++ (x ∷ []))
+  other : {X : Type 0} → ¬ P x → X ↔ Some P l → X ↔ Some P l′
   other n h = ((λ i. more .1 (inl (h .0 i))), λ s. ⊎-elim (h .1) (λ p. absurd (n p)) (more .0 s))
 
 -- a row with one state, in the mask of its kind
@@ -108,90 +81,124 @@ step-own graph new {p} {a} {q} e size put i t = let z : 0 + i ≡ i = omega arit
       inr (sym u, omega (arith, w .2), sym v, omega (arith, w .3))) k),
 )
 
+-- of n sets, x is the one at the place r and no other
+abbrev pub Stands : Type 0 → List ℕ → ℕ → ℕ → ℕ → Type 0
+Stands Order sets n x r = Order → (i : ℕ) → i < n → (i ≡ r) ↔ (getD sets i 0 ≡ x)
+
 -- a limit row, in the mask at the place of its set, in the part of its kind
-limit-own : (f : ℕ → ℕ → Row) → ((P s Q t : ℕ) → f P s ≡ f Q t → (P ≡ Q) × (s ≡ t)) → (sets : List ℕ) (n base : ℕ) → n ≤ 64 → {x : Row} (graph new : List ℕ) (P q at : ℕ)
-    → x ≡ f P q → PlaceOf sets n P at → length graph ≡ 448 → AddsAt graph base at q new
-    → Rising sets n → (i t : ℕ) → i < n → (t ∈ getD new (base + i) 0) ↔ ((t ∈ getD graph (base + i) 0) ⊎ ((x ≡ f (getD sets i 0) t) × (t < 64)))
-limit-own f only sets n base few graph new P q at e there size put o i t l = let is = put-iff graph base at q new size put i t in (
+limit-own : (f : ℕ → ℕ → Row) → ((P s Q t : ℕ) → f P s ≡ f Q t → (P ≡ Q) × (s ≡ t)) → (Order : Type 0) (sets : List ℕ) (n base : ℕ) → n ≤ 64 → {x : Row} (graph new : List ℕ) (P q at : ℕ)
+    → x ≡ f P q → Stands Order sets n P at → length graph ≡ 448 → AddsAt graph base at q new
+    → Order → (i t : ℕ) → i < n → (t ∈ getD new (base + i) 0) ↔ ((t ∈ getD graph (base + i) 0) ⊎ ((x ≡ f (getD sets i 0) t) × (t < 64)))
+limit-own f only Order sets n base few graph new P q at e there size put o i t l = let is = put-iff graph base at q new size put i t in (
   (λ k. ⊎-elim inl (λ w. inr (e ∙ ap₂ f (sym (there o i l .0 (w .0))) (sym (w .2)), omega (arith, w .2, w .3))) (is .0 k)),
   λ k. is .1 (⊎-elim inl (λ w. let g = only P q (getD sets i 0) t (sym e ∙ w .0) in let u = there o i l .1 (sym (g .0)) in
       inr (u, omega arith, sym (g .1), omega (arith, w .1, g .1))) k),
 )
 
-module _ (sets : List ℕ) (n : ℕ) (few : n ≤ 64) {l : List Row} {graph : List ℕ} {initials finals struck : ℕ} (h : Passed sets n l graph initials finals struck) (x : Row) where
+module _ (Order : Type 0) (sets : List ℕ) (n : ℕ) (few : n ≤ 64) {l : List Row} {graph : List ℕ} {initials finals struck : ℕ} (h : Passed Order sets n l graph initials finals struck)
+    {x : Row} {l′ : List Row} (g : Grown l x l′) where
   -- a row with one state: the graph stays
   pass-mark : {i f k : ℕ} → ((p q : ℕ) → ¬ Leads p q x) → ((P t : ℕ) → ¬ Enters P t x) → ((P t : ℕ) → ¬ Leaves P t x)
-      → Marked (l ++ (x ∷ [])) i f k → Passed sets n (l ++ (x ∷ [])) graph i f k
+      → Marked l′ i f k → Passed Order sets n l′ graph i f k
   pass-mark no-step no-left no-right marked = record {
     size = h .size;
     kept = h .kept;
     marks = marked;
-    leads = λ p q j. other (Leads p q) l x (no-step p q) (h .leads p q j);
-    enters = λ o i t k. other (Enters (getD sets i 0) t) l x (no-left (getD sets i 0) t) (h .enters o i t k);
-    leaves = λ o i t k. other (Leaves (getD sets i 0) t) l x (no-right (getD sets i 0) t) (h .leaves o i t k);
+    leads = λ p q j. other (Leads p q) g (no-step p q) (h .leads p q j);
+    enters = λ o i t k. other (Enters (getD sets i 0) t) g (no-left (getD sets i 0) t) (h .enters o i t k);
+    leaves = λ o i t k. other (Leaves (getD sets i 0) t) g (no-right (getD sets i 0) t) (h .leaves o i t k);
   }
 
-  pub pass-initial : {s r : ℕ} → x ≡ Initial s → Adds initials s r → Passed sets n (l ++ (x ∷ [])) graph r finals struck
+  pub pass-initial : {s r : ℕ} → x ≡ Initial s → Adds initials s r → Passed Order sets n l′ graph r finals struck
   pass-initial {s} {r} e is = pass-mark (λ p q w. never (cc (w .1))) (λ P t p. never (cc (p .0))) (λ P t p. never (cc (p .0))) (record {
-    starts = λ t. own (Starts t) l x (state-own Initial (λ a b i. cc) initials s r e is t) (h .marks .starts t);
-    ends = λ t. other (Ends t) l x (λ p. never (cc (p .0))) (h .marks .ends t);
-    takes = λ t. other (Takes t) l x (λ p. never (cc (p .0))) (h .marks .takes t);
+    starts = λ t. own (Starts t) g (state-own Initial (λ a b i. cc) initials s r e is t) (h .marks .starts t);
+    ends = λ t. other (Ends t) g (λ p. never (cc (p .0))) (h .marks .ends t);
+    takes = λ t. other (Takes t) g (λ p. never (cc (p .0))) (h .marks .takes t);
   })
 
-  pub pass-final : {s r : ℕ} → x ≡ Final s → Adds finals s r → Passed sets n (l ++ (x ∷ [])) graph initials r struck
+  pub pass-final : {s r : ℕ} → x ≡ Final s → Adds finals s r → Passed Order sets n l′ graph initials r struck
   pass-final {s} {r} e is = pass-mark (λ p q w. never (cc (w .1))) (λ P t p. never (cc (p .0))) (λ P t p. never (cc (p .0))) (record {
-    starts = λ t. other (Starts t) l x (λ p. never (cc (p .0))) (h .marks .starts t);
-    ends = λ t. own (Ends t) l x (state-own Final (λ a b i. cc) finals s r e is t) (h .marks .ends t);
-    takes = λ t. other (Takes t) l x (λ p. never (cc (p .0))) (h .marks .takes t);
+    starts = λ t. other (Starts t) g (λ p. never (cc (p .0))) (h .marks .starts t);
+    ends = λ t. own (Ends t) g (state-own Final (λ a b i. cc) finals s r e is t) (h .marks .ends t);
+    takes = λ t. other (Takes t) g (λ p. never (cc (p .0))) (h .marks .takes t);
   })
 
-  pub pass-strike : {s r : ℕ} → x ≡ Strike s → Adds struck s r → Passed sets n (l ++ (x ∷ [])) graph initials finals r
+  pub pass-strike : {s r : ℕ} → x ≡ Strike s → Adds struck s r → Passed Order sets n l′ graph initials finals r
   pass-strike {s} {r} e is = pass-mark (λ p q w. never (cc (w .1))) (λ P t p. never (cc (p .0))) (λ P t p. never (cc (p .0))) (record {
-    starts = λ t. other (Starts t) l x (λ p. never (cc (p .0))) (h .marks .starts t);
-    ends = λ t. other (Ends t) l x (λ p. never (cc (p .0))) (h .marks .ends t);
-    takes = λ t. own (Takes t) l x (state-own Strike (λ a b i. cc) struck s r e is t) (h .marks .takes t);
+    starts = λ t. other (Starts t) g (λ p. never (cc (p .0))) (h .marks .starts t);
+    ends = λ t. other (Ends t) g (λ p. never (cc (p .0))) (h .marks .ends t);
+    takes = λ t. own (Takes t) g (state-own Strike (λ a b i. cc) struck s r e is t) (h .marks .takes t);
   })
 
   -- a transition: the masks of states stay
-  marks-stay : ((t : ℕ) → ¬ Starts t x) → ((t : ℕ) → ¬ Ends t x) → ((t : ℕ) → ¬ Takes t x) → Marked (l ++ (x ∷ [])) initials finals struck
+  marks-stay : ((t : ℕ) → ¬ Starts t x) → ((t : ℕ) → ¬ Ends t x) → ((t : ℕ) → ¬ Takes t x) → Marked l′ initials finals struck
   marks-stay no-start no-end no-strike = record {
-    starts = λ t. other (Starts t) l x (no-start t) (h .marks .starts t);
-    ends = λ t. other (Ends t) l x (no-end t) (h .marks .ends t);
-    takes = λ t. other (Takes t) l x (no-strike t) (h .marks .takes t);
+    starts = λ t. other (Starts t) g (no-start t) (h .marks .starts t);
+    ends = λ t. other (Ends t) g (no-end t) (h .marks .ends t);
+    takes = λ t. other (Takes t) g (no-strike t) (h .marks .takes t);
   }
 
   -- the masks of the other parts
   stays : {base at s : ℕ} {new : List ℕ} → AddsAt graph base at s new → (j : ℕ) → (at < 64 → j ≢ base + at) → {S : Type 0} (t : ℕ) → (t ∈ getD graph j 0) ↔ S → (t ∈ getD new j 0) ↔ S
   stays is j apart t f = rw (is .others j apart) f
 
-  pub pass-step : {p a q : ℕ} {new : List ℕ} → x ≡ Successor p a q → AddsAt graph 0 p q new → Passed sets n (l ++ (x ∷ [])) new initials finals struck
+  pub pass-step : {p a q : ℕ} {new : List ℕ} → x ≡ Successor p a q → AddsAt graph 0 p q new → Passed Order sets n l′ new initials finals struck
   pass-step {new = new} e is = record {
     size = is .length-is ∙ h .size;
     kept = λ i j. is .others (64 + i) (λ a b. omega (arith, few)) ∙ h .kept i j;
     marks = marks-stay (λ t p. never (cc (p .0))) (λ t p. never (cc (p .0))) (λ t p. never (cc (p .0)));
-    leads = λ p q j. own (Leads p q) l x (step-own graph new e (h .size) is p q) (h .leads p q j);
-    enters = λ o i t k. stays is (128 + i) (λ a b. omega arith) t (other (Enters (getD sets i 0) t) l x (λ p. never (cc (p .0))) (h .enters o i t k));
-    leaves = λ o i t k. stays is (192 + i) (λ a b. omega arith) t (other (Leaves (getD sets i 0) t) l x (λ p. never (cc (p .0))) (h .leaves o i t k));
+    leads = λ p q j. own (Leads p q) g (step-own graph new e (h .size) is p q) (h .leads p q j);
+    enters = λ o i t k. stays is (128 + i) (λ a b. omega arith) t (other (Enters (getD sets i 0) t) g (λ p. never (cc (p .0))) (h .enters o i t k));
+    leaves = λ o i t k. stays is (192 + i) (λ a b. omega arith) t (other (Leaves (getD sets i 0) t) g (λ p. never (cc (p .0))) (h .leaves o i t k));
   }
 
-  pub pass-left : {P q : ℕ} (at : ℕ) {new : List ℕ} → x ≡ LeftLimit P q → PlaceOf sets n P at → AddsAt graph 128 at q new → Passed sets n (l ++ (x ∷ [])) new initials finals struck
+  pub pass-left : {P q : ℕ} (at : ℕ) {new : List ℕ} → x ≡ LeftLimit P q → Stands Order sets n P at → AddsAt graph 128 at q new → Passed Order sets n l′ new initials finals struck
   pass-left {P} {q} at {new} e there is = record {
     size = is .length-is ∙ h .size;
     kept = λ i j. is .others (64 + i) (λ a b. omega (arith, few)) ∙ h .kept i j;
     marks = marks-stay (λ t p. never (cc (p .0))) (λ t p. never (cc (p .0))) (λ t p. never (cc (p .0)));
-    leads = λ p q j. stays is p (λ a b. omega arith) q (other (Leads p q) l x (λ w. never (cc (w .1))) (h .leads p q j));
-    enters = λ o i t k. own (Enters (getD sets i 0) t) l x (limit-own LeftLimit (λ a b c d i. (cc, cc)) sets n 128 few graph new P q at e there (h .size) is o i t k) (h .enters o i t k);
-    leaves = λ o i t k. stays is (192 + i) (λ a b. omega arith) t (other (Leaves (getD sets i 0) t) l x (λ p. never (cc (p .0))) (h .leaves o i t k));
+    leads = λ p q j. stays is p (λ a b. omega arith) q (other (Leads p q) g (λ w. never (cc (w .1))) (h .leads p q j));
+    enters = λ o i t k. own (Enters (getD sets i 0) t) g (limit-own LeftLimit (λ a b c d i. (cc, cc)) Order sets n 128 few graph new P q at e there (h .size) is o i t k) (h .enters o i t k);
+    leaves = λ o i t k. stays is (192 + i) (λ a b. omega arith) t (other (Leaves (getD sets i 0) t) g (λ p. never (cc (p .0))) (h .leaves o i t k));
   }
 
-  pub pass-right : {P q : ℕ} (at : ℕ) {new : List ℕ} → x ≡ RightLimit q P → PlaceOf sets n P at → AddsAt graph 192 at q new → Passed sets n (l ++ (x ∷ [])) new initials finals struck
+  pub pass-right : {P q : ℕ} (at : ℕ) {new : List ℕ} → x ≡ RightLimit q P → Stands Order sets n P at → AddsAt graph 192 at q new → Passed Order sets n l′ new initials finals struck
   pass-right {P} {q} at {new} e there is = record {
     size = is .length-is ∙ h .size;
     kept = λ i j. is .others (64 + i) (λ a b. omega (arith, few)) ∙ h .kept i j;
     marks = marks-stay (λ t p. never (cc (p .0))) (λ t p. never (cc (p .0))) (λ t p. never (cc (p .0)));
-    leads = λ p q j. stays is p (λ a b. omega arith) q (other (Leads p q) l x (λ w. never (cc (w .1))) (h .leads p q j));
-    enters = λ o i t k. stays is (128 + i) (λ a b. omega arith) t (other (Enters (getD sets i 0) t) l x (λ p. never (cc (p .0))) (h .enters o i t k));
-    leaves = λ o i t k. own (Leaves (getD sets i 0) t) l x (limit-own (λ P q. RightLimit q P) (λ a b c d i. (cc, cc)) sets n 192 few graph new P q at e there (h .size) is o i t k) (h .leaves o i t k);
+    leads = λ p q j. stays is p (λ a b. omega arith) q (other (Leads p q) g (λ w. never (cc (w .1))) (h .leads p q j));
+    enters = λ o i t k. stays is (128 + i) (λ a b. omega arith) t (other (Enters (getD sets i 0) t) g (λ p. never (cc (p .0))) (h .enters o i t k));
+    leaves = λ o i t k. own (Leaves (getD sets i 0) t) g (limit-own (λ P q. RightLimit q P) (λ a b c d i. (cc, cc)) Order sets n 192 few graph new P q at e there (h .size) is o i t k) (h .leaves o i t k);
+  }
+
+-- ---- other sets
+
+module _ {Order : Type 0} {sets : List ℕ} {n : ℕ} {l : List Row} {graph : List ℕ} {initials finals struck : ℕ} (h : Passed Order sets n l graph initials finals struck) where
+  -- the same sets in another list
+  pub passed-as : (sets′ : List ℕ) → ((i : ℕ) → i < n → getD sets′ i 0 ≡ getD sets i 0) → Passed Order sets′ n l graph initials finals struck
+  passed-as sets′ same = record {
+    size = h .size;
+    kept = λ i k. h .kept i k ∙ sym (same i k);
+    marks = h .marks;
+    leads = h .leads;
+    enters = λ o i t k. rw (same i k) (h .enters o i t k);
+    leaves = λ o i t k. rw (same i k) (h .leaves o i t k);
+  }
+
+  -- one set more, which no row has, and no limits at its place
+  pub passed-set : (sets′ graph′ : List ℕ) → n < 64 → length graph′ ≡ 448 → ((i : ℕ) → i < n → getD sets′ i 0 ≡ getD sets i 0) → getD graph′ (64 + n) 0 ≡ getD sets′ n 0
+      → ((j : ℕ) → j ≢ 64 + n → getD graph′ j 0 ≡ getD graph j 0) → getD graph (128 + n) 0 ≡ 0 → getD graph (192 + n) 0 ≡ 0
+      → ((t : ℕ) → ¬ Some (Enters (getD sets′ n 0) t) l) → ((t : ℕ) → ¬ Some (Leaves (getD sets′ n 0) t) l) → Passed Order sets′ (n + 1) l graph′ initials finals struck
+  passed-set sets′ graph′ room size same own others no-left no-right no-enters no-leaves = record {
+    size = size;
+    kept = λ i k. ⊎-elim (λ g. others (64 + i) (λ e. omega arith) ∙ h .kept i g ∙ sym (same i g)) (λ g. let e : i ≡ n = omega arith in rw e own) (lt-or-le i n);
+    marks = h .marks;
+    leads = λ p q k. rw (others p (λ e. omega arith)) (h .leads p q k);
+    enters = λ o i t k. rw (others (128 + i) (λ e. omega arith)) (⊎-elim (λ g. rw (same i g) (h .enters o i t g))
+        (λ g. let e : i ≡ n = omega arith in rw (e, no-left) ((λ m. absurd (in-none t m)), λ s. absurd (no-enters t s))) (lt-or-le i n));
+    leaves = λ o i t k. rw (others (192 + i) (λ e. omega arith)) (⊎-elim (λ g. rw (same i g) (h .leaves o i t g))
+        (λ g. let e : i ≡ n = omega arith in rw (e, no-right) ((λ m. absurd (in-none t m)), λ s. absurd (no-leaves t s))) (lt-or-le i n));
   }
 
 -- ---- nothing stands behind the four parts, and no set from place n on has a limit
@@ -226,7 +233,7 @@ module _ {n : ℕ} {graph : List ℕ} (h : Unindexed graph n) where
       apart : (k : ℕ) → (k ≡ 128) ⊎ (k ≡ 192) → (i : ℕ) → n ≤ i → i < 64 → at < 64 → k + i ≢ base + at
       apart k v i a b c e = ⊎-elim (λ u. ⊎-elim (λ x. ⊎-elim (λ y. omega arith) (λ y. omega arith) v) (λ x. ⊎-elim (λ y. omega arith) (λ y. omega arith) v) q) (λ u. ⊎-elim (λ x. ⊎-elim (λ y. omega arith) (λ y. omega arith) v) (λ x. ⊎-elim (λ y. omega arith) (λ y. omega arith) v) q) w
 
-pub struck-unindexed : {sets : List ℕ} {n struck : ℕ} {old new : List ℕ} → n ≤ 64 → Strikes sets n struck old new → Unindexed old n → Unindexed new n
+pub struck-unindexed : {n struck : ℕ} {old new : List ℕ} → n ≤ 64 → Strikes n struck old new → Unindexed old n → Unindexed new n
 struck-unindexed few out h = record {
   size = out .length-is ∙ h .size;
   no-sets = λ i a b. out .others (64 + i) (inl (omega arith, omega arith)) ∙ h .no-sets i a b;

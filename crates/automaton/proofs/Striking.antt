@@ -26,21 +26,21 @@ remains-some m struck r e is t = (
 
 -- ---- the sets
 
-module _ (sets : List ℕ) (struck : ℕ) where
+module _ (graph : List ℕ) (struck : ℕ) where
   abbrev Meets : ℕ → Type 0
-  Meets i = (s : ℕ) × (s ∈ getD sets i 0) × (s ∈ struck)
+  Meets i = (s : ℕ) × (s ∈ getD graph (64 + i) 0) × (s ∈ struck)
 
-  pub none-struck : StruckSets sets 0 struck 0
+  pub none-struck : StruckSets graph 0 struck 0
   none-struck i = ((λ h. absurd (in-none i h)), λ w. absurd (omega (arith, w .0)))
 
   -- one set more, which has a struck state, or has none
-  pub struck-more : (i m r : ℕ) → StruckSets sets i struck m → Meets i → ((t : ℕ) → member t r ≡ (member t m || eqb t i)) → StruckSets sets (i + 1) struck r
+  pub struck-more : (i m r : ℕ) → StruckSets graph i struck m → Meets i → ((t : ℕ) → member t r ≡ (member t m || eqb t i)) → StruckSets graph (i + 1) struck r
   struck-more i m r is w with-is j = (
     (λ h. ⊎-elim (λ g. let x = is j .0 g in (omega (arith, x .0), x .1)) (λ e. (omega arith, subst Meets (sym e) w)) (with-cases m i r with-is j h)),
     λ x. ⊎-elim (λ g. with-is j ∙ rw (is j .1 (g, x .1))) (λ g. let e : j ≡ i = omega (arith, x .0) in subst (λ y. y ∈ r) (sym e) (with-same m i r with-is)) (lt-or-le j i),
   )
 
-  pub unstruck-more : (i m : ℕ) → StruckSets sets i struck m → ¬ Meets i → StruckSets sets (i + 1) struck m
+  pub unstruck-more : (i m : ℕ) → StruckSets graph i struck m → ¬ Meets i → StruckSets graph (i + 1) struck m
   unstruck-more i m is n j = (
     (λ h. let x = is j .0 h in (omega (arith, x .0), x .1)),
     λ x. ⊎-elim (λ g. is j .1 (g, x .1)) (λ g. let e : j ≡ i = omega (arith, x .0) in absurd (n (subst Meets e (x .1)))) (lt-or-le j i),
@@ -69,8 +69,8 @@ module _ (old : List ℕ) (base gone struck : ℕ) where
 -- ---- all parts
 
 -- no state is struck, and nothing changes
-pub strikes-none : (sets : List ℕ) (n struck : ℕ) (graph : List ℕ) → struck ≡ 0 → Strikes sets n struck graph graph
-strikes-none sets n struck graph e = rw e (record {
+pub strikes-none : (n struck : ℕ) (graph : List ℕ) → struck ≡ 0 → Strikes n struck graph graph
+strikes-none n struck graph e = rw e (record {
   gone = 0;
   is-gone = λ i. ((λ h. absurd (in-none i h)), λ w. absurd (in-none (w .1 .0) (w .1 .2)));
   length-is = refl;
@@ -84,9 +84,9 @@ strikes-none sets n struck graph e = rw e (record {
     all i m t = ((λ x. (x, in-none i, in-none t)), λ w. w .0)
 
 -- letters, then left limits, then right limits
-pub strikes-all : (sets : List ℕ) (n struck gone : ℕ) (g₀ g₁ g₂ g₃ : List ℕ) → n ≤ 64 → StruckSets sets n struck gone
-    → LeavesOut g₀ 0 64 struck struck g₁ → LeavesOut g₁ 128 n gone struck g₂ → LeavesOut g₂ 192 n gone struck g₃ → Strikes sets n struck g₀ g₃
-strikes-all sets n struck gone g₀ g₁ g₂ g₃ few is a b c = record {
+pub strikes-all : (n struck gone : ℕ) (g₀ g₁ g₂ g₃ : List ℕ) → n ≤ 64 → StruckSets g₀ n struck gone
+    → LeavesOut g₀ 0 64 struck struck g₁ → LeavesOut g₁ 128 n gone struck g₂ → LeavesOut g₂ 192 n gone struck g₃ → Strikes n struck g₀ g₃
+strikes-all n struck gone g₀ g₁ g₂ g₃ few is a b c = record {
   gone = gone;
   is-gone = is;
   length-is = c .length-is ∙ b .length-is ∙ a .length-is;

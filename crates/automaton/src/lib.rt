@@ -19,7 +19,7 @@ ghost use Prim.Native.Nat.{_≤_, _<_};
 ghost use lib.ListN.{replicate};
 ghost use Rattle.search.specs.Graph.{Indexed};
 ghost use Rattle.automaton.specs.Promise.{Adds, AddsAt, HasSets, PlaceOf, GivesKeyed, automaton-of};
-ghost use Rattle.automaton.specs.Striking.{Remains, StruckSets, LeavesOut, Strikes};
+ghost use Rattle.automaton.specs.Striking.{Remains, StruckSets, LeavesOut, Strikes, Finishes};
 
 // The graph of some rows as one array of masks; their initial and their final states.
 pub struct Automaton {
@@ -91,14 +91,14 @@ fn remaining(m: Set, goes: bool, struck: Set) -> Set
 }
 
 // The places of the first `n` sets that have a struck state.
-fn struck_sets(sets: &[Set; MOST_SETS], set_count: usize, struck: Set) -> Places
+fn struck_sets(graph: &Masks, set_count: usize, struck: Set) -> Places
     requires { ⌜ «set_count» ≤ 64 ⌝ }
-    ensures { λ r. ⌜ StruckSets (now (sets .entry)) «set_count» struck r ⌝ }
+    ensures { λ r. ⌜ StruckSets (now (graph .entry)) «set_count» struck r ⌝ }
 {
     let mut places: Places = 0;
     let mut i = 0;
     while i < set_count {
-        if masks::meets(sets[i], struck) {
+        if masks::meets(graph[SETS + i], struck) {
             places = masks::with(places, i as u8);
         }
         i += 1;
@@ -121,21 +121,30 @@ fn leave_out(graph: &mut Masks, base: usize, count: usize, gone: Places, struck:
 }
 
 // Request C-18: letter steps at struck states go, limits at them, and all limits of the sets that have one.
-fn strike(graph: &mut Masks, sets: &[Set; MOST_SETS], set_count: usize, struck: Set)
+fn strike(graph: &mut Masks, set_count: usize, struck: Set)
     requires { ⌜ «set_count» ≤ 64 ⌝ }
-    ensures { λ _. ⌜ Strikes (now (sets .entry)) «set_count» struck (now (graph .entry)) (now (graph .exit)) ⌝ }
+    ensures { λ _. ⌜ Strikes «set_count» struck (now (graph .entry)) (now (graph .exit)) ⌝ }
 {
     if struck == 0 {
         return;
     }
-    let gone = struck_sets(sets, set_count, struck);
+    let gone = struck_sets(graph, set_count, struck);
     leave_out(graph, 0, PLACES, struck, struck);
     leave_out(graph, LEFTS, set_count, gone, struck);
     leave_out(graph, RIGHTS, set_count, gone, struck);
 }
 
+// Of the masks of all rows, what struck states take away goes, and what says which sets a state touches is written once.
+pub fn finish(graph: &mut Masks, set_count: usize, struck: Set)
+    requires { ⌜ «set_count» ≤ 64 ⌝ }
+    ensures { λ _. ⌜ Finishes «set_count» struck (now (graph .entry)) (now (graph .exit)) ⌝ }
+{
+    strike(graph, set_count, struck);
+    graphs::index(graph, set_count);
+}
+
 // Fills a graph that has nothing yet from the rows that have the first `n` keys, whose sets are the first `k`: each row adds one state to
-// one mask. Then what struck states take away goes, and what says which sets a state touches is written once.
+// one mask.
 pub fn fill(
     graph: &mut Masks,
     high: &[u64; MOST_ROWS],
@@ -167,8 +176,7 @@ pub fn fill(
         }
         i += 1;
     }
-    strike(graph, sets, set_count, struck);
-    graphs::index(graph, set_count);
+    finish(graph, set_count, struck);
     Endpoints {
         initials: masks::difference(initials, struck),
         finals: masks::difference(finals, struck),

@@ -1,4 +1,5 @@
--- A table that is judged: the verdict of its machine. One that is closed and settled: what its machine prints, or writes as an expression.
+-- A table that is judged: the verdict of its machine (`is-judged`). One that is closed and settled: what its machine prints (`is-printed`), or writes
+-- as an expression (`is-expressed`, `none-expressed`).
 use Prim.Native.Nat.{ℕ, _≤_}
 use mathlib.Core.Path.{_≡_, ap, sym, _∙_, subst}
 use mathlib.Core.List.{List}
@@ -12,8 +13,8 @@ use Rattle.machine.specs.declared.Phase.the-variants.{Settled}
 use Rattle.machine.specs.declared.Verdict.{Verdict}
 use Rattle.machine.specs.declared.Verdict.the-variants.{NonEmpty, Empty}
 use Rattle.machine.specs.Machine.{Machine, open-with}
-use Rattle.machine.specs.Calls.{Call, verdict, expression, Next, refuse, verdict-of, call-in, call, run, settle, Tells}
-use Rattle.machine.specs.Causes.{NeedsClosed, printing, expressing, NeedsSettled, to-print, to-express, expresses}
+use Rattle.machine.specs.Calls.{Call, verdict, print, expression, Next, refuse, verdict-of, call-in, call, run, settle, Tells}
+use Rattle.machine.specs.Causes.{expresses}
 use Rattle.machine.specs.WellFormed.{Table}
 use Rattle.machine.proofs.Settling.{settles, after-after}
 use Rattle.machine.proofs.Answers.{tells-as, tells-decided, tells-refused}
@@ -24,46 +25,24 @@ use Rattle.machine.proofs.Ending.{rounds-end}
 use Rattle.machine.proofs.Program.{settled-formed}
 use Rattle.search.specs.Graph.{graph-of}
 use Rattle.automaton.specs.declared.Automaton.{Automaton}
-use Rattle.automaton.specs.Promise.{Gives, GivesKeyed}
+use Rattle.automaton.specs.Promise.{Gives}
 use Rattle.rounds.specs.declared.Progress.{Progress}
 use Rattle.rounds.specs.Promises.{Given, Mirrors, Settles as SettlesRows}
 use Rattle.rising.specs.Promises.{Judges}
 use Rattle.row_table.specs.Arrays.{Filed}
+use Rattle.row_table.specs.Letters.{LettersIn}
 use Rattle.expression.specs.Promise.{ExpressesWalk}
-use Rattle.whole_sheet.proofs.Automata.{gives-filed, given-rows}
-use Rattle.checker.specs.declared.Text.{Text}
-use Rattle.checker.specs.declared.Text.the-variants.{Sheet, Expression}
-use Rattle.checker.specs.Promise.{call-for, TellsSettled}
+use Rattle.loader.specs.declared.LoadedGraph.{LoadedGraph}
+use Rattle.loader.specs.Promise.{HoldsGraph}
+use Rattle.whole_sheet.specs.Promise.{PrintsSheet}
+use Rattle.whole_sheet.proofs.Automata.{given-rows}
 
--- a call for a text is refused when open and when running
-pub for-closed : (text : Text) (size : ℕ) → NeedsClosed (call-for text size)
-for-closed Sheet size = printing size
-for-closed Expression size = expressing size
+-- what a load leaves, as the rounds are given it
+pub given-of : {rows : List Row} → Table rows → {graph letters : List ℕ} {r : LoadedGraph} → HoldsGraph graph letters r rows → Given rows (graph-of graph) (r .initials) (r .finals) (r .«set_count»)
+given-of t h = given-rows t (h .sets-in) (h .gives)
 
-pub for-settled : (text : Text) (size : ℕ) → NeedsSettled (call-for text size)
-for-settled Sheet size = to-print size
-for-settled Expression size = to-express size
-
--- the machine that is not in the phase for a call refuses
-refuses : (m : Machine) (p : Phase) (c : Call) (number : ℕ) (old : List ℕ) → m .phase ≡ p → ((y : Machine) → call-in p y c ≡ refuse y number) → Tells (call m c .answer) old old (Refused number 0)
-refuses m p c number old e h = tells-as (ap (λ (x : Next). x .answer) (sym (ap (λ (x : Phase). call-in x m c) e ∙ h m))) (tells-refused number 0 old)
-
--- the expression of a settled table: of one settled as non-empty, and of one settled as empty
-module _ (highs lows : List ℕ) (n : ℕ) (sets : List ℕ) (k : ℕ) (a : Automaton) (d : Progress) (old : List ℕ) where
-  pub is-expressed : (new : List ℕ) (r : Answer) → ExpressesWalk highs lows n k a d old new r → TellsSettled Expression NonEmpty highs lows n sets k a d old new r
-  is-expressed new r h m w e f g s = tells-as (ap (λ (x : Next). x .answer) (sym (writing m (expresses (length old) e)))) (h m sets w e f g s)
-
-  pub none-expressed : TellsSettled Expression Empty highs lows n sets k a d old old (Refused 17 0)
-  none-expressed m w e f g s = refuses m (Settled Empty) (expression (length old)) 17 old e (empty-refuses (length old))
-
-module _ (rows : List Row) (t : Table rows) (highs lows sets : List ℕ) (n k : ℕ) (f : Filed highs lows sets n k rows)
-    (a : Automaton) (g : GivesKeyed highs lows n sets k a) where
-  gives : Gives rows sets k a
-  gives = gives-filed t f g
-
-  given : Given rows (graph-of (a .graph)) (a .initials) (a .finals) k
-  given = given-rows t (f .1) gives
-
+-- the masks of a table, as the rounds are given them
+module _ (rows : List Row) (t : Table rows) (k : ℕ) (a : Automaton) (given : Given rows (graph-of (a .graph)) (a .initials) (a .finals) k) where
   -- the verdict of an open machine
   pub is-judged : (old : List ℕ) (v : Verdict) → Judges (graph-of (a .graph)) (a .initials) (a .finals) k v → Tells (call (open-with rows) verdict .answer) old old (Decided v)
   is-judged old v h = rw (h rows given) (tells-as (ap (λ (x : Next). x .answer) (sym (deciding (open-with rows)))) (tells-decided (verdict-of rows) old))
@@ -82,13 +61,26 @@ module _ (rows : List Row) (t : Table rows) (highs lows sets : List ℕ) (n k : 
     pub few-done : d .rounds ≤ 129
     few-done = omega (arith, kept .count-is, rounds-end m (settled-formed rows t) .so-far)
 
-    -- a machine that is not settled refuses
+    -- the machine that is not in the phase for a call refuses
     pub not-settled : (p : Phase) (number : ℕ) (c : Call) (old : List ℕ) → d .phase ≡ p → ((y : Machine) → call-in p y c ≡ refuse y number) → Tells (call m c .answer) old old (Refused number 0)
-    not-settled p number c old e h = refuses m p c number old (sym (kept .phase-is) ∙ e) h
+    not-settled p number c old e h =
+        tells-as (ap (λ (x : Next). x .answer) (sym (ap (λ (x : Phase). call-in x m c) (sym (kept .phase-is) ∙ e) ∙ h m))) (tells-refused number 0 old)
 
-    -- one that is settled gives its text
-    pub is-settled : (text : Text) (v : Verdict) → d .phase ≡ Settled v → (old new : List ℕ) (r : Answer) → TellsSettled text v highs lows n sets k a d old new r
-        → Tells (call m (call-for text (length old)) .answer) old new r
-    is-settled text v e old new r h =
-        h m (settled-formed rows t) (sym (kept .phase-is) ∙ e) (subst (λ (l : List Row). Filed highs lows sets n k l) (sym same-rows) f)
-        (subst (λ (l : List Row). Gives l sets k a) (sym same-rows) gives) kept
+    -- its sheet
+    pub is-printed : (v : Verdict) → d .phase ≡ Settled v → (words : List ℕ) (n : ℕ) → LettersIn rows words n → (old new : List ℕ) (r : Answer) → PrintsSheet v words n k a d old new r
+        → Tells (call m (print (length old)) .answer) old new r
+    is-printed v e words n letters old new r h =
+        h m (settled-formed rows t) (sym (kept .phase-is) ∙ e) (subst (λ (l : List Row). LettersIn l words n) (sym same-rows) letters)
+        (subst (λ (l : List Row). Given l (graph-of (a .graph)) (a .initials) (a .finals) k) (sym same-rows) given) kept
+
+    -- its expression, where it is settled as non-empty
+    pub is-expressed : (v : Verdict) → d .phase ≡ Settled v → v ≡ NonEmpty → (highs lows : List ℕ) (n : ℕ) (sets : List ℕ) → Filed highs lows sets n k rows → Gives rows sets k a
+        → (old new : List ℕ) (r : Answer) → ExpressesWalk highs lows n k a d old new r → Tells (call m (expression (length old)) .answer) old new r
+    is-expressed v e is highs lows n sets filed gives old new r h =
+        let phase = sym (kept .phase-is) ∙ e ∙ ap Settled is in
+        tells-as (ap (λ (x : Next). x .answer) (sym (writing m (expresses (length old) phase))))
+        (h m sets (settled-formed rows t) phase (subst (λ (l : List Row). Filed highs lows sets n k l) (sym same-rows) filed) (subst (λ (l : List Row). Gives l sets k a) (sym same-rows) gives) kept)
+
+    -- and where it is settled as empty
+    pub none-expressed : (v : Verdict) → d .phase ≡ Settled v → v ≡ Empty → (old : List ℕ) → Tells (call m (expression (length old)) .answer) old old (Refused 17 0)
+    none-expressed v e is old = not-settled (Settled Empty) 17 (expression (length old)) old (e ∙ ap Settled is) (empty-refuses (length old))

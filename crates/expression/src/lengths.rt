@@ -13,7 +13,7 @@ use walks::Choice;
 ghost use mathlib.Core.Path.{_≡_};
 ghost use Prim.Native.Nat.{ℕ, _+_, _≤_, _<_};
 ghost use lib.ListN.{length};
-ghost use Rattle.search.specs.Graph.{graph-of};
+ghost use Rattle.search.specs.Graph.{graph-of, Indexed};
 ghost use Rattle.tours.specs.Frames.{LowShape};
 ghost use Rattle.tours.specs.Cursors.{LowChoice};
 ghost use Rattle.expression.specs.Frames.{LeadsOn};
@@ -127,7 +127,7 @@ pub fn of_frame(
     frame: Frame,
     most: usize,
 ) -> Length
-    requires { ⌜ («row_count» ≤ 256) × («set_count» ≤ 64) × LowShape (frame .shape) ⌝ }
+    requires { ⌜ («row_count» ≤ 256) × («set_count» ≤ 64) × LowShape (frame .shape) × Indexed (now back) ⌝ }
     ensures { λ r. ⌜ MeasuresFrame (now (high .entry)) (now (low .entry)) «row_count» (graph-of (now (back .entry)))
         «set_count» (now (bytes .entry)) frame most r ⌝ }
 {
@@ -156,7 +156,8 @@ fn note_round(
     round: u8,
     most: usize,
 )
-    requires { ⌜ («row_count» ≤ 256) × («set_count» ≤ 64) × (0 < round) × (length (now bytes) ≡ 128) ⌝ }
+    requires { ⌜ («row_count» ≤ 256) × («set_count» ≤ 64) × (0 < round) × (length (now bytes) ≡ 128)
+        × Indexed (now back) ⌝ }
     ensures sized { λ _. ⌜ length (now (bytes .exit)) ≡ 128 ⌝ }
     ensures notes { λ _. ⌜ NotesRound (now (high .entry)) (now (low .entry)) «row_count» (graph-of (now (back .entry)))
         «set_count» (now (opened .entry)) round most (now (bytes .entry)) (now (bytes .exit)) ⌝ }
@@ -184,7 +185,8 @@ pub fn note_all(
     rounds: u8,
     most: usize,
 )
-    requires { ⌜ («row_count» ≤ 256) × («set_count» ≤ 64) × (rounds ≤ 129) × (length (now bytes) ≡ 128) ⌝ }
+    requires { ⌜ («row_count» ≤ 256) × («set_count» ≤ 64) × (rounds ≤ 129) × (length (now bytes) ≡ 128)
+        × Indexed (now back) ⌝ }
     ensures { λ _. ⌜ NotesAll (now (high .entry)) (now (low .entry)) «row_count» (graph-of (now (back .entry)))
         «set_count» (now (opened .entry)) rounds most (now (bytes .exit)) ⌝ }
 {

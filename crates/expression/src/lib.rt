@@ -19,6 +19,7 @@ ghost use mathlib.Core.Path.{_≡_};
 ghost use Prim.Native.Nat.{_≤_};
 ghost use mathlib.Core.List.{_++_};
 ghost use lib.ListN.{length};
+ghost use Rattle.search.specs.Graph.{Indexed};
 ghost use Rattle.automaton.specs.Promise.{automaton-of};
 ghost use Rattle.expression.specs.Promise.{ExpressesWalk};
 
@@ -49,7 +50,7 @@ pub fn express(
     finals: Set,
     rounds: Progress,
 ) -> Answer
-    requires { ⌜ («row_count» ≤ 256) × («set_count» ≤ 64) × (rounds .rounds ≤ 129) ⌝ }
+    requires { ⌜ («row_count» ≤ 256) × («set_count» ≤ 64) × (rounds .rounds ≤ 129) × Indexed (now graph) ⌝ }
     ensures sized { λ _. ⌜ length (now (buffer .exit)) ≡ length (now (buffer .entry)) ⌝ }
     ensures expresses { λ r. ⌜ ExpressesWalk (now (high .entry)) (now (low .entry)) «row_count» «set_count»
         (automaton-of (now (graph .entry)) initials finals) rounds (now (buffer .entry)) (now (buffer .exit)) r ⌝ }
@@ -59,7 +60,7 @@ pub fn express(
     let count = rounds.rounds;
     let opened = opened_in(&looped, &mixed);
     let mut back = [0u64; MASKS];
-    graphs::turn(graph, &mut back);
+    graphs::turn_indexed(graph, &mut back);
     let most = buffer.len();
     let mut bytes = [0usize; CLAIMS];
     lengths::note_all(

@@ -16,7 +16,7 @@ ghost use Prim.Native.Nat.{_+_, _≤_, _<_};
 ghost use lib.ListN.{length};
 ghost use Rattle.lists.specs.Tests.{Decides};
 ghost use Rattle.machine.specs.Text.{number-text};
-ghost use Rattle.search.specs.Graph.{graph-of};
+ghost use Rattle.search.specs.Graph.{graph-of, Indexed};
 ghost use Rattle.tours.specs.Frames.{LowShape};
 ghost use Rattle.expression.specs.Texts.{before-text, open-text, close-text};
 ghost use Rattle.expression.specs.Promise.{PutsAt, PutsFrame};
@@ -108,7 +108,7 @@ pub fn put(
     set_count: usize,
     frame: Frame,
 ) -> usize
-    requires { ⌜ («row_count» ≤ 256) × («set_count» ≤ 64) × LowShape (frame .shape) ⌝ }
+    requires { ⌜ («row_count» ≤ 256) × («set_count» ≤ 64) × LowShape (frame .shape) × Indexed (now back) ⌝ }
     ensures sized { λ _. ⌜ length (now (buf .exit)) ≡ length (now (buf .entry)) ⌝ }
     ensures within { λ r. ⌜ r ≤ length (now (buf .exit)) ⌝ }
     ensures puts { λ r. ⌜ PutsFrame (now (high .entry)) (now (low .entry)) «row_count» (graph-of (now (back .entry)))

@@ -1,5 +1,5 @@
 -- What stands at a place of a list (`getD-map`, `held-at`), the place of what stands in it (`place-of`, `held-place`), and the order of places in
--- a sorted list (`sorted-at`, `rising`).
+-- a sorted list (`sorted-at`, `rising`, `rising-sorted`).
 use Prim.Native.Nat.{ℕ, zero, suc, _+_, _≤_, _<_}
 use mathlib.Core.Path.{_≡_, refl, ap, sym, _∙_, subst}
 use mathlib.Core.Bool.{Bool, true, false, false≢true}
@@ -108,3 +108,11 @@ pub rising : (l : List ℕ) → Sorted (λ (P : ℕ). P ∷ []) l → Once l →
 rising l s o i j h k =
     ⊎-elim (λ g. g) (λ p. absurd (false≢true (p .1)))
     (before· (getD l i 0) (getD l j 0) [] [] .to (sorted-at (λ (P : ℕ). P ∷ []) 0 l (λ x y p q e. cc) s o i j h k))
+
+-- and numbers that rise are in order, none twice
+pub rising-sorted : (l : List ℕ) → ((i j : ℕ) → i < j → j < length l → getD l i 0 < getD l j 0) → Sorted (λ (P : ℕ). P ∷ []) l × Once l
+rising-sorted [] r = (tt, tt)
+rising-sorted (x ∷ l) r = let s = rising-sorted l (λ i j h k. r (suc i) (suc j) (omega arith) (omega arith)) in (
+  ((λ y m g. let (j, h, e) = place-of l y m in ⊎-elim (λ z. omega (arith, r 0 (suc j) (omega arith) (omega arith), e)) (λ z. false≢true (z .1)) (before· y x [] [] .to g)), s .0),
+  ((λ m. let (j, h, e) = place-of l x m in omega (arith, r 0 (suc j) (omega arith) (omega arith), e)), s .1),
+)

@@ -1,7 +1,8 @@
 -- The openings of a machine that calls make: each claim once, and it holds with the claims opened in earlier rounds (`grounded`), none of a round that
--- is not done (`round-most`).
+-- is not done (`round-most`); they are the claims open after some rounds (`open-by`).
 use Prim.Native.Nat.{ℕ, zero, suc, _≤_}
 use mathlib.Core.Path.{_≡_, refl, ap, sym, subst}
+use mathlib.Core.Logic.{_↔_}
 use mathlib.Core.List.{List, [], map, List·Memᴰ·not-nil}
 use native.Mathlib.Omega.{arith}
 use Rattle.lists.specs.Tests.{_among_, Once}
@@ -15,7 +16,7 @@ use Rattle.orderings.proofs.Depths.{holds-more}
 use Rattle.orderings.proofs.Timelines.{lawful}
 use Rattle.machine.specs.declared.Phase.{Phase}
 use Rattle.machine.specs.declared.Phase.the-variants.{Open, Running, Settled}
-use Rattle.machine.specs.Machine.{Opening, Machine}
+use Rattle.machine.specs.Machine.{Opening, Machine, open-with, open-claims}
 use Rattle.machine.specs.WellFormed.{after, Worked, Made, WellFormed}
 use Rattle.machine.specs.Statements.{opening-key}
 use Rattle.machine.specs.Word.{Before}
@@ -64,6 +65,25 @@ module _ (rows : List Row) (k : ℕ) where
       holds o i (suc j) g h = holds-more S (lawful rows) (λ d x. before j o i g d x) (o .claim) (h .0)
 
 module _ (m : Machine) (w : WellFormed m) where
+  abbrev OpenAt : Machine → Type 0
+  OpenAt x = (k : ℕ) × ((c : Claim) → c among open-claims x ↔ OpenBy (timelines (m .rows)) k c)
+
+  -- its claims are those that are open after some rounds
+  pub open-by : OpenAt m
+  unfolding OpenBy
+  open-by = by (m .phase) (w .made)
+    where
+      worked : Worked m → OpenAt m
+      worked k = subst OpenAt (sym (k .1)) (k .0, after-after (m .rows) (k .0) .claims)
+
+      none : OpenAt (open-with (m .rows))
+      none = (0, λ c. (List·Memᴰ·not-nil, λ o. absurd o))
+
+      by : (p : Phase) → Made m p → OpenAt m
+      by Open k = subst OpenAt (sym k) none
+      by Running k = worked k
+      by (Settled v) k = worked k
+
   pub grounded : Grounded (m .rows) (m .openings)
   grounded = by (m .phase) (w .made)
     where

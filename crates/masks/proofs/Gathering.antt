@@ -1,7 +1,7 @@
 -- Loops over the places of a mask, the lowest first. `gather-less` and `gather-more` answer the loop's needs where what each place gives is
--- gathered in a mask; `passed-more` where a place passed has a property.
+-- gathered in a mask; `here-end` where each place gives itself or nothing; `passed-more` where a place passed has a property.
 use Prim.Native.Nat.{ℕ}
-use mathlib.Core.Path.{_≡_, subst, sym}
+use mathlib.Core.Path.{_≡_, refl, subst, sym}
 use mathlib.Core.Bool.{_||_}
 use mathlib.Core.Logic.{_⊎_, inl, inr, ⊎-elim, _↔_, _≢_}
 use lib.Dec.{eqb}
@@ -40,6 +40,16 @@ gather-start = record { through = passed-start; sound = λ t h. absurd (in-none 
 pub gather-end : {B : ℕ → ℕ → Type 0} {places rest r : ℕ} → Gathered B places rest r → rest ≡ 0
     → (t : ℕ) → (t ∈ r) ↔ ((i : ℕ) × (i ∈ places) × B i t)
 gather-end g none t = (g .sound t, λ p. passed-end (g .through) none (p .0) (p .1) t (p .2))
+
+-- the place i alone, where A holds of it
+abbrev pub Here : (ℕ → Type 0) → ℕ → ℕ → Type 0
+Here A i t = (t ≡ i) × A i
+
+pub here-end : (A : ℕ → Type 0) {places rest r : ℕ} → Gathered (Here A) places rest r → rest ≡ 0 → (i : ℕ) → (i ∈ r) ↔ ((i ∈ places) × A i)
+here-end A {places} now none i = let all = gather-end now none i in (
+  (λ h. let x = all .0 h in (subst (λ (j : ℕ). j ∈ places) (sym (x .2 .0)) (x .1), subst A (sym (x .2 .0)) (x .2 .1))),
+  λ h. all .1 (i, h .0, (refl, h .1)),
+)
 
 -- the lowest place is taken from the rest, and what it gives is added
 pub gather-more : {B : ℕ → ℕ → Type 0} {places rest low rest′ : ℕ} (r g r′ : ℕ) → TakesLowest rest low rest′ → Gathered B places rest r

@@ -1,5 +1,5 @@
 -- Laws of membership: a state and a set (`member-lt`, `member-small`, `has-test`), the operations on sets (`member-and`, `member-or`, `member-difference`,
--- `member-with`, and what each has: `union-cases`, `difference-cases`), sets with the same states (`same`).
+-- `member-with`, `below-iff`, and what each has: `union-cases`, `difference-cases`), sets with the same states (`same`).
 use Prim.Native.Nat.{ℕ, zero, suc, _-_, _*_, _/_, _%_, _^_, _≤_, _<_}
 use mathlib.Core.Path.{_≡_, refl, sym, ap, ap₂, _∙_}
 use mathlib.Core.Bool.{Bool, true, false, not, _&&_, _||_, and-eq-true-iff, true≢false, or-true}
@@ -8,7 +8,7 @@ use native.Mathlib.Nat.{one-mul, mod-le, pow-suc, pow-le-pow-right}
 use native.Mathlib.Decide.{decLt}
 use native.Mathlib.Omega.{arith}
 use lib.Dec.{eqb, ltb, lit<}
-use lib.Pow.{shl-exact}
+use lib.Pow.{pow-pos, shl-exact}
 use lib.Bits.{bitAnd, bitOr, and-mask, or-lt}
 use borrow.Author.Tests.{ltb-true, lt-ltb, le-ltb, eqb-true, eq-eqb, ne-eqb, not-true}
 use Rattle.masks.specs.Mask.{member, _∈_, _⊆_}
@@ -87,11 +87,21 @@ member-single t s l =
     ⊎-elim (λ h. member-digit t (2 ^ s) h ∙ digit-single t s)
     (λ (h : 64 ≤ t). member-past t (2 ^ s) h ∙ sym (ne-eqb t s (λ e. omega arith))) (lt-or-le t 64)
 
+-- `1 << s`: nothing is shifted out
+pub shifted : (s : ℕ) → s < 64 → (1 * 2 ^ s) % 2 ^ 64 ≡ 2 ^ s
+shifted s h = shl-exact 1 s 64 (lit< tt) (omega arith) ∙ one-mul (2 ^ s)
+
 -- `m | (1 << s)`
 pub member-with : (t m s : ℕ) → s < 64 → member t (bitOr m ((1 * 2 ^ s) % 2 ^ 64)) ≡ (member t m || eqb t s)
-member-with t m s h =
-    let e : (1 * 2 ^ s) % 2 ^ 64 ≡ 2 ^ s = shl-exact 1 s 64 (lit< tt) (omega arith) ∙ one-mul (2 ^ s) in
-    member-or t m ((1 * 2 ^ s) % 2 ^ 64) ∙ ap (λ (x : Bool). member t m || x) (ap (member t) e ∙ member-single t s h)
+member-with t m s h = member-or t m ((1 * 2 ^ s) % 2 ^ 64) ∙ ap (λ (x : Bool). member t m || x) (ap (member t) (shifted s h) ∙ member-single t s h)
+
+-- `(1 << n) - 1`
+pub below-iff : (n : ℕ) → n ≤ 64 → (t : ℕ) → (t ∈ (2 ^ n - 1)) ↔ (t < n)
+below-iff n h t = (
+  member-small n t (2 ^ n - 1) (omega (arith, pow-pos n)),
+  λ l. let e : 2 ^ n - 1 - 0 ≡ 2 ^ n - 1 = omega arith in
+      ap (member t) (sym e) ∙ member-digit t (2 ^ n - 1 - 0) (omega arith) ∙ digit-not t n 0 l (pow-pos n) ∙ ap not (digit-none t),
+)
 
 -- a set of n states and one state more is one
 pub with-state : (n m s : ℕ) → n ≤ 64 → m < 2 ^ n → s < n → (w : ℕ) × (w < 2 ^ n) × ((t : ℕ) → member t w ≡ (member t m || eqb t s))

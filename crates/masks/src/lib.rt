@@ -2,6 +2,7 @@
 
 ghost use mathlib.Core.Path.{_≡_};
 ghost use mathlib.Core.Bool.{not, _&&_, _||_};
+ghost use mathlib.Core.Logic.{_↔_};
 ghost use Prim.Native.Nat.{ℕ, _≤_, _<_};
 ghost use lib.Count.{ones};
 ghost use lib.Dec.{eqb};
@@ -72,6 +73,17 @@ pub fn meets(a: Set, b: Set) -> bool
     ensures { λ r. ⌜ Decides r ((t : ℕ) × (t ∈ a) × (t ∈ b)) ⌝ }
 {
     intersection(a, b) != 0
+}
+
+// The states below `n`.
+pub fn below(n: usize) -> Set
+    requires { ⌜ n ≤ 64 ⌝ }
+    ensures { λ r. ⌜ ((t : ℕ) → (t ∈ r) ↔ (t < n)) ⌝ }
+{
+    if n == STATES {
+        return !0u64;
+    }
+    (1u64 << n) - 1
 }
 
 // How many states `m` has.

@@ -1,7 +1,7 @@
 -- Request C-22: the sets by number of states, each visited once. A set that mixes loops by its own mix step (`mixes-loops`), and one that loops
 -- and has an entrance and an exit mixes (`loops-mixes`). A claim is found by the visit to its set or not at all (`found-iff`); what is found
 -- is what is derivable (`found-derivable`), so a walk with what is found is one of some derivation (`rising·`).
-use Prim.Native.Nat.{ℕ, zero, suc, _<_, _≤_, _^_}
+use Prim.Native.Nat.{ℕ, zero, suc, _<_, _^_}
 use mathlib.Core.Path.{_≡_, refl, sym, subst}
 use mathlib.Core.Logic.{_⊎_, inl, inr, ⊎-elim, _↔_, _≢_}
 use mathlib.Core.List.{List, [], _∷_, _++_, List·Memᴰ·tail, List·Memᴰ·not-nil, List·Memᴰ·cases-cons, List·Memᴰ·append-cases, Memᴰ·append-left, Memᴰ·append-right, append-ne-nil-of-right-ne-nil, cons≢nil}
@@ -25,7 +25,7 @@ use Rattle.orderings.specs.Decide.{claims}
 use Rattle.orderings.specs.Rising.{size, VisitFinds, finds?, found, all-sizes, rising?}
 use Rattle.orderings.proofs.Walks.{allowed-more}
 use Rattle.orderings.proofs.Steps.{on-middle, Runs, runs-append, runs-cut, leg-of, runs-of}
-use Rattle.orderings.proofs.Depths.{holds-more, open-le}
+use Rattle.orderings.proofs.Depths.{holds-more}
 use Rattle.orderings.proofs.Verdicts.{nonempty-iff}
 use Rattle.orderings.proofs.Timelines.{lawful, members-iff, says-inside}
 use Rattle.orderings.proofs.Deciding.{holds·, claim-in·, accepts·}
@@ -88,6 +88,26 @@ module _ (rows : List Row) where
       stepped = (e, f, x, y, h e f (x .0) (y .0));
     }
 
+  -- ---- loops and mixes that rounds open
+
+  -- what is open holds with what is open
+  pub open-says : (k : ℕ) (c : Claim) → OpenBy S k c → Holds S (OpenBy S k) c
+  unfolding OpenBy
+  open-says zero c o = absurd o
+  open-says (suc k) c (inl o) = holds-more S (lawful rows) (λ x i. inl i) c (open-says k c o)
+  open-says (suc k) c (inr h) = holds-more S (lawful rows) (λ x i. inl i) c h
+
+  -- the loop of a set whose mix is open holds
+  pub mix-due : (k P : ℕ) → OpenBy S k (mixes P) → Holds S (OpenBy S k) (loops P)
+  mix-due k P o = let h = open-says k (mixes P) o in (h .0, mixes-loops (OpenBy S k) P (h .1) o)
+
+  -- the mix of a set with an entrance and an exit is open where its loop is
+  pub loop-paired : (k P e f : ℕ) → Entrance rows P e → Exit rows P f → OpenBy S k (loops P) → OpenBy S k (mixes P)
+  unfolding OpenBy
+  loop-paired zero P e f x y o = absurd o
+  loop-paired (suc k) P e f x y (inl o) = inl (loop-paired k P e f x y o)
+  loop-paired (suc k) P e f x y (inr h) = inr (h .0, loops-mixes (OpenBy S k) P e f x y (h .1))
+
   -- ---- what is found, size by size
 
   -- found once the sets of fewer than k states are visited
@@ -120,12 +140,6 @@ module _ (rows : List Row) where
   unfolding OpenBy
   der-holds c h = at-most rows (length (claims rows)) (suc (length (claims rows))) c (omega arith) (inr h)
 
-  der-says : (k : ℕ) (c : Claim) → k ≤ length (claims rows) → OpenBy S k c → Holds S Der c
-  unfolding OpenBy
-  der-says zero c le o = absurd o
-  der-says (suc k) c le (inl o) = der-says k c (omega arith) o
-  der-says (suc k) c le (inr h) = holds-more S (lawful rows) (λ x. open-le S (lawful rows) k (length (claims rows)) x (omega arith)) c h
-
   -- what holds with derivable claims is derivable
   der-more : (l : Claim → Type 0) → ((c : Claim) → l c → Der c) → (c : Claim) → Holds S l c → Der c
   der-more l s c h = der-holds c (holds-more S (lawful rows) s c h)
@@ -133,7 +147,7 @@ module _ (rows : List Row) where
   finds-der : (l : Claim → Type 0) → ((c : Claim) → l c → Der c) → (c : Claim) → VisitFinds rows l c → Der c
   finds-der l s (mixes P) h = der-more l s (mixes P) h
   finds-der l s (loops P) (inl h) = let d = der-more l s (mixes P) h in
-      der-holds (loops P) (h .0, mixes-loops Der P (der-says (length (claims rows)) (mixes P) (omega arith) d .1) d)
+      der-holds (loops P) (mix-due (length (claims rows)) P d)
   finds-der l s (loops P) (inr h) = der-more l s (loops P) h
 
   found-der : (k : ℕ) (c : Claim) → In k c → Der c

@@ -1,5 +1,4 @@
 -- The laws that the proofs of `rising` share.
 pub mod Sizes
 pub mod Visiting
-pub mod Gathering
 pub mod Levels

@@ -1,14 +1,16 @@
 -- The rounds in arrays are the machine's, from closed (`closed-kept`) through each round (`stage-start`, `stage-more`, `round-kept`) to the end
--- of its rounds (`stage-end`, `closed-end`).
+-- of its rounds (`stage-end`, `closed-end`); its claims are paired (`stage-paired`, `round-paired`), and what is lacking inside sets is kept
+-- from round to round (`tracked-start`, `tracked-more`).
 use Prim.Native.Nat.{ℕ, suc, _+_, _<_, _≤_}
 use mathlib.Core.Path.{_≡_, refl, ap, sym, _∙_, subst}
-use mathlib.Core.Bool.{Bool, true, false}
+use mathlib.Core.Bool.{Bool, true, false, not, _&&_}
 use mathlib.Core.Logic.{_⊎_, inl, inr, ⊎-elim}
 use mathlib.Core.List.{List, [], _∷_}
-use lib.ListN.{replicate}
+use lib.ListN.{length, replicate}
 use native.Mathlib.Omega.{arith}
 use Rattle.lists.specs.Tests.{Decides, _among_}
-use Rattle.masks.specs.Mask.{_∈_}
+use Rattle.masks.specs.Mask.{member, _∈_, _⊆_}
+use Rattle.masks.proofs.Member.{in-none, difference-left, difference-not}
 use Rattle.rows.specs.declared.Row.{Row}
 use Rattle.orderings.specs.Steps.{Claim, loops, mixes}
 use Rattle.machine.specs.declared.Phase.{Phase}
@@ -18,17 +20,22 @@ use Rattle.machine.specs.Calls.{close, round, run}
 use Rattle.machine.specs.WellFormed.{after, WellFormed}
 use Rattle.machine.proofs.Settling.{below-next, after-after}
 use Rattle.machine.proofs.History.{work-runs}
-use Rattle.machine.proofs.Grounded.{grounded}
+use Rattle.machine.proofs.Grounded.{grounded, open-by}
 use Rattle.machine.proofs.Tours.{round-iff}
 use Rattle.search.specs.declared.Claims.{Claims}
 use Rattle.search.specs.Graph.{Graph}
-use Rattle.search.specs.Hops.{WithNew, EndsBelow}
+use Rattle.search.specs.Hops.{WithNew, no-claims}
 use Rattle.search.specs.Masked.{Forced}
 use Rattle.search.specs.Promises.{AcceptsRight, OpensBelow}
+use Rattle.lacks.specs.Lacks.{LacksIn, ByLetters, Supplies, AboveNew}
+use Rattle.candidates.specs.Promises.{LiveBelow, Paired, LoopingAt, OpensAwaited}
+use Rattle.candidates.proofs.Awaiting.{live-fewer}
+use Rattle.candidates.proofs.Finding.{loops-more}
+use Rattle.candidates.proofs.Holding.{paired-by}
 use Rattle.row_table.specs.Arrays.{SetsIn}
 use Rattle.row_table.proofs.Sets.{sets-in-held}
 use Rattle.rounds.specs.Arrays.{rounds-of, OpenPlaces, Notes}
-use Rattle.rounds.specs.Promises.{Given, Mirrors, no-claims}
+use Rattle.rounds.specs.Promises.{Given, Mirrors}
 use Rattle.rounds.proofs.OpenClaims.{forced-by, no-rounds}
 use Rattle.rounds.proofs.Turn.{none-forced, walk-test, Turn, turn-kept, turn-forced}
 
@@ -97,12 +104,43 @@ pub record Stage (rows : List Row) (g : Graph) (n : ℕ) (force : Claims) (loop-
   pub forced : Forced (λ c. c among open-claims (after rows k)) g n force
   pub before : (j : ℕ) → j < k → after rows j .phase ≡ Running
 
--- the masks in to and from have the ends of all steps inside each set, forward and backward, with the claims in force but the new ones
-pub record Tracked (g back : Graph) (n : ℕ) (force new : Claims) (to from : List ℕ) : Type 0 where
-  pub old : Claims
-  pub with-new : WithNew old new force
-  pub forward : EndsBelow g old n to
-  pub backward : EndsBelow back old n from
+-- the sets at the places fresh loop; the other places are among those with no claim in force, at which the masks in to and from have states that
+-- are lacking, forward and backward
+pub record Tracked (g back : Graph) (n pieces : ℕ) (force : Claims) (fresh places : ℕ) (to from : List ℕ) : Type 0 where
+  pub looping : LoopingAt g force fresh
+  pub live : ℕ
+  pub live-is : LiveBelow force n live
+  pub within : places ⊆ live
+  pub to-lacks : LacksIn g force pieces live to
+  pub from-lacks : LacksIn back force pieces live from
+
+pub tracked-start : {g back : Graph} {n pieces : ℕ} (places : ℕ) {to₀ to from₀ from : List ℕ} → LiveBelow no-claims n places → to₀ ≡ replicate 64 0 → from₀ ≡ replicate 64 0
+    → ByLetters g pieces to₀ to → ByLetters back pieces from₀ from → Tracked g back n pieces no-claims 0 places to from
+tracked-start places is e f t b = record {
+  looping = λ i h. absurd (in-none i h);
+  live = places;
+  live-is = is;
+  within = λ i h. h;
+  to-lacks = t .lacks e places;
+  from-lacks = b .lacks f places;
+}
+
+-- a round opens new claims, which are supplied
+module _ {g back : Graph} {n pieces : ℕ} {old : Claims} {fresh places : ℕ} {to from : List ℕ} (now : Tracked g back n pieces old fresh places to from) where
+  pub tracked-low : (i : ℕ) → i ∈ places → i < n
+  tracked-low i h = now .live-is i .0 (now .within i h) .0
+
+  pub tracked-more : {new force : Claims} {to′ from′ : List ℕ} (fresh′ live places′ : ℕ) → WithNew old new force → OpensAwaited g old n places new → ((t : ℕ) → member t fresh′ ≡ (member t (new .loops) && not (member t (old .mixes))))
+      → LiveBelow force n live → length to ≡ 64 → length from ≡ 64 → Supplies g new live to to′ → Supplies back new live from from′ → AboveNew g new live places′
+      → Tracked g back n pieces force fresh′ places′ to′ from′
+  tracked-more {new} {force} fresh′ live places′ is opens is-fresh is-live e f t b above = let fewer = live-fewer (now .live) live is (now .live-is) is-live in record {
+    looping = λ i h. loops-more is (opens .tested i (difference-left (new .loops) (old .mixes) fresh′ is-fresh i h) (difference-not (new .loops) (old .mixes) fresh′ is-fresh i h));
+    live = live;
+    live-is = is-live;
+    within = λ i h. above i .0 h .0;
+    to-lacks = t .lacks e old force pieces (now .live) is fewer (now .to-lacks);
+    from-lacks = b .lacks f old force pieces (now .live) is fewer (now .from-lacks);
+  }
 
 module _ (rows : List Row) {g : Graph} {initials finals n : ℕ} (given : Given rows g initials finals n) where
   pub stage-start : (b : Bool) → AcceptsRight g no-claims initials finals b → Stage rows g n no-claims (replicate 64 0) (replicate 64 0) (judged b false) 0
@@ -112,6 +150,9 @@ module _ (rows : List Row) {g : Graph} {initials finals n : ℕ} (given : Given 
     forced = none-forced g n;
     before = λ j l. absurd (omega arith);
   }
+
+  pub stage-paired : {force : Claims} {loop-rounds mix-rounds : List ℕ} {phase : Phase} {k : ℕ} → Stage rows g n force loop-rounds mix-rounds phase k → Paired g force n
+  stage-paired {k = k} s = paired-by (record { masked = given .masked; forced = s .forced }) (sym (given .sets-in .count)) k (after-after rows k .claims)
 
   pub stage-more : {force new all : Claims} {loop-rounds mix-rounds : List ℕ} {phase : Phase} {k : ℕ} {accepted vain : Bool} {loop-notes mix-notes : List ℕ}
       → Stage rows g n force loop-rounds mix-rounds phase k → phase ≡ Running → Round g initials finals n force new all k loop-rounds mix-rounds accepted vain loop-notes mix-notes
@@ -124,6 +165,14 @@ module _ (rows : List Row) {g : Graph} {initials finals n : ℕ} (given : Given 
         forced = turn-forced (turn (after rows k) here (s .kept) (s .forced) r);
         before = below-next {P = λ i. after rows i .phase ≡ Running} k (s .before) (sym (s .kept .phase-is) ∙ running);
       })
+
+-- the claims in force of a machine that calls made
+pub round-paired : (m : Machine) → WellFormed m → {g : Graph} {initials finals n : ℕ} → Given (m .rows) g initials finals n
+    → (force : Claims) {loop-rounds mix-rounds : List ℕ} {phase : Phase} {k : ℕ} → Mirrors m loop-rounds mix-rounds phase k
+    → OpenPlaces loop-rounds n (force .loops) → OpenPlaces mix-rounds n (force .mixes) → Paired g force n
+round-paired m w {g} {n = n} given force {loop-rounds} {mix-rounds} kept is-l is-m = let o = open-by m w in
+    paired-by (record { masked = given .masked; forced = forced-of m w g n (given .sets-in) loop-rounds mix-rounds (kept .loops-are) (kept .mixes-are) force is-l is-m })
+    (sym (given .sets-in .count)) (o .0) (o .1)
 
 -- a round of a machine that calls made, whose claims in force are read from the arrays
 pub round-kept : (m : Machine) → WellFormed m → {g : Graph} {initials finals n : ℕ} → Given (m .rows) g initials finals n

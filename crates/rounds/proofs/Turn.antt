@@ -22,11 +22,11 @@ use Rattle.machine.proofs.Rounding.{opened-next-iff}
 use Rattle.machine.proofs.Openings.{claims-append}
 use Rattle.search.specs.declared.Claims.{Claims}
 use Rattle.search.specs.Graph.{Graph}
-use Rattle.search.specs.Hops.{WithNew}
+use Rattle.search.specs.Hops.{WithNew, no-claims}
 use Rattle.search.specs.Masked.{Forced}
 use Rattle.search.specs.Promises.{AcceptsRight, NewlyHolds, Opened}
 use Rattle.rounds.specs.Arrays.{rounds-of, Notes}
-use Rattle.rounds.specs.Promises.{Given, Mirrors, no-claims}
+use Rattle.rounds.specs.Promises.{Given, Mirrors}
 use Rattle.rounds.proofs.OpenClaims.{set-at}
 use Rattle.rounds.proofs.Noting.{noted}
 

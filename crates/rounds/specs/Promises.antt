@@ -10,9 +10,8 @@ use Rattle.machine.specs.declared.Phase.{Phase}
 use Rattle.machine.specs.Machine.{most-rounds, Machine, open-with, judged, closed, next-round}
 use Rattle.machine.specs.Calls.{close, round, run}
 use Rattle.machine.specs.WellFormed.{Table, WellFormed}
-use Rattle.search.specs.declared.Claims.{Claims}
 use Rattle.search.specs.Graph.{Graph}
-use Rattle.search.specs.Hops.{Reached}
+use Rattle.search.specs.Hops.{Reached, no-claims}
 use Rattle.search.specs.Masked.{Masked, Initials, Finals}
 use Rattle.search.specs.Promises.{AcceptsRight}
 use Rattle.row_table.specs.Arrays.{SetsIn}
@@ -48,10 +47,6 @@ abbrev pub DoesRound : Graph → ℕ → ℕ → ℕ → Progress → Progress �
 DoesRound g initials finals n old new = (m : Machine) → WellFormed m → Given (m .rows) g initials finals n
     → Mirrors m (old .«loop_rounds») (old .«mix_rounds») (old .phase) (old .rounds)
     → Mirrors (next-round m) (new .«loop_rounds») (new .«mix_rounds») (new .phase) (new .rounds)
-
--- no claim in force
-abbrev pub no-claims : Claims
-no-claims = record { loops = 0; mixes = 0 }
 
 -- letters alone lead to the states reached, and from no initial to a final state
 pub record Unaccepted (g : Graph) (initials finals reached : ℕ) : Type 0 where

@@ -3,8 +3,8 @@ use machine::MOST_ROUNDS;
 use machine::MOST_SETS;
 use machine::Phase;
 use machine::Verdict;
-use masks::PLACES;
 use masks::Places;
+use masks::STATES;
 use masks::Set;
 use search::Claims;
 use search::graphs;
@@ -18,8 +18,9 @@ ghost use Rattle.lists.specs.Tests.{Decides};
 ghost use Rattle.masks.specs.Mask.{_∈_};
 ghost use Rattle.machine.specs.declared.Phase.the-variants.{Running};
 ghost use Rattle.machine.specs.Machine.{judged};
-ghost use Rattle.search.specs.Graph.{graph-of, Indexed};
+ghost use Rattle.search.specs.Graph.{graph-of, Indexed, BothWays};
 ghost use Rattle.search.specs.Promises.{OpensBelow};
+ghost use Rattle.candidates.specs.Promises.{Paired};
 ghost use Rattle.rounds.specs.Arrays.{OpenPlaces, Notes};
 ghost use Rattle.rounds.specs.Promises.{closed-as, Closes, DoesRound, Unaccepted, WorksUpTo, Settles};
 
@@ -115,18 +116,21 @@ pub fn close(graph: &Masks, initials: Set, finals: Set) -> Progress
     without_rounds(accepted)
 }
 
-// The claims that a round opens, with the claims in force before it.
+// The claims that a round opens, with the claims in force before it, as rounds leave them: all sets with no claim in force are tried.
 fn opened(graph: &Masks, force: Claims, set_count: usize) -> Claims
     requires { ⌜ («set_count» ≤ 64) × Indexed (now graph) ⌝ }
-    ensures { λ r. ⌜ OpensBelow (graph-of (now (graph .entry))) force «set_count» «set_count» r ⌝ }
+    ensures { λ r. ⌜ (Paired (graph-of (now (graph .entry))) force «set_count»
+        → OpensBelow (graph-of (now (graph .entry))) force «set_count» «set_count» r) ⌝ }
 {
     let mut back = [0u64; MASKS];
     graphs::turn_indexed(graph, &mut back);
-    let mut to = [0u64; PLACES];
-    let mut from = [0u64; PLACES];
-    openings::all_ends(&mut to, graph, force, set_count);
-    openings::all_ends(&mut from, &back, force, set_count);
-    openings::open_next(graph, &back, force, &to, &from, set_count)
+    let pieces = lacks::pieced(graph, set_count);
+    let mut to = [0u64; STATES];
+    let mut from = [0u64; STATES];
+    lacks::both_by_letters(&mut to, &mut from, graph, &back, pieces, set_count);
+    let live = candidates::live(force, set_count);
+    lacks::supply(&mut to, &mut from, graph, force, live);
+    candidates::open_next(graph, &back, force, 0, pieces, live, &to, &from)
 }
 
 // One round: what it opens depends on the claims that were open before it, and on no other.
@@ -163,25 +167,25 @@ pub fn round(
 // Rounds until the automaton is settled, `most` at most, where letters alone, which lead to the states `reached`, do not settle it.
 fn run_rounds(
     graph: &Masks,
+    back: &Masks,
     initials: Set,
     finals: Set,
     set_count: usize,
     reached: Set,
     most: u8,
 ) -> Progress
-    requires { ⌜ («set_count» ≤ 64) × (most ≤ 129) × Indexed (now graph)
+    requires { ⌜ («set_count» ≤ 64) × (most ≤ 129) × BothWays (now graph) (now back)
         × Unaccepted (graph-of (now graph)) initials finals reached ⌝ }
     ensures { λ r. ⌜ WorksUpTo (graph-of (now (graph .entry))) initials finals «set_count» most r ⌝ }
 {
-    let mut back = [0u64; MASKS];
-    graphs::turn_indexed(graph, &mut back);
-    let none = Claims { loops: 0, mixes: 0 };
-    let mut force = none;
-    let mut new = none;
-    let mut to = [0u64; PLACES];
-    let mut from = [0u64; PLACES];
-    openings::all_ends(&mut to, graph, none, set_count);
-    openings::all_ends(&mut from, &back, none, set_count);
+    let pieces = lacks::pieced(graph, set_count);
+    let mut to = [0u64; STATES];
+    let mut from = [0u64; STATES];
+    lacks::both_by_letters(&mut to, &mut from, graph, back, pieces, set_count);
+    let mut force = Claims { loops: 0, mixes: 0 };
+    let mut places = candidates::live(force, set_count);
+    // Sets that loop, as the last round found by a test.
+    let mut fresh: Places = 0;
     let mut seen = reached;
     let mut phase = Phase::Running;
     let mut loop_rounds = [0u8; MOST_SETS];
@@ -191,9 +195,11 @@ fn run_rounds(
         if !is_running(phase) {
             break;
         }
-        openings::add_ends(&mut to, &mut from, graph, &back, new, set_count);
-        new = openings::open_next(graph, &back, force, &to, &from, set_count);
+        let new = candidates::open_next(graph, back, force, fresh, pieces, places, &to, &from);
+        fresh = masks::difference(new.loops, force.mixes);
         force = openings::with_new(force, new);
+        let live = candidates::live(force, set_count);
+        places = lacks::supply(&mut to, &mut from, graph, new, live);
         seen = searches::reached_more(graph, force, new, initials, seen);
         phase = judge(
             searches::accepted(initials, seen, finals),
@@ -211,9 +217,16 @@ fn run_rounds(
     }
 }
 
-// Close, and rounds until the automaton is settled, `most` at most. The graph is turned round only where a round is done.
-pub fn work(graph: &Masks, initials: Set, finals: Set, set_count: usize, most: u8) -> Progress
-    requires { ⌜ («set_count» ≤ 64) × (most ≤ 129) × Indexed (now graph) ⌝ }
+// Close, and rounds until the automaton is settled, `most` at most. `back` is the graph turned round.
+pub fn work(
+    graph: &Masks,
+    back: &Masks,
+    initials: Set,
+    finals: Set,
+    set_count: usize,
+    most: u8,
+) -> Progress
+    requires { ⌜ («set_count» ≤ 64) × (most ≤ 129) × BothWays (now graph) (now back) ⌝ }
     ensures { λ r. ⌜ WorksUpTo (graph-of (now (graph .entry))) initials finals «set_count» most r ⌝ }
 {
     let none = Claims { loops: 0, mixes: 0 };
@@ -221,13 +234,13 @@ pub fn work(graph: &Masks, initials: Set, finals: Set, set_count: usize, most: u
     if searches::accepted(initials, reached, finals) {
         return without_rounds(true);
     }
-    run_rounds(graph, initials, finals, set_count, reached, most)
+    run_rounds(graph, back, initials, finals, set_count, reached, most)
 }
 
 // Close, and rounds until the automaton is settled: none needs more than 129.
-pub fn settle(graph: &Masks, initials: Set, finals: Set, set_count: usize) -> Progress
-    requires { ⌜ («set_count» ≤ 64) × Indexed (now graph) ⌝ }
+pub fn settle(graph: &Masks, back: &Masks, initials: Set, finals: Set, set_count: usize) -> Progress
+    requires { ⌜ («set_count» ≤ 64) × BothWays (now graph) (now back) ⌝ }
     ensures { λ r. ⌜ Settles (graph-of (now (graph .entry))) initials finals «set_count» r ⌝ }
 {
-    work(graph, initials, finals, set_count, MOST_ROUNDS)
+    work(graph, back, initials, finals, set_count, MOST_ROUNDS)
 }

@@ -18,7 +18,7 @@ use Rattle.rows.specs.declared.Row.the-variants.{Initial, Final, Success
 use Rattle.rows.specs.declared.ReadRow.{ReadRow}
 use Rattle.rows.specs.declared.ReadRow.the-variants.{Read, Refused}
 use Rattle.rows.specs.Rows.{big, row-bytes, Fits, Bytes}
-use Rattle.rows.specs.Reading.{number, set-at, row-at, row-cause, read-row, last-kind, Known, width, state-places, set-places, Malformed, unknown-kind, cut-short, high-state, zero-set, Headed}
+use Rattle.rows.specs.Reading.{number, set-at, row-at, row-cause, cut-or-high, read-row, last-kind, Known, width, state-places, set-places, Malformed, unknown-kind, cut-short, high-state, zero-set, Headed, LimitAt}
 
 -- without one byte more
 high : (x n : ℕ) → x / 256 ^ suc n ≡ x / 256 ^ n / 256
@@ -163,10 +163,10 @@ zero· : (k : ℕ) (l : List ℕ) → Decides (any (λ j. eqb (set-at l j) 0) (s
 zero· k l = any· (λ j. eqb· (set-at l j) 0) (set-places k)
 
 -- no cause but an unknown kind refuses the row at the head of the bytes
-record Sound (k : ℕ) (l : List ℕ) : Type 0 where
-  whole : width k ≤ length l
-  low : (i : ℕ) → i among state-places k → getD l i 0 ≤ 63
-  some : (j : ℕ) → j among set-places k → ¬ (set-at l j ≡ 0)
+pub record Sound (k : ℕ) (l : List ℕ) : Type 0 where
+  pub whole : width k ≤ length l
+  pub low : (i : ℕ) → i among state-places k → getD l i 0 ≤ 63
+  pub some : (j : ℕ) → j among set-places k → ¬ (set-at l j ≡ 0)
 
 -- what a cause of a kind, or none, says
 abbrev Caused : List ℕ → ℕ → Type 0
@@ -281,31 +281,66 @@ unfolding read-row
 read-some [] h = absurd (omega arith)
 read-some (k ∷ l) h = refl
 
--- a row of a kind by its tests in their order: its bytes, the states at some places, the sets at some places
-abbrev pub by-tests : ℕ → List ℕ → List ℕ → ℕ → List ℕ → ReadRow
-by-tests w s t k l =
-    cond (ltb (length l) w) (Refused 3)
-    (cond (any (λ i. ltb 63 (getD l i 0)) s) (Refused 4) (cond (any (λ j. eqb (set-at l j) 0) t) (Refused 5) (Read (row-at k l) w)))
+-- by the cause of the kind at the head, if there is one
+pub cause-refuses : (l : List ℕ) {r : ℕ} → 0 < length l → r ≡ row-cause (getD l 0 0) l → ¬ (r ≡ 0) → read-row l ≡ Refused r
+cause-refuses l h e n = rw e (read-some l h ∙ cond-no _ (eqb· (row-cause (getD l 0 0) l) 0) (λ z. n (e ∙ z)) refl)
 
--- by the kind at the head: an unknown one, and one by its table
-module _ (k : ℕ) (l : List ℕ) (h : Headed k l) where
-  headed : read-row l ≡ cond (eqb (row-cause k l) 0) (Read (row-at k l) (width k)) (Refused (row-cause k l))
-  headed = rw (h .1) at (read-some l (h .0))
+pub cause-none : (k : ℕ) (l : List ℕ) {r : ℕ} → Headed k l → r ≡ row-cause (getD l 0 0) l → r ≡ 0 → read-row l ≡ Read (row-at k l) (width k)
+cause-none k l h e z = read-some l (h .0) ∙ rw (sym e ∙ z, h .1)
 
-  pub read-unknown : ¬ Known k → read-row l ≡ Refused 2
-  read-unknown n = headed ∙ rw (unknown-cause k l n)
+pub cause-sound : (k : ℕ) (l : List ℕ) {r : ℕ} → getD l 0 0 ≡ k → r ≡ row-cause (getD l 0 0) l → r ≡ 0 → Sound k l
+cause-sound k l h e z = subst (λ (j : ℕ). Sound j l) h (subst (Caused l) (sym e ∙ z) (caused l) .1)
 
-  pub read-known : Known k → read-row l ≡ by-tests (width k) (state-places k) (set-places k) k l
-  unfolding row-cause
-  read-known g = headed ∙ rw (so (known· k) g)
-      (go (ltb (length l) (width k)) (any (λ i. ltb 63 (getD l i 0)) (state-places k)) (any (λ j. eqb (set-at l j) 0) (set-places k)))
-    where
-      go : (a b z : Bool) → cond (eqb (cond a 3 (cond b 4 (cond z 5 0))) 0) (Read (row-at k l) (width k)) (Refused (cond a 3 (cond b 4 (cond z 5 0))))
-          ≡ cond a (Refused 3) (cond b (Refused 4) (cond z (Refused 5) (Read (row-at k l) (width k))))
-      go true b z = refl
-      go false true z = refl
-      go false false true = refl
-      go false false false = refl
+-- the cause of a known kind by its tests in their order: its bytes, the states at some places, the sets at some places
+abbrev pub tests-cause : ℕ → List ℕ → List ℕ → List ℕ → ℕ
+tests-cause w s t l = cut-or-high w s l (cond (any (λ j. eqb (set-at l j) 0) t) 5 0)
+
+pub known-cause : (k : ℕ) (l : List ℕ) → Known k → row-cause k l ≡ tests-cause (width k) (state-places k) (set-places k) l
+unfolding row-cause
+known-cause k l g = rw (so (known· k) g)
+
+-- kinds 1, 2 and 6 have one table
+pub state-tests : (k : ℕ) (l : List ℕ) → Known k → width k ≡ 2 → row-cause k l ≡ tests-cause 2 (1 ∷ []) [] l
+state-tests k l = by-kind (λ k. width k ≡ 2 → row-cause k l ≡ tests-cause 2 (1 ∷ []) [] l)
+    (λ g. known-cause 1 l (omega arith)) (λ g. known-cause 2 l (omega arith))
+    (λ g. absurd (omega arith)) (λ g. absurd (omega arith)) (λ g. absurd (omega arith))
+    (λ g. known-cause 6 l (omega arith)) k
+
+-- what kinds 4 and 5 have alike, with a state at place i and a set at place j
+pub record Limit (l : List ℕ) (i j k : ℕ) : Type 0 where
+  pub tests : row-cause k l ≡ tests-cause 10 (i ∷ []) (j ∷ []) l
+  pub wide : width k ≡ 10
+  pub places : (i < 10) × (j ≤ 2)
+  pub left : k ≡ 4 → row-at k l ≡ LeftLimit (set-at l j) (getD l i 0)
+  pub right : k ≡ 5 → row-at k l ≡ RightLimit (getD l i 0) (set-at l j)
+
+first : {x y : ℕ} → _≡_ {A = List ℕ} (x ∷ []) (y ∷ []) → x ≡ y
+first e = ap (λ (l : List ℕ). getD l 0 0) e
+
+pub limit-of : (l : List ℕ) (i j k : ℕ) → LimitAt k i j → Limit l i j k
+unfolding row-at
+limit-of l i j k at = by-kind (λ k. LimitAt k i j → Limit l i j k)
+    (λ g. absurd (omega (arith, g .0))) (λ g. absurd (omega (arith, g .0))) (λ g. absurd (omega (arith, g .0)))
+    (λ g. let p : 9 ≡ i = first (g .2) in let q : 1 ≡ j = first (g .3) in record {
+      tests = rw (← p, ← q) (known-cause 4 l (omega arith));
+      wide = refl;
+      places = omega arith;
+      left = λ z. rw (← p, ← q);
+      right = λ z. absurd (omega arith);
+    })
+    (λ g. let p : 1 ≡ i = first (g .2) in let q : 2 ≡ j = first (g .3) in record {
+      tests = rw (← p, ← q) (known-cause 5 l (omega arith));
+      wide = refl;
+      places = omega arith;
+      left = λ z. absurd (omega arith);
+      right = λ z. rw (← p, ← q);
+    })
+    (λ g. absurd (omega (arith, g .1)))
+    k (omega (arith, at .0, at .1)) at
+
+-- no such kind at the head
+pub read-unknown : (k : ℕ) (l : List ℕ) → Headed k l → ¬ Known k → read-row l ≡ Refused 2
+read-unknown k l h n = cause-refuses l (h .0) (sym (rw (h .1) (unknown-cause k l n))) (λ e. omega arith)
 
 by-cause : (l : List ℕ) (n : ℕ) → Caused l n → Right l (cond (eqb n 0) (Read (row-at (getD l 0 0) l) (width (getD l 0 0))) (Refused n))
 by-cause l zero c = (c .0, c .1, refl, refl)

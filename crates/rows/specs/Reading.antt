@@ -8,6 +8,8 @@ use lib.ListN.{length, take, drop, getD}
 use Rattle.lists.specs.Tests.{_among_, any}
 use Rattle.rows.specs.declared.Row.{Row}
 use Rattle.rows.specs.declared.Row.the-variants.{Initial, Final, Successor, LeftLimit, RightLimit, Strike}
+use Rattle.rows.specs.declared.ReadSet.{ReadSet}
+use Rattle.rows.specs.declared.ReadSet.the-variants.{Found, Stopped}
 use Rattle.rows.specs.declared.ReadRow.{ReadRow}
 use Rattle.rows.specs.declared.ReadRow.the-variants.{Read, Refused}
 
@@ -66,6 +68,15 @@ read-row (k ∷ l) = cond (eqb (row-cause k (k ∷ l)) 0) (Read (row-at k (k ∷
 -- the kind at the head of the bytes
 abbrev pub Headed : ℕ → List ℕ → Type 0
 Headed k l = (0 < length l) × (getD l 0 0 ≡ k)
+
+-- a kind of rows that have a state and a set, each at its place
+abbrev pub LimitAt : ℕ → ℕ → ℕ → Type 0
+LimitAt k i j = (4 ≤ k) × (k ≤ 5) × (state-places k ≡ i ∷ []) × (set-places k ≡ j ∷ [])
+
+-- the set at place j of a row that no cause refuses, or the number of the cause
+abbrev pub SetRead : List ℕ → ℕ → ReadSet → Type 0
+SetRead l j (Found P) = (row-cause (getD l 0 0) l ≡ 0) × (P ≡ set-at l j)
+SetRead l j (Stopped n) = (row-cause (getD l 0 0) l ≡ n) × ¬ (n ≡ 0)
 
 -- the kind at the head of the bytes, of which a whole row is there
 abbrev pub Whole : ℕ → List ℕ → Type 0

@@ -3,10 +3,10 @@
 ghost use mathlib.Core.Path.{_≡_};
 ghost use mathlib.Core.List.{[], _∷_};
 ghost use Prim.Native.Nat.{_+_, _≤_};
-ghost use lib.ListN.{length};
+ghost use lib.ListN.{length, getD};
 ghost use Rattle.lists.specs.Writing.{Wrote, WroteAt};
 ghost use Rattle.rows.specs.Rows.{row-bytes};
-ghost use Rattle.rows.specs.Reading.{set-at, width, state-places, set-places, read-row, Known, Headed};
+ghost use Rattle.rows.specs.Reading.{set-at, width, row-cause, read-row, Known, Headed, LimitAt, SetRead};
 ghost use Rattle.rows.specs.Keys.{high, low, row-from, set-or-none};
 ghost use Rattle.rows.specs.Storing.{stored};
 
@@ -66,6 +66,12 @@ pub enum ReadRow {
     Refused(u8),
 }
 
+// The set of a row, or the number of the cause that refuses the row.
+pub enum ReadSet {
+    Found(u64),
+    Stopped(u8),
+}
+
 // The set at place `at`: eight bytes, most significant first.
 fn set_at(s: &[u8], at: usize) -> u64
     requires { ⌜ at + 8 ≤ length (now s) ⌝ }
@@ -80,18 +86,65 @@ fn set_at(s: &[u8], at: usize) -> u64
     set
 }
 
+// The number that refuses a row of kind 1, 2 or 6, or 0.
+pub fn state_cause(rest: &[u8]) -> u8
+    requires { ⌜ Known (getD (now rest) 0 0) × (width (getD (now rest) 0 0) ≡ 2) ⌝ }
+    ensures { λ r. ⌜ r ≡ row-cause (getD (now (rest .entry)) 0 0) (now (rest .entry)) ⌝ }
+{
+    if rest.len() < 2 {
+        return CUT_SHORT;
+    }
+    if LAST_STATE < rest[1] {
+        return HIGH_STATE;
+    }
+    0
+}
+
+// The number that refuses a row of kind 3, or 0.
+pub fn step_cause(rest: &[u8]) -> u8
+    requires { ⌜ getD (now rest) 0 0 ≡ 3 ⌝ }
+    ensures { λ r. ⌜ r ≡ row-cause (getD (now (rest .entry)) 0 0) (now (rest .entry)) ⌝ }
+{
+    if rest.len() < 4 {
+        return CUT_SHORT;
+    }
+    if LAST_STATE < rest[1] {
+        return HIGH_STATE;
+    }
+    if LAST_STATE < rest[3] {
+        return HIGH_STATE;
+    }
+    0
+}
+
+// The set of a row of kind 4 or 5, which has its state and its set at these places, or the number that refuses it. The set is read once.
+pub fn read_set(rest: &[u8], state_place: usize, set_place: usize) -> ReadSet
+    requires { ⌜ LimitAt (getD (now rest) 0 0) «state_place» «set_place» ⌝ }
+    ensures { λ r. ⌜ SetRead (now (rest .entry)) «set_place» r ⌝ }
+{
+    if rest.len() < 10 {
+        return ReadSet::Stopped(CUT_SHORT);
+    }
+    if LAST_STATE < rest[state_place] {
+        return ReadSet::Stopped(HIGH_STATE);
+    }
+    let set = set_at(rest, set_place);
+    if set == 0 {
+        return ReadSet::Stopped(ZERO_SET);
+    }
+    ReadSet::Found(set)
+}
+
 // A row of kind 1, 2 or 6: its state.
 fn read_state(rest: &[u8], kind: u8) -> ReadRow
     requires { ⌜ Headed kind (now rest) × Known kind × (width kind ≡ 2) ⌝ }
     ensures { λ r. ⌜ r ≡ read-row (now (rest .entry)) ⌝ }
 {
-    if rest.len() < 2 {
-        return ReadRow::Refused(CUT_SHORT);
+    let cause = state_cause(rest);
+    if cause != 0 {
+        return ReadRow::Refused(cause);
     }
     let state = rest[1];
-    if LAST_STATE < state {
-        return ReadRow::Refused(HIGH_STATE);
-    }
     match kind {
         1 => ReadRow::Read(Row::Initial(state), 2),
         2 => ReadRow::Read(Row::Final(state), 2),
@@ -104,41 +157,24 @@ fn read_step(rest: &[u8]) -> ReadRow
     requires { ⌜ Headed 3 (now rest) ⌝ }
     ensures { λ r. ⌜ r ≡ read-row (now (rest .entry)) ⌝ }
 {
-    if rest.len() < 4 {
-        return ReadRow::Refused(CUT_SHORT);
+    let cause = step_cause(rest);
+    if cause != 0 {
+        return ReadRow::Refused(cause);
     }
-    let from = rest[1];
-    if LAST_STATE < from {
-        return ReadRow::Refused(HIGH_STATE);
-    }
-    let letter = rest[2];
-    let to = rest[3];
-    if LAST_STATE < to {
-        return ReadRow::Refused(HIGH_STATE);
-    }
-    ReadRow::Read(Row::Successor(from, letter, to), 4)
+    ReadRow::Read(Row::Successor(rest[1], rest[2], rest[3]), 4)
 }
 
-// A row of kind 4 or 5: a state and a set, at the places that the kind has for them. The set is read once.
+// A row of kind 4 or 5: a state and a set, at the places that the kind has for them.
 fn read_limit(rest: &[u8], kind: u8, state_place: usize, set_place: usize) -> ReadRow
-    requires { ⌜ Headed kind (now rest) × (4 ≤ kind) × (kind ≤ 5)
-        × (state-places kind ≡ «state_place» ∷ []) × (set-places kind ≡ «set_place» ∷ []) ⌝ }
+    requires { ⌜ Headed kind (now rest) × LimitAt kind «state_place» «set_place» ⌝ }
     ensures { λ r. ⌜ r ≡ read-row (now (rest .entry)) ⌝ }
 {
-    if rest.len() < 10 {
-        return ReadRow::Refused(CUT_SHORT);
-    }
-    let state = rest[state_place];
-    if LAST_STATE < state {
-        return ReadRow::Refused(HIGH_STATE);
-    }
-    let set = set_at(rest, set_place);
-    if set == 0 {
-        return ReadRow::Refused(ZERO_SET);
-    }
-    match kind {
-        4 => ReadRow::Read(Row::LeftLimit(set, state), 10),
-        _ => ReadRow::Read(Row::RightLimit(state, set), 10),
+    match read_set(rest, state_place, set_place) {
+        ReadSet::Stopped(number) => ReadRow::Refused(number),
+        ReadSet::Found(set) => match kind {
+            4 => ReadRow::Read(Row::LeftLimit(set, rest[state_place]), 10),
+            _ => ReadRow::Read(Row::RightLimit(rest[state_place], set), 10),
+        },
     }
 }
 

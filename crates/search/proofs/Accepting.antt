@@ -1,15 +1,14 @@
 -- A walk from an initial to a final state, by a search inside the set of all states.
 use Prim.Native.Nat.{ℕ, _<_}
-use mathlib.Core.Path.{_≡_, refl, ap, sym, _∙_, subst}
-use mathlib.Core.Bool.{Bool, not, _||_}
+use mathlib.Core.Path.{_≡_, refl, sym, subst}
+use mathlib.Core.Bool.{Bool, _||_}
 use mathlib.Core.Logic.{⊎-elim}
 use mathlib.Core.List.{List, [], _∷_, List·Memᴰ·not-nil, List·Memᴰ·cases-cons}
 use Rattle.lists.specs.Tests.{Decides, _among_}
 use Rattle.lists.proofs.Deciding.{iff·}
-use lib.Dec.{lit<}
 use Rattle.masks.specs.Mask.{member, _∈_}
-use Rattle.masks.proofs.Digit.{digit-none, digit-not}
-use Rattle.masks.proofs.Member.{member-lt, member-digit, union-left, union-right, union-cases}
+use native.Mathlib.Omega.{arith}
+use Rattle.masks.proofs.Member.{member-lt, below-iff, union-left, union-right, union-cases}
 use Rattle.rows.specs.declared.Row.{Row}
 use Rattle.rows.specs.declared.Row.the-variants.{Successor, LeftLimit, RightLimit}
 use Rattle.rows.specs.Rows.{AllFit}
@@ -28,7 +27,7 @@ use Rattle.search.proofs.Saying.{chain-iff}
 
 -- the set of all states has each
 pub has-all : (s : ℕ) → s < 64 → s ∈ all-mask
-has-all s h = member-digit s _ h ∙ digit-not s 64 0 h (lit< tt) ∙ ap not (digit-none s)
+has-all s h = below-iff 64 (omega arith) s .1 h
 
 -- every place is inside it
 all-inner : (sets : List ℕ) (places : ℕ) → Inner sets places all-mask places

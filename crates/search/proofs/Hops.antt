@@ -1,20 +1,15 @@
 -- Steps as the masks have them: the states to which they lead (`onward-hop`), steps turned round (`hop-turn`), steps by old
--- claims and by new ones (`hop-either`), and the ends that new claims add (`ends-more`, `added-next`).
-use Prim.Native.Nat.{ℕ, _+_, _<_, _≤_}
-use mathlib.Core.Path.{_≡_, refl, sym, subst, _∙_}
+-- claims and by new ones (`hop-either`).
+use Prim.Native.Nat.{ℕ}
+use mathlib.Core.Path.{_≡_, sym, subst, _∙_}
 use mathlib.Core.Bool.{_&&_, _||_}
 use mathlib.Core.Logic.{_⊎_, inl, inr, ⊎-elim, _↔_}
 use mathlib.Core.List.{List}
-use lib.Bits.{bitOr}
-use lib.ListN.{getD, length, set, length-set}
-use lib.Seq.{getD-set-same, getD-set-other}
-use native.Mathlib.Omega.{arith}
-use borrow.Author.Count.{below-more}
+use lib.ListN.{getD}
 use Rattle.masks.specs.Mask.{member, _∈_, _⊆_}
-use Rattle.masks.proofs.Member.{member-lt, member-or, union-left, union-right, union-cases, intersection-left, intersection-right, intersection-both}
+use Rattle.masks.proofs.Member.{member-lt, union-left, union-right, union-cases, intersection-left, intersection-right, intersection-both}
 use Rattle.search.specs.declared.Claims.{Claims}
 use Rattle.search.specs.Graph.{Graph, TurnedGraph}
-use Rattle.search.specs.Promises.{MoreEnds}
 use Rattle.search.specs.Hops.{ByPlaces, Lettered, Claimed, Hop, Onward, Inner, InnerClaims, Unites, WithNew}
 use Rattle.search.proofs.Parts.{turn-back}
 
@@ -90,6 +85,18 @@ module _ (g : Graph) where
       (λ e. inl (inr (places-map (g .rights) (g .sets) (x .loops) (y .loops) f a b e))))
       (λ e. inr (places-map (g .rights) (g .lefts) (x .mixes) (y .mixes) h a b e))
 
+  -- a step inside a part of p with fewer claims in force
+  pub hop-inner : (old force x y : Claims) (q p : ℕ) → old .loops ⊆ force .loops → old .mixes ⊆ force .mixes → q ⊆ p → InnerClaims g old q x → InnerClaims g force p y
+      → (a b : ℕ) → Hop g x q a b → Hop g y p a b
+  hop-inner old force x y q p f h part i j a b e = record {
+    start = part a (e .start);
+    end = part b (e .end);
+    kind = ⊎-elim inl (λ k. inr (claimed-map x y (move (old .loops) (force .loops) (x .loops) (y .loops) (i .loops-are) f (j .loops-are)) (move (old .mixes) (force .mixes) (x .mixes) (y .mixes) (i .mixes-are) h (j .mixes-are)) a b k)) (e .kind);
+  }
+    where
+      move : (m n r r′ : ℕ) → Inner (g .sets) m q r → m ⊆ n → Inner (g .sets) n p r′ → r ⊆ r′
+      move m n r r′ u v w t k = let z = u t .0 k in w t .1 (v t (z .0), λ s l. part s (z .1 s l))
+
   module _ {old new force : Claims} (is : WithNew old new force) where
     claimed-cases : (a b : ℕ) → Claimed g force a b → Claimed g old a b ⊎ Claimed g new a b
     claimed-cases a b = ⊎-elim
@@ -112,56 +119,3 @@ module _ (g : Graph) where
     pub hop-either : (p a b : ℕ) → Hop g force p a b → Hop g old p a b ⊎ Claimed g new a b
     hop-either p a b h = ⊎-elim (λ e. inl (record { start = h .start; end = h .end; kind = inl e }))
         (λ e. ⊎-elim (λ k. inl (record { start = h .start; end = h .end; kind = inr k })) inr (claimed-cases a b e)) (h .kind)
-
--- ---- the ends of steps inside a set
-
--- the claims of both
-abbrev both : Claims → Claims → Claims
-both x y = record { loops = bitOr (x .loops) (y .loops); mixes = bitOr (x .mixes) (y .mixes) }
-
-with-both : (x y : Claims) → WithNew x y (both x y)
-with-both x y = record { loops-are = λ i. member-or i (x .loops) (y .loops); mixes-are = λ i. member-or i (x .mixes) (y .mixes) }
-
-inner-both : (sets : List ℕ) (x y z p a b r : ℕ) → Unites x y z → Unites a b r → Inner sets x p a → Inner sets y p b → Inner sets z p r
-inner-both sets x y z p a b r is is-r f g i = (
-  (λ h. ⊎-elim (λ k. let q = f i .0 k in (union-left x y z is i (q .0), q .1)) (λ k. let q = g i .0 k in (union-right x y z is i (q .0), q .1))
-      (union-cases a b r is-r i h)),
-  λ q. ⊎-elim (λ k. union-left a b r is-r i (f i .1 (k, q .1))) (λ k. union-right a b r is-r i (g i .1 (k, q .1))) (union-cases x y z is i (q .0)),
-)
-
-pub ends-more : (g : Graph) (new : Claims) (p : ℕ) (inner : Claims) (found near r : ℕ) → InnerClaims g new p inner → Onward (Claimed g inner) p near
-    → ((t : ℕ) → member t r ≡ (member t found || member t near)) → MoreEnds g new p found r
-ends-more g new p inner found near r is-inner is-near is old force with-new ends =
-    let u = with-both (ends .inner) inner in
-    record {
-      inner = both (ends .inner) inner;
-      is-inner = record {
-        loops-are = inner-both (g .sets) (old .loops) (new .loops) (force .loops) p (ends .inner .loops) (inner .loops) _ (with-new .loops-are) (u .loops-are) (ends .is-inner .loops-are) (is-inner .loops-are);
-        mixes-are = inner-both (g .sets) (old .mixes) (new .mixes) (force .mixes) p (ends .inner .mixes) (inner .mixes) _ (with-new .mixes-are) (u .mixes-are) (ends .is-inner .mixes-are) (is-inner .mixes-are);
-      };
-      ends = λ s t h. ⊎-elim (λ k. union-left found near r is t (ends .ends s t k)) (λ k. union-right found near r is t (is-near t .1 (s, h .start, k)))
-          (hop-either g u p s t h);
-    }
-
--- ---- the ends of each set, one set after another
-
--- of the places below i the ends are added, the others are as they were
-pub record Added (g : Graph) (new : Claims) (i : ℕ) (before after : List ℕ) : Type 0 where
-  pub length-is : length after ≡ length before
-  pub done : length before ≡ 64 → (j : ℕ) → j < i → MoreEnds g new (getD (g .sets) j 0) (getD before j 0) (getD after j 0)
-  pub left : (j : ℕ) → i ≤ j → getD after j 0 ≡ getD before j 0
-
-module _ (g : Graph) (new : Claims) (before : List ℕ) where
-  pub added-none : Added g new 0 before before
-  added-none = record { length-is = refl; done = λ e j l. absurd (omega arith); left = λ j l. refl }
-
-  pub added-next : (i : ℕ) (after : List ℕ) (r : ℕ) → i < 64 → Added g new i before after
-      → MoreEnds g new (getD (g .sets) i 0) (getD after i 0) r → Added g new (i + 1) before (set after i r)
-  added-next i after r l now more = record {
-    length-is = length-set after i r ∙ now .length-is;
-    done = λ e. below-more _ i
-        (λ j h. subst (MoreEnds g new (getD (g .sets) j 0) (getD before j 0)) (sym (getD-set-other after i j r 0 (λ f. omega arith))) (now .done e j h))
-        (subst (MoreEnds g new (getD (g .sets) i 0) (getD before i 0)) (sym (getD-set-same after i r 0 (omega (arith, now .length-is))))
-        (subst (λ (x : ℕ). MoreEnds g new (getD (g .sets) i 0) x r) (now .left i (omega arith)) more));
-    left = λ j h. getD-set-other after i j r 0 (λ f. omega arith) ∙ now .left j (omega arith);
-  }

@@ -1,5 +1,5 @@
 -- Which sets a state is in, and which have a limit of it: written part by part (`filling-more`, `indexing-more`, `indexes`), in
--- the graph turned round too (`turns-into`, `turns-indexed`), and the steps by claims that they give (`claims-lead`).
+-- the graph turned round too (`turns-into`, `turns-indexed`), and the steps by claims that they give (`claims-lead`, `all-touched`).
 use Prim.Native.Nat.{ℕ, _+_, _≤_, _<_}
 use mathlib.Core.Path.{_≡_, refl, ap, sym, subst, _∙_}
 use mathlib.Core.Bool.{_&&_, _||_}
@@ -16,7 +16,7 @@ use Rattle.masks.proofs.Member.{in-none, lt-or-le, member-lt, union-left, union
 use Rattle.masks.proofs.Turning.{Sources, sources-none, sources-more, sources-some}
 use Rattle.search.specs.declared.Claims.{Claims}
 use Rattle.search.specs.Graph.{part, graph-of, TurnedGraph, Indexed, TurnsInto, TurnsIndexed, Fills, PlaceAdded, PartIndexed, Indexes}
-use Rattle.search.specs.Hops.{BackOrMix, Touched}
+use Rattle.search.specs.Hops.{Claimed, BackOrMix, Touched, Onward}
 use Rattle.search.proofs.Parts.{at-part, past-part, letters-at, part-length, part-stays, graph-stays}
 
 -- ---- masks written over a part, one after another
@@ -185,6 +185,23 @@ module _ (l : List ℕ) (m : ℕ) where
     pub enters : (entered : ℕ) → Targets (part l 256) m entered → (i : ℕ) → (i ∈ entered) ↔ ((s : ℕ) × (s ∈ m) × (s ∈ getD (graph-of l .sets) i 0))
     unfolding graph-of
     enters entered is-entered = touched 64 256 entered (is .by-sets) is-entered
+
+    -- where the omega steps are those by all loops in force that the states enter, no step by a claim is left out
+    pub all-touched : (force : Claims) (at entered r : ℕ) → Targets (part l 256) m at
+        → ((t : ℕ) → member t entered ≡ (member t at && member t (force .loops))) → Touched (graph-of l) force entered m r
+        → Onward (Claimed (graph-of l) force) m r
+    all-touched force at entered r is-at is-entered is-r t = (
+      (λ h. ⊎-elim
+          (λ x. let i = x .source in
+          let y = enters at is-at i .0 (intersection-left at (force .loops) entered is-entered i (x .is)) in
+          (y .0, y .1, inl (inl (i, intersection-right at (force .loops) entered is-entered i (x .is), y .2, x .edge))))
+          (λ y. (y .0, y .1, ⊎-elim (λ e. inl (inr e)) inr (y .2))) (is-r t .0 h)),
+      λ (s, h, e). is-r t .1 (⊎-elim
+          (⊎-elim
+          (λ o. inl (record { source = o .0; is = intersection-both at (force .loops) entered is-entered (o .0) (enters at is-at (o .0) .1 (s, h, o .2)) (o .1); edge = o .3 }))
+          (λ o. inr (s, h, inl o)))
+          (λ o. inr (s, h, inr o)) e),
+    )
 
     module _ (force : Claims) (ω left : ℕ) (is-left : Targets (part l 384) m left)
         (mix back : ℕ) (is-mix : (t : ℕ) → member t mix ≡ (member t left && member t (force .mixes)))

@@ -8,8 +8,8 @@ pub mod Joining
 pub mod Walks
 pub mod Saying
 pub mod Passing
+pub mod Pulling
 pub mod Adding
 pub mod Accepting
 pub mod Reaching
-pub mod Filtering
 pub mod Opening

@@ -11,7 +11,7 @@ use Rattle.masks.specs.Graph.{Targets}
 use Rattle.masks.specs.Mask.{_∈_}
 use Rattle.masks.proofs.Member.{member-lt}
 use Rattle.masks.proofs.Turning.{turned-back}
-use Rattle.search.specs.Graph.{Graph, part, graph-of, TurnedGraph}
+use Rattle.search.specs.Graph.{Graph, part, graph-of, TurnedGraph, BothWays}
 use Rattle.search.specs.Hops.{Lettered, Onward}
 
 pub at-part : (l : List ℕ) (base i : ℕ) → i < 64 → getD (part l base) i 0 ≡ getD l (base + i) 0
@@ -68,6 +68,9 @@ turn-back {g} {back} is = record {
   lefts-are = λ i. sym (is .rights-are i);
   rights-are = λ i. sym (is .lefts-are i);
 }
+
+pub ways-back : {l back : List ℕ} → BothWays l back → BothWays back l
+ways-back is = record { turned = turn-back (is .turned); indexed = is .back-indexed; back-indexed = is .indexed }
 
 -- ---- what is written into one part
 

@@ -1,5 +1,5 @@
 -- Passes: to follow the states new in the last pass alone is a pass (`pass-more`, `pass-vain`), and passes find what chains lead to
--- (`passes-onward`).
+-- (`passes-onward`), after a first one that is made in another way too (`onward-same`, `onward-now`).
 use Prim.Native.Nat.{ℕ, zero, suc, _+_, _^_, _<_}
 use mathlib.Core.Path.{_≡_, refl, subst, sym}
 use mathlib.Core.Bool.{_||_}
@@ -12,7 +12,7 @@ use Rattle.masks.proofs.Count.{ones-subset, ones-grows, lowest-is}
 use Rattle.masks.proofs.Member.{true-or-false, not-both, in-none, union-left, union-right, union-cases}
 use Rattle.search.specs.declared.Claims.{Claims}
 use Rattle.search.specs.Graph.{Graph}
-use Rattle.search.specs.Hops.{Hop, Chain, one, more, Onward}
+use Rattle.search.specs.Hops.{Hop, Chain, one, more, Onward, Joined}
 use Rattle.search.specs.Passes.{Pass, FindsMore, Passes, no-pass, one-more, PassesToEnd, WalkedTo, FoundByPasses, Followed, NewTargets, Explores}
 use Rattle.search.proofs.Chains.{chain-in, chain-end}
 use Rattle.search.proofs.Saying.{chain-iff}
@@ -22,6 +22,14 @@ use Rattle.search.proofs.Saying.{chain-iff}
 -- where every step leads to a state found
 pub new-none : {E : ℕ → ℕ → Type 0} (found last : ℕ) → ((a b : ℕ) → E a b → b ∈ found) → NewTargets E found last 0
 new-none found last f t = ((λ h. absurd (in-none t h)), λ x. absurd (x .1 (f (x .0 .0) t (x .0 .2))))
+
+-- steps that are the same
+pub new-same : {E F : ℕ → ℕ → Type 0} → ((a b : ℕ) → E a b → F a b) → ((a b : ℕ) → F a b → E a b) → (found last next : ℕ)
+    → NewTargets E found last next → NewTargets F found last next
+new-same f g found last next is t = (
+  (λ h. let x = is t .0 h in ((x .0 .0, x .0 .1, f (x .0 .0) t (x .0 .2)), x .1)),
+  λ x. is t .1 ((x .0 .0, x .0 .1, g (x .0 .0) t (x .0 .2)), x .1),
+)
 
 module _ {E : ℕ → ℕ → Type 0} (found last next : ℕ) (is-next : NewTargets E found last next) where
   -- where next has a state, so has the sum one that was not found
@@ -105,6 +113,25 @@ passes-led {m = m} led (one-more {found = f} {r = r} p is adds) = pass-led m f r
 pub passes-onward : {E : ℕ → ℕ → Type 0} {m first count r : ℕ} → Led E m first → PassesToEnd E m first count r → Onward (Chain E) m r
 passes-onward {m = m} {r = r} led p t =
     (passes-led led (p .passes) t, λ y. chain-in m r (λ a b g e. p .vain b .1 (inr (a, g, e))) (y .1) (y .2))
+
+module _ {E : ℕ → ℕ → Type 0} (m found last next : ℕ) (is-next : NewTargets E found last next) (now : Followed E m found last) (led : Led E m found) where
+  -- a first pass that adds nothing is the last
+  pub onward-same : next ≡ 0 → Onward (Chain E) m found
+  onward-same none = passes-onward led (record { before = 0; count-is = refl; passes = no-pass; vain = pass-vain found last next is-next m now none })
+
+  -- else passes go on
+  pub onward-now : (sum : ℕ) → ((t : ℕ) → member t sum ≡ (member t found || member t next)) → {count r : ℕ}
+      → ((k : ℕ) → Followed E k sum next → PassesToEnd E k sum count r) → Onward (Chain E) m r
+  onward-now sum is-sum made =
+      passes-onward (pass-led m found sum led (pass-more found last next is-next m now sum is-sum)) (made m (followed-more found last next is-next m now sum is-sum))
+
+-- the states to start from are found, and the steps of all are to be followed
+pub followed-all : (E : ℕ → ℕ → Type 0) (m : ℕ) → Followed E m m m
+followed-all E m = record { within = λ a h. inl h; others = λ a b g e. inl (⊎-elim (λ h. h) (λ h. h) g) }
+
+-- where they are joined, chains lead to them
+pub joined-led : {E : ℕ → ℕ → Type 0} (m : ℕ) → Joined E m → Led E m m
+joined-led m is t h = (t, h, is t t h h)
 
 -- nothing is found yet
 pub followed-none : (E : ℕ → ℕ → Type 0) (m : ℕ) → Followed E m 0 m

@@ -1,6 +1,6 @@
 -- A search among all states that goes on when new claims come into force: its first pass follows the new claims only.
 use Prim.Native.Nat.{ℕ}
-use mathlib.Core.Path.{_≡_, refl}
+use mathlib.Core.Path.{_≡_}
 use mathlib.Core.Bool.{not, _&&_, _||_}
 use mathlib.Core.Logic.{inl, inr, ⊎-elim}
 use Rattle.masks.specs.Mask.{member, _∈_}
@@ -8,12 +8,12 @@ use Rattle.masks.proofs.Member.{member-lt, union-left, union-right, union-cases
 use Rattle.search.specs.declared.Claims.{Claims}
 use Rattle.search.specs.Graph.{Graph}
 use Rattle.search.specs.Hops.{Claimed, Hop, one, more, Onward, all-mask, Reached}
-use Rattle.search.specs.Passes.{no-pass, PassesToEnd, Followed, NewTargets}
+use Rattle.search.specs.Passes.{PassesToEnd, Followed, NewTargets}
 use Rattle.search.specs.Promises.{SeenBefore}
 use Rattle.search.proofs.Accepting.{has-all}
 use Rattle.search.proofs.Chains.{chain-map}
 use Rattle.search.proofs.Hops.{claimed-new, hop-old, hop-either}
-use Rattle.search.proofs.Passing.{Led, pass-led, pass-vain, pass-more, followed-more, passes-onward}
+use Rattle.search.proofs.Passing.{Led, onward-same, onward-now}
 
 -- next are the states to which the new claims lead from the start and from what was seen, and are new
 module _ (g : Graph) (force new : Claims) (initials seen : ℕ) (old : SeenBefore g force new initials seen) (from near next : ℕ)
@@ -58,13 +58,9 @@ module _ (g : Graph) (force new : Claims) (initials seen : ℕ) (old : SeenBefor
 
   -- a first pass that adds nothing is the last
   pub reached-same : next ≡ 0 → Reached g force initials seen
-  reached-same none = passes-onward seen-led
-      (record { before = 0; count-is = refl; passes = no-pass; vain = pass-vain seen from next targets-new initials followed-from none })
+  reached-same = onward-same initials seen from next targets-new followed-from seen-led
 
-  module _ (found : ℕ) (is-found : (t : ℕ) → member t found ≡ (member t seen || member t next)) where
-    followed-now : Followed Now initials found next
-    followed-now = followed-more seen from next targets-new initials followed-from found is-found
-
-    -- else passes go on
-    pub reached-now : {count r : ℕ} → ((m : ℕ) → Followed Now m found next → PassesToEnd Now m found count r) → Reached g force initials r
-    reached-now p = passes-onward (pass-led initials seen found seen-led (pass-more seen from next targets-new initials followed-from found is-found)) (p initials followed-now)
+  -- else passes go on
+  pub reached-now : (found : ℕ) → ((t : ℕ) → member t found ≡ (member t seen || member t next)) → {count r : ℕ}
+      → ((m : ℕ) → Followed Now m found next → PassesToEnd Now m found count r) → Reached g force initials r
+  reached-now = onward-now initials seen from next targets-new followed-from seen-led

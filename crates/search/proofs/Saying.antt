@@ -18,13 +18,10 @@ use Rattle.orderings.proofs.Struck.{says-unstruck}
 use Rattle.search.specs.declared.Claims.{Claims}
 use Rattle.search.specs.Graph.{Graph}
 use Rattle.search.specs.Masked.{Masked, Forced, StepInside}
-use Rattle.search.specs.Hops.{Hop, Chain, InnerClaims, Joined, Between, OnChain, Covered}
-use Rattle.search.proofs.Chains.{chain-map}
+use Rattle.search.specs.Hops.{Hop, Chain, InnerClaims, Joined, OnChain, Covered}
+use Rattle.search.proofs.Chains.{chain-map, between-map}
 use Rattle.search.proofs.Steps.{hop-step, step-hop}
 use Rattle.search.proofs.Walks.{chain-leg, leg-chain, leg-between, between-leg}
-
-between-map : {E F : ℕ → ℕ → Type 0} → ((a b : ℕ) → E a b → F a b) → (a b s : ℕ) → Between E a b s → Between F a b s
-between-map f a b s = ⊎-elim (λ k. inl (k .0, chain-map f (k .1))) (λ k. inr (chain-map f (k .0), ⊎-elim inl (λ c. inr (chain-map f c)) (k .1)))
 
 -- with a state of P that is among its members
 unstruck-in : (rows : List Row) (P s : ℕ) → s ∈ P → Unstruck rows (members P) → Unstruck rows (s ∷ members P)

@@ -74,6 +74,12 @@ pub record InnerClaims (g : Graph) (force : Claims) (p : ℕ) (inner : Claims) :
 abbrev pub Joined : (ℕ → ℕ → Type 0) → ℕ → Type 0
 Joined E p = (a b : ℕ) → a ∈ p → b ∈ p → Chain E a b
 
+-- q is a part of p with a state, and chains lead from each state of q to each
+pub record JoinedPart (E : ℕ → ℕ → Type 0) (p q : ℕ) : Type 0 where
+  pub part : q ⊆ p
+  pub some : 0 < q
+  pub joined : Joined E q
+
 -- s lies on a chain from a to b: at its start, at its end, or between
 abbrev pub Between : (ℕ → ℕ → Type 0) → ℕ → ℕ → ℕ → Type 0
 Between E a b s = ((s ≡ a) × Chain E s b) ⊎ (Chain E a s × ((s ≡ b) ⊎ Chain E s b))
@@ -87,16 +93,6 @@ pub record Covered (E : ℕ → ℕ → Type 0) (m n p : ℕ) : Type 0 where
   pub states : (s : ℕ) → s ∈ p → OnChain E m n s ⊎ ((s ∈ m) × (s ∈ n))
   pub chain : (a : ℕ) × (b : ℕ) × (a ∈ m) × (b ∈ n) × Chain E a b
 
--- r has the end of every step inside p, by a letter or by a claim about a part of p
-pub record Ends (g : Graph) (force : Claims) (p r : ℕ) : Type 0 where
-  pub inner : Claims
-  pub is-inner : InnerClaims g force p inner
-  pub ends : (a b : ℕ) → Hop g inner p a b → b ∈ r
-
--- the same of each of the first n sets, and the mask at its place
-abbrev pub EndsBelow : Graph → Claims → ℕ → List ℕ → Type 0
-EndsBelow g force n l = (i : ℕ) → i < n → Ends g force (getD (g .sets) i 0) (getD l i 0)
-
 -- r has the places of a and those of b
 abbrev pub Unites : ℕ → ℕ → ℕ → Type 0
 Unites a b r = (t : ℕ) → member t r ≡ (member t a || member t b)
@@ -106,9 +102,6 @@ pub record WithNew (old new force : Claims) : Type 0 where
   pub loops-are : Unites (old .loops) (new .loops) (force .loops)
   pub mixes-are : Unites (old .mixes) (new .mixes) (force .mixes)
 
--- a step starts from a state of m, and one ends in a state of n; each state of p is in m or a step ends in it, and it is in n or a step starts
--- from it
-pub record Threaded (p m n to from : ℕ) : Type 0 where
-  pub leaves : (s : ℕ) × (s ∈ m) × (s ∈ from)
-  pub enters : (s : ℕ) × (s ∈ n) × (s ∈ to)
-  pub states : (s : ℕ) → s ∈ p → ((s ∈ m) ⊎ (s ∈ to)) × ((s ∈ n) ⊎ (s ∈ from))
+-- no claim in force
+abbrev pub no-claims : Claims
+no-claims = record { loops = 0; mixes = 0 }

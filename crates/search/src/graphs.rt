@@ -30,7 +30,7 @@ pub type Masks = [Set; MASKS];
 
 // The mask at place `i` of the part that begins at `base`.
 pub fn mask_at(graph: &Masks, base: usize, i: usize) -> Set
-    requires { ⌜ (base ≤ 192) × (i < 64) ⌝ }
+    requires { ⌜ (base ≤ 384) × (i < 64) ⌝ }
     ensures { λ r. ⌜ r ≡ getD (part (now (graph .entry)) base) i 0 ⌝ }
 {
     graph[base + i]
@@ -61,7 +61,7 @@ pub fn rights_at(graph: &Masks, i: usize) -> Set
 }
 
 // The targets of the states, or of the places, `m` in the part that begins at `base`.
-pub(crate) fn targets_in(graph: &[Set], base: usize, m: Set) -> Set
+pub fn targets_in(graph: &[Set], base: usize, m: Set) -> Set
     requires { ⌜ base + 64 ≤ length (now graph) ⌝ }
     ensures { λ r. ⌜ Targets (part (now (graph .entry)) base) m r ⌝ }
 {
@@ -118,7 +118,7 @@ fn copy(back: &mut Masks, base: usize, masks: &[Set], from: usize)
 }
 
 // Writes the four parts of the graph with every step turned round: lefts are rights.
-pub fn turn(graph: &Masks, back: &mut Masks)
+fn turn(graph: &Masks, back: &mut Masks)
     ensures { λ _. ⌜ TurnsInto (now (graph .entry)) (now (back .entry)) (now (back .exit)) ⌝ }
 {
     let letters = masks::transpose(graph);

@@ -1,6 +1,7 @@
 // One step: where the letters and the claims in force lead to from a set of states.
 use crate::Claims;
 use crate::graphs::BY_RIGHTS;
+use crate::graphs::BY_SETS;
 use crate::graphs::LEFTS;
 use crate::graphs::Masks;
 use crate::graphs::SETS;
@@ -127,12 +128,13 @@ pub(crate) fn touched(graph: &Masks, force: Claims, omegas: Places, m: Set) -> S
     )
 }
 
-// The states to which one step inside `p` leads from the states `m`.
-pub fn targets(graph: &Masks, force: Claims, p: Set, m: Set) -> Set
+// The states to which one step inside `p` leads from the states `m`, by the sets that they touch.
+pub fn near(graph: &Masks, force: Claims, p: Set, m: Set) -> Set
+    requires { ⌜ Indexed (now graph) ⌝ }
     ensures { λ r. ⌜ Onward (Hop (graph-of (now (graph .entry))) force p) m r ⌝ }
 {
     let from = intersection(m, p);
-    let letter = lettered(graph, from);
-    let claim = claimed(graph, force, from);
-    intersection(union(letter, claim), p)
+    let entered = intersection(targets_in(graph, BY_SETS, from), force.loops);
+    let claim = touched(graph, force, entered, from);
+    intersection(union(lettered(graph, from), claim), p)
 }

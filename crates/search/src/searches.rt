@@ -5,18 +5,26 @@ use crate::graphs::Masks;
 use crate::graphs::targets_in;
 use crate::moves::claimed;
 use crate::moves::lettered;
+use crate::moves::marked;
+use crate::moves::near;
 use crate::moves::touched;
 use masks::Places;
 use masks::Set;
 use masks::difference;
 use masks::intersection;
 use masks::meets;
+use masks::size;
+use masks::take_lowest;
 use masks::union;
+use masks::with;
 ghost use mathlib.Core.Path.{_≡_};
-ghost use Rattle.search.specs.Graph.{graph-of, Indexed};
-ghost use Rattle.search.specs.Hops.{Hop, Chain, Onward, all-mask, Reached};
-ghost use Rattle.search.specs.Passes.{Unentered, Adding, Explores, FoundByPasses};
+ghost use Rattle.search.specs.Graph.{graph-of, Indexed, BothWays};
+ghost use Rattle.search.specs.Hops.{Hop, Chain, Onward, all-mask, Reached, Joined};
+ghost use Rattle.search.specs.Passes.{NewTargets, Unentered, Adding, Explores, FoundByPasses};
 ghost use Rattle.search.specs.Promises.{AcceptsRight, AcceptsSeen, SeenBefore};
+
+// So many states not found are looked at one by one.
+const FEW: usize = 8;
 
 // What a search found, and the passes that it took, with the last one, which added nothing.
 pub struct Found {
@@ -89,6 +97,40 @@ pub fn reach(graph: &Masks, force: Claims, p: Set, m: Set) -> Set
     ensures { λ r. ⌜ Onward (Chain (Hop (graph-of (now (graph .entry))) force p)) m r ⌝ }
 {
     let found = passes(graph, force, p, m);
+    found.states
+}
+
+// The states of `p` that are not found and to which a step inside `p` leads from one that is. `back` is the graph turned round.
+fn pull(back: &Masks, force: Claims, p: Set, found: Set) -> Set
+    requires { ⌜ Indexed (now back) ⌝ }
+    ensures { λ r. ⌜ NewTargets (λ s t. Hop (graph-of (now (back .entry))) force p t s) found found r ⌝ }
+{
+    let mut r: Set = 0;
+    let mut rest = difference(p, found);
+    while rest != 0 {
+        let next = take_lowest(rest);
+        let before = near(back, force, p, with(0, next.low));
+        r = union(r, marked(meets(before, found), next.low));
+        rest = next.rest;
+    }
+    r
+}
+
+// As `reach`, where a walk of one or more steps inside `p` leads from each state of `q` to each: these are found from the start. Where few
+// others are in `p`, the first pass looks from them.
+pub(crate) fn reach_from(graph: &Masks, back: &Masks, force: Claims, p: Set, q: Set) -> Set
+    requires { ⌜ BothWays (now graph) (now back) × Joined (Hop (graph-of (now graph)) force p) q ⌝ }
+    ensures { λ r. ⌜ Onward (Chain (Hop (graph-of (now (graph .entry))) force p)) q r ⌝ }
+{
+    if FEW < size(difference(p, q)) {
+        let all = explore(graph, force, p, q, q);
+        return all.states;
+    }
+    let first = pull(back, force, p, q);
+    if first == 0 {
+        return q;
+    }
+    let found = explore(graph, force, p, union(q, first), first);
     found.states
 }
 

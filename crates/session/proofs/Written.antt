@@ -25,10 +25,11 @@ use Rattle.automaton.specs.declared.Automaton.{Automaton}
 use Rattle.automaton.specs.Promise.{Gives, GivesKeyed}
 use Rattle.rounds.specs.declared.Progress.{Progress}
 use Rattle.rounds.specs.Promises.{Mirrors}
+use Rattle.walks.proofs.Standing.{keyed-letters}
 use Rattle.expression.specs.Promise.{ExpressesWalk}
 use Rattle.whole_sheet.specs.Promise.{PrintsSheet}
 use Rattle.whole_sheet.specs.Saving.{row-list}
-use Rattle.whole_sheet.proofs.Automata.{gives-filed}
+use Rattle.whole_sheet.proofs.Automata.{gives-filed, given-rows}
 use Rattle.whole_sheet.proofs.Saving.{rows-held}
 use Rattle.session.specs.declared.Session.{Session}
 use Rattle.session.specs.declared.Reply.{Reply}
@@ -63,9 +64,9 @@ module _ (s : Session) (v : Verdict) (state : HasState s (IsSettled v)) (high lo
       (text (x .now), f (x .now) e, (rw k at h) (x .now) (p .formed .now-formed) e (keyed-of x s p high low keyed, sets-in-of x s p) (reads x p) (mirrors-of x s p)))
 
   -- the sheet
-  pub prints-settled : PrintsSheet v high low (s .«row_count») (s .sets) (s .«set_count») a rounds old new r → Promised s (on (print (length old))) old new (reply s r)
+  pub prints-settled : PrintsSheet v high (s .«row_count») (s .«set_count») a rounds old new r → Promised s (on (print (length old))) old new (reply s r)
   prints-settled h = writes-settled (print (length old)) (sheet v) (λ m. sheets v (length old))
-      (λ m w e f g i. tells-as (ap (λ (n : Next). n .answer) (writing m (sheets v (length old) e))) (h m w e f g i))
+      (λ m w e f g i. tells-as (ap (λ (n : Next). n .answer) (writing m (sheets v (length old) e))) (h m w e (keyed-letters (f .0) (w .table)) (given-rows (w .table) (f .1) g) i))
 
   -- its walk
   pub expresses-settled : v ≡ NonEmpty → ExpressesWalk high low (s .«row_count») (s .«set_count») a rounds old new r → Promised s (on (expression (length old))) old new (reply s r)

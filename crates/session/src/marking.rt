@@ -10,6 +10,8 @@ use machine::Phase;
 use marks::Kept;
 use marks::MOST_MARKS;
 use marks::NamePlace;
+use search::graphs;
+use search::graphs::MASKS;
 ghost use mathlib.Core.Path.{_≡_};
 ghost use mathlib.Core.List.{[]};
 ghost use Prim.Native.Nat.{_≤_};
@@ -57,7 +59,9 @@ impl Session {
         let n = self.set_count;
         let a = self.automaton();
         let graph = a.graph;
-        let now = rounds::work(&graph, a.initials, a.finals, n, most);
+        let mut back = [0u64; MASKS];
+        graphs::turn_indexed(&graph, &mut back);
+        let now = rounds::work(&graph, &back, a.initials, a.finals, n, most);
         self.done_with(now)
     }
 

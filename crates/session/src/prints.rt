@@ -4,6 +4,8 @@ use crate::Session;
 use crate::State;
 use machine::FOREIGN_RECORD;
 use machine::Verdict;
+use search::graphs;
+use search::graphs::MASKS;
 ghost use lib.ListN.{length};
 ghost use Rattle.machine.specs.Calls.{print};
 ghost use Rattle.machine.specs.Marks.{on};
@@ -16,24 +18,23 @@ impl Session {
         ensures { λ r. ⌜ Promised self (on (print (length (now (buffer .entry)))))
             (now (buffer .entry)) (now (buffer .exit)) r ⌝ }
     {
-        let sets = self.sets;
         let n = self.row_count;
         let k = self.set_count;
         let keys = self.keys();
         let high = keys.high;
-        let low = keys.low;
         let a = self.automaton();
         let graph = a.graph;
+        let mut back = [0u64; MASKS];
+        graphs::turn_indexed(&graph, &mut back);
         let kept = self.progress();
         let answer = whole_sheet::print(
             buffer,
             v,
             &high,
-            &low,
             n,
-            &sets,
             k,
             &graph,
+            &back,
             a.initials,
             a.finals,
             kept,

@@ -27,12 +27,12 @@ pub fn put_text(buf: &mut [u8], text: &[u8]) -> usize
     i
 }
 
-// The byte of a digit: 0 to 9, a to f.
+// The byte of a digit: 0 to 9, a to f. With no branch, since digits follow no pattern.
 fn digit_byte(d: u8) -> u8
     requires { ⌜ d < 16 ⌝ }
     ensures { λ r. ⌜ r ≡ digit d ⌝ }
 {
-    if d < 10 { 48 + d } else { 87 + d }
+    48 + d + (d + 6) / 16 * 39
 }
 
 // Writes the `count` low digits of a number, from the last to the first.
@@ -64,11 +64,36 @@ pub fn number_len(n: u64) -> usize
     k
 }
 
-// Writes a number with no leading zeros.
+// Writes a number of one digit.
+fn put_one(buf: &mut [u8], n: u64) -> usize
+    requires { ⌜ (n < 10) × (1 ≤ length (now buf)) ⌝ }
+    ensures { λ r. ⌜ Wrote (number-text n) (now (buf .entry)) (now (buf .exit)) r ⌝ }
+{
+    buf[0] = digit_byte(n as u8);
+    1
+}
+
+// Writes a number of two digits.
+fn put_two(buf: &mut [u8], n: u64) -> usize
+    requires { ⌜ (10 ≤ n) × (n < 100) × (2 ≤ length (now buf)) ⌝ }
+    ensures { λ r. ⌜ Wrote (number-text n) (now (buf .entry)) (now (buf .exit)) r ⌝ }
+{
+    buf[0] = digit_byte((n / 10) as u8);
+    buf[1] = digit_byte((n % 10) as u8);
+    2
+}
+
+// Writes a number with no leading zeros. Most have one digit or two: they are written without a loop.
 pub fn put_number(buf: &mut [u8], n: u64) -> usize
     requires { ⌜ length (number-text n) ≤ length (now buf) ⌝ }
     ensures { λ r. ⌜ Wrote (number-text n) (now (buf .entry)) (now (buf .exit)) r ⌝ }
 {
+    if n < 10 {
+        return put_one(buf, n);
+    }
+    if n < 100 {
+        return put_two(buf, n);
+    }
     put_digits(buf, number_len(n), 10, n)
 }
 

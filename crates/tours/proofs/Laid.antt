@@ -35,9 +35,10 @@ use Rattle.search.specs.Hops.{all-mask}
 use Rattle.search.specs.Masked.{Initials, Finals}
 use Rattle.search.specs.Promises.{Stands}
 use Rattle.walks.specs.Layers.{Ahead}
+use Rattle.row_table.specs.Letters.{LettersIn}
 use Rattle.walks.specs.Choices.{Way, InOrder}
 use Rattle.walks.specs.Walks.{Courses, Descends}
-use Rattle.walks.proofs.Standing.{Free}
+use Rattle.walks.proofs.Standing.{Free, keyed-letters, in-order}
 use Rattle.walks.proofs.Courses.{lay-none, lay-foremost}
 use Rattle.walks.proofs.Answers.{to-leading, leading-best, final-free}
 use Rattle.tours.specs.declared.Shape.{Shape}
@@ -97,6 +98,12 @@ module _ {m : Machine} {g back : Graph} {highs lows : List ℕ} {n k : ℕ} (hel
   stands : Stands g (framed .all) (m .rows) claims k
   stands = record { masked = held .masked; forced = framed .forced }
 
+  letters : LettersIn (m .rows) highs n
+  letters = keyed-letters (held .keyed) (held .formed .table)
+
+  ordered : InOrder highs lows n back force
+  ordered = in-order (held .turned) stands (held .count) (held .keyed) (held .formed .table) (framed .inner)
+
   -- walks inside P of zero or more steps
   abbrev pub Ways : ℕ → ℕ → Found → Type 0
   Ways from to = Leading (m .rows) (λ c. c among claims) P (λ t. t ∈ from) (λ t. t ∈ to)
@@ -117,8 +124,8 @@ module _ {m : Machine} {g back : Graph} {highs lows : List ℕ} {n k : ℕ} (hel
     -- where no end is struck, what is laid is the first of the shortest
     pub one-lies : (s : ℕ) → OneOrMore (Ahead back force P) from to s layers r → Laid from to s layers r
     one-lies s o = ⊎-elim
-        (λ l. inl (l .some, lay-foremost (held .turned) stands (held .count) (held .keyed) (held .formed .table) (framed .inner) from to layers (r .start) (r .steps) l free))
-        (λ z. inr (z .0, z .1, lay-none (held .turned) stands (held .count) (held .keyed) (held .formed .table) (framed .inner) from to layers (z .2))) o
+        (λ l. inl (l .some, lay-foremost (held .turned) stands (held .count) letters (framed .inner) ordered from to layers (r .start) (r .steps) l free))
+        (λ z. inr (z .0, z .1, lay-none (held .turned) stands (held .count) letters (framed .inner) ordered from to layers (z .2))) o
 
     -- and so it is of zero or more steps, or there is none
     pub zero-lies : ZeroOrMore (Ahead back force P) from to layers r → Lies (Ways from to) layers r ⊎ ((f : Found) → ¬ Ways from to f)

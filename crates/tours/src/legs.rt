@@ -18,7 +18,7 @@ ghost use Rattle.masks.specs.Mask.{_∈_};
 ghost use Rattle.machine.specs.Machine.{open-claims};
 ghost use Rattle.machine.specs.Search.{shortest};
 ghost use Rattle.machine.specs.Expression.{walk-in};
-ghost use Rattle.search.specs.Graph.{graph-of};
+ghost use Rattle.search.specs.Graph.{graph-of, Indexed};
 ghost use Rattle.walks.specs.Layers.{Ahead};
 ghost use Rattle.tours.specs.declared.Shape.the-variants.{Whole, Tour, Pieces};
 ghost use Rattle.tours.specs.Frames.{LowLeg, LaysLeg, neighbour, piece-of};
@@ -43,7 +43,7 @@ fn one_or_more(
     s: u8,
     layers: &mut [Set],
 ) -> Leg
-    requires { ⌜ 64 ≤ length (now layers) ⌝ }
+    requires { ⌜ (64 ≤ length (now layers)) × Indexed (now back) ⌝ }
     ensures kept { λ _. ⌜ length (now (layers .exit)) ≡ length (now (layers .entry)) ⌝ }
     ensures laid { λ r. ⌜ OneOrMore (Ahead (graph-of (now (back .entry))) force p) starts ends s
         (now (layers .exit)) r ⌝ }
@@ -64,7 +64,7 @@ fn zero_or_more(
     layers: &mut [Set],
     at: usize,
 ) -> Leg
-    requires { ⌜ at + 64 ≤ length (now layers) ⌝ }
+    requires { ⌜ (at + 64 ≤ length (now layers)) × Indexed (now back) ⌝ }
     ensures kept { λ _. ⌜ KeptBelow at (now (layers .entry)) (now (layers .exit)) ⌝ }
     ensures laid { λ r. ⌜ ZeroOrMore (Ahead (graph-of (now (back .entry))) force p) starts ends
         (drop at (now (layers .exit))) r ⌝ }
@@ -88,6 +88,7 @@ pub fn whole(
     ends: Set,
     layers: &mut [Set; LAYERS],
 ) -> Leg
+    requires { ⌜ Indexed (now back) ⌝ }
     ensures low { λ r. ⌜ LowLeg r ⌝ }
     ensures lays { λ r. ⌜ LaysLeg (graph-of (now (back .entry))) Whole p starts ends force
         (λ m. walk-in (shortest (m .rows) (open-claims m))) (now (layers .exit)) r ⌝ }
@@ -97,7 +98,7 @@ pub fn whole(
 
 // A walk of one or more steps from `a` to `b`.
 pub fn between(back: &Masks, force: Claims, p: Set, a: u8, b: u8, layers: &mut [Set; LAYERS]) -> Leg
-    requires { ⌜ (a < 64) × (b < 64) ⌝ }
+    requires { ⌜ (a < 64) × (b < 64) × Indexed (now back) ⌝ }
     ensures low { λ r. ⌜ LowLeg r ⌝ }
     ensures lays { λ r. ⌜ ((q starts ends : ℕ) → a ∈ p → b ∈ p → LaysLeg (graph-of (now (back .entry))) (Tour q) p
         starts ends force (neighbour p a b) (now (layers .exit)) r) ⌝ }
@@ -131,7 +132,7 @@ fn piece_at_gap(
     s: u8,
     layers: &mut [Set; LAYERS],
 ) -> Leg
-    requires { ⌜ (s ∈ starts) × (s ∈ ends) ⌝ }
+    requires { ⌜ (s ∈ starts) × (s ∈ ends) × Indexed (now back) ⌝ }
     ensures low { λ r. ⌜ LowLeg r ⌝ }
     ensures lays { λ r. ⌜ (s ∈ p → LaysLeg (graph-of (now (back .entry))) Pieces p starts ends force (piece-of p s)
         (now (layers .exit)) r) ⌝ }
@@ -156,7 +157,7 @@ fn piece_through(
     s: u8,
     layers: &mut [Set; LAYERS],
 ) -> Leg
-    requires { ⌜ (s < 64) × (s ∈ starts → s ∈ ends → ⊥) ⌝ }
+    requires { ⌜ (s < 64) × (s ∈ starts → s ∈ ends → ⊥) × Indexed (now back) ⌝ }
     ensures low { λ r. ⌜ LowLeg r ⌝ }
     ensures lays { λ r. ⌜ (s ∈ p → LaysLeg (graph-of (now (back .entry))) Pieces p starts ends force (piece-of p s)
         (now (layers .exit)) r) ⌝ }
@@ -182,7 +183,7 @@ pub fn piece(
     s: u8,
     layers: &mut [Set; LAYERS],
 ) -> Leg
-    requires { ⌜ s < 64 ⌝ }
+    requires { ⌜ (s < 64) × Indexed (now back) ⌝ }
     ensures low { λ r. ⌜ LowLeg r ⌝ }
     ensures lays { λ r. ⌜ (s ∈ p → LaysLeg (graph-of (now (back .entry))) Pieces p starts ends force (piece-of p s)
         (now (layers .exit)) r) ⌝ }

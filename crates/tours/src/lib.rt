@@ -14,7 +14,7 @@ ghost use mathlib.Core.Bool.{true, false};
 ghost use Prim.Native.Nat.{ℕ, _+_, _*_, _≤_, _<_};
 ghost use mathlib.Core.Logic.{_↔_};
 ghost use Rattle.masks.specs.Mask.{_∈_};
-ghost use Rattle.search.specs.Graph.{graph-of};
+ghost use Rattle.search.specs.Graph.{graph-of, Indexed};
 ghost use Rattle.tours.specs.Frames.{LowShape, LowLeg};
 ghost use Rattle.tours.specs.Parts.{separator};
 ghost use Rattle.tours.specs.Cursors.{Low, size-of, Begins, Advances, ShowsPart, LowChoice};
@@ -82,7 +82,7 @@ fn above(m: Set, s: u8) -> Set
 
 // The leg of the state `s`: of a tour, from `state` to it; of pieces, the one for it.
 fn leg_of(back: &Masks, frame: Frame, state: u8, s: u8, layers: &mut [Set; LAYERS]) -> Leg
-    requires { ⌜ (state < 64) × (s < 64) ⌝ }
+    requires { ⌜ (state < 64) × (s < 64) × Indexed (now back) ⌝ }
     ensures low { λ r. ⌜ LowLeg r ⌝ }
     ensures lays { λ r. ⌜ LaysLegOf (graph-of (now (back .entry))) frame state s (now (layers .exit)) r ⌝ }
 {
@@ -119,7 +119,7 @@ fn lead(
     later: Set,
     layers: &mut [Set; LAYERS],
 ) -> Cursor
-    requires { ⌜ (0 < rest) × (state < 64) ⌝ }
+    requires { ⌜ (0 < rest) × (state < 64) × Indexed (now back) ⌝ }
     ensures low { λ r. ⌜ Low r ⌝ }
     ensures fewer { λ r. ⌜ size-of r ≤ (rest + later) * 130 ⌝ }
     ensures comes { λ r. ⌜ Comes (graph-of (now (back .entry))) frame before state rest later (now (layers .exit)) r ⌝ }
@@ -147,7 +147,7 @@ fn onward(
     later: Set,
     layers: &mut [Set; LAYERS],
 ) -> Cursor
-    requires { ⌜ state < 64 ⌝ }
+    requires { ⌜ (state < 64) × Indexed (now back) ⌝ }
     ensures low { λ r. ⌜ Low r ⌝ }
     ensures fewer { λ r. ⌜ size-of r ≤ (rest + later) * 130 ⌝ }
     ensures comes { λ r. ⌜ Comes (graph-of (now (back .entry))) frame before state rest later (now (layers .exit)) r ⌝ }
@@ -163,7 +163,7 @@ fn onward(
 
 // At the first part of all.
 pub fn begin(back: &Masks, frame: Frame, layers: &mut [Set; LAYERS]) -> Cursor
-    requires { ⌜ LowShape (frame .shape) ⌝ }
+    requires { ⌜ LowShape (frame .shape) × Indexed (now back) ⌝ }
     ensures low { λ r. ⌜ Low r ⌝ }
     ensures begins { λ r. ⌜ Begins (graph-of (now (back .entry))) frame (now (layers .exit)) r ⌝ }
 {
@@ -199,7 +199,7 @@ pub fn advance(
     to: u8,
     layers: &mut [Set; LAYERS],
 ) -> Cursor
-    requires { ⌜ LowShape (frame .shape) × Low cursor × (to < 64) ⌝ }
+    requires { ⌜ LowShape (frame .shape) × Low cursor × (to < 64) × Indexed (now back) ⌝ }
     ensures low { λ r. ⌜ Low r ⌝ }
     ensures fewer { λ r. ⌜ (cursor .live ≡ true → size-of r < size-of cursor) ⌝ }
     ensures advances { λ r. ⌜ Advances (graph-of (now (back .entry))) frame (now (layers .entry)) cursor to

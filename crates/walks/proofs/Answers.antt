@@ -25,13 +25,13 @@ use Rattle.search.specs.Hops.{all-mask}
 use Rattle.search.specs.Masked.{Initials, Finals}
 use Rattle.search.specs.Promises.{Stands}
 use Rattle.search.proofs.Accepting.{has-all, all-claims, walk-all}
-use Rattle.row_table.specs.Arrays.{Keyed}
+use Rattle.row_table.specs.Letters.{LettersIn}
 use Rattle.walks.specs.declared.Course.the-variants.{From, Nowhere}
 use Rattle.walks.specs.declared.FoundWalk.{FoundWalk}
 use Rattle.walks.specs.Layers.{Ahead, Lays}
-use Rattle.walks.specs.Choices.{Way, InOrder}
+use Rattle.walks.specs.Choices.{Way, SetsRise}
 use Rattle.walks.specs.Walks.{steps-from, as-found, Follows, Answers}
-use Rattle.walks.proofs.Standing.{Free, in-order}
+use Rattle.walks.proofs.Standing.{Free, sets-rise-in}
 use Rattle.walks.proofs.Descending.{follows-descends}
 use Rattle.walks.proofs.Courses.{lay-none, lay-foremost}
 
@@ -66,20 +66,21 @@ module _ (rows : List Row) (claims : List Claim) (initials finals : ℕ) (is-ini
   }
 
   module _ {g back : Graph} (turned : TurnedGraph g back) {force : Claims} {k : ℕ} (is : Stands g force rows claims k) (count : length (standing-sets rows) ≡ k)
-      {highs lows : List ℕ} {n : ℕ} (keyed : Keyed rows highs lows n) (unmet : (s : ℕ) → s ∈ initials → s ∈ finals → ⊥) where
+      {words : List ℕ} {n : ℕ} (letters : LettersIn rows words n) (unmet : (s : ℕ) → s ∈ initials → s ∈ finals → ⊥) where
     pub answer-none : (layers : List ℕ) (w : FoundWalk) → w .found ≡ false → Lays (Ahead back force all-mask) initials finals layers Nowhere → Answers rows claims w
     answer-none layers w e l = record {
       best = λ t. absurd (not-both t e);
       none = λ f g c. stepping-none rows (λ c. c among claims) all-mask (λ s. s ∈ initials) (λ s. s ∈ finals) unmet
-          (lay-none turned is count keyed table (all-claims _ force) initials finals layers l) g (to-leading g c);
+          (lay-none turned is count letters (all-claims _ force) (sets-rise-in turned is count letters (all-claims _ force)) initials finals layers l) g (to-leading g c);
     }
 
     pub answer-best : (layers : List ℕ) (start steps : ℕ) (w : FoundWalk) → Lays (Ahead back force all-mask) initials finals layers (From start steps)
-        → Follows (Way highs n back force) (InOrder highs lows n back force) layers start steps w → Answers rows claims w
+        → Follows (Way words n back force) (SetsRise back force) layers start steps w → Answers rows claims w
     answer-best layers start steps w l f =
         let inner = all-claims g force in
-        let r = lay-foremost turned is count keyed table inner initials finals layers start steps l final-free in
-        let s = follows-descends (Way highs n back force) (InOrder highs lows n back force) (in-order turned is count keyed table inner) layers start steps w f (r .0) (r .1) in
+        let rise = sets-rise-in turned is count letters inner in
+        let r = lay-foremost turned is count letters inner rise initials finals layers start steps l final-free in
+        let s = follows-descends (Way words n back force) (SetsRise back force) rise layers start steps w f (r .0) (r .1) in
         let h : Found = record { start = start; walk = r .0 } in
         record {
           best = λ e. rw (f .begins, s .0, s .1) (leading-best h (stepping-foremost rows (λ c. c among claims) all-mask (λ s. s ∈ initials) (λ s. s ∈ finals) unmet h (r .2)));

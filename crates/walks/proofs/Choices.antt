@@ -1,5 +1,5 @@
 -- The first step of one kind (`pass-first`, `pass-end`), and the first of all: of the first kind that has one (`choose-letter`, `choose-omega`,
--- `choose-back`, `choose-mix`).
+-- `choose-back`, `choose-mix`); where no letter leads there, the first by a claim (`after-letters`).
 use Prim.Native.Nat.{ℕ, _≤_, _<_}
 use mathlib.Core.Path.{_≡_, refl, subst}
 use mathlib.Core.Logic.{_⊎_, inl, inr, ⊎-elim, _↔_}
@@ -13,9 +13,12 @@ use Rattle.masks.proofs.Member.{lt-or-le, in-none}
 use Rattle.masks.proofs.Gathering.{Gathered, gather-end}
 use Rattle.orderings.specs.Steps.{Label, letter, ω, back, mix}
 use Rattle.machine.specs.Order.{kind, value}
+use Rattle.search.specs.declared.Claims.{Claims}
+use Rattle.search.specs.Graph.{Graph}
+use Rattle.row_table.specs.Letters.{LetterAt}
 use Rattle.walks.specs.declared.Choice.{Choice}
 use Rattle.walks.specs.declared.Choice.the-variants.{Taken, Nothing}
-use Rattle.walks.specs.Choices.{named, PassAt, RisingAt, First, Picked, Chooses}
+use Rattle.walks.specs.Choices.{named, PassAt, Way, ClaimWay, RisingAt, First, Picked, Chooses}
 
 module _ (layers here there : List ℕ) (places a layer : ℕ) where
   -- a step by the place i leads to t
@@ -129,3 +132,34 @@ module _ (layer : ℕ) (W : Label → ℕ → Type 0) (Ordered : Type 0) where
       all v t ord f (ω x) u w m = absurd (no-omega ord x u w m)
       all v t ord f (back x) u w m = absurd (no-back ord x u w m)
       all v t ord f (mix x) u w m = inr (refl, f x u w m)
+
+-- ---- letters first
+
+-- a step by a claim is a step
+claim-way : (words : List ℕ) (n : ℕ) (b : Graph) (force : Claims) (a : ℕ) (l : Label) (t : ℕ) → ClaimWay b force a l t → Way words n b force a l t
+claim-way words n b force a (letter x) t w = absurd (omega (arith, w .1))
+claim-way words n b force a (ω P) t w = w
+claim-way words n b force a (back P) t w = w
+claim-way words n b force a (mix P) t w = w
+
+-- no step by a claim is one by a letter
+pub no-letters : {O : Type 0} (b : Graph) (force : Claims) (a layer : ℕ) → O → Lacks layer (ClaimWay b force a) O 0
+no-letters b force a layer o v t w m = absurd (omega (arith, w .1))
+
+-- where no letter leads into the layer, the first step by a claim is the first of all
+pub after-letters : (words : List ℕ) (n : ℕ) (b : Graph) (force : Claims) (a layer : ℕ) {Ordered O : Type 0} → (Ordered → O) → (Ordered → First layer (LetterAt words n a) Nothing)
+    → (r : Choice) → Chooses layer (ClaimWay b force a) O r → Chooses layer (Way words n b force a) Ordered r
+after-letters words n b force a layer {Ordered} {O} o none Nothing c = all
+  where
+    all : Ordered → (l : Label) (u : ℕ) → Way words n b force a l u → u ∈ layer → ⊥
+    all ord (letter x) u w m = none ord x u w m
+    all ord (ω P) u w m = c (o ord) (ω P) u w m
+    all ord (back P) u w m = c (o ord) (back P) u w m
+    all ord (mix P) u w m = c (o ord) (mix P) u w m
+after-letters words n b force a layer {Ordered} {O} o none (Taken k v t) c = (claim-way words n b force a (named k v) t (c .0), c .1, all)
+  where
+    all : Ordered → (l : Label) (u : ℕ) → Way words n b force a l u → u ∈ layer → ¬ ((kind l ∷ value l ∷ u ∷ []) ≺ (kind (named k v) ∷ value (named k v) ∷ t ∷ []))
+    all ord (letter x) u w m = absurd (none ord x u w m)
+    all ord (ω P) u w m = c .2 (o ord) (ω P) u w m
+    all ord (back P) u w m = c .2 (o ord) (back P) u w m
+    all ord (mix P) u w m = c .2 (o ord) (mix P) u w m

@@ -22,19 +22,18 @@ use Rattle.orderings.proofs.Deciding.{steps-allowed, inside-iff}
 use Rattle.orderings.proofs.Steps.{Runs}
 use Rattle.orderings.proofs.Struck.{step-unstruck}
 use Rattle.machine.specs.Order.{kind, value, step-key, Found, Foremost}
-use Rattle.machine.specs.WellFormed.{Table}
 use Rattle.machine.proofs.Nearest.{split-three}
 use Rattle.search.specs.declared.Claims.{Claims}
 use Rattle.search.specs.Graph.{Graph, TurnedGraph}
 use Rattle.search.specs.Hops.{InnerClaims}
 use Rattle.search.specs.Promises.{Stands}
-use Rattle.row_table.specs.Arrays.{Keyed}
+use Rattle.row_table.specs.Letters.{LettersIn}
 use Rattle.walks.specs.declared.Choice.the-variants.{Taken}
 use Rattle.walks.specs.declared.Course.the-variants.{From, Nowhere}
 use Rattle.walks.specs.Layers.{Ahead, Layered, Lays}
-use Rattle.walks.specs.Choices.{named, Way, InOrder, Chooses}
+use Rattle.walks.specs.Choices.{named, Way, Chooses}
 use Rattle.walks.specs.Walks.{Courses, Descends}
-use Rattle.walks.proofs.Standing.{Can, Free, in-order, way-can, can-way, can-ahead, ahead-can}
+use Rattle.walks.proofs.Standing.{Can, Free, way-can, can-way, can-ahead, ahead-can}
 use Rattle.walks.proofs.Descending.{descends-more}
 
 -- ---- the steps inside a set, as a list
@@ -61,15 +60,12 @@ taken layer W Ordered (mix x) t w m first = (w, m, first)
 
 module _ {g back : Graph} (turned : TurnedGraph g back) {all force : Claims} {rows : List Row} {claims : List Claim} {k : ℕ}
     (is : Stands g all rows claims k) (count : length (standing-sets rows) ≡ k)
-    {highs lows : List ℕ} {n : ℕ} (keyed : Keyed rows highs lows n) (table : Table rows) {p : ℕ} (inner : InnerClaims g all p force) where
+    {words : List ℕ} {n : ℕ} (letters : LettersIn rows words n) {p : ℕ} (inner : InnerClaims g all p force) {Ordered : Type 0} (ordered : Ordered) where
   abbrev E : ℕ → ℕ → Type 0
   E = Ahead back force p
 
   abbrev W : ℕ → Label → ℕ → Type 0
-  W = Way highs n back force
-
-  abbrev Ordered : Type 0
-  Ordered = InOrder highs lows n back force
+  W = Way words n back force
 
   abbrev Inner : ℕ → Walk → ℕ → Type 0
   Inner a w b = Runs rows (λ c. c among claims) p a w b
@@ -78,7 +74,7 @@ module _ {g back : Graph} (turned : TurnedGraph g back) {all force : Claims} {ro
   first-can a b t w r = subst (λ (x : ℕ). Can rows claims p x (t .label) (t .to)) (r .0 .0) (r .1 .0, r .1 .1, r .2 .0)
 
   first-edge : (a b : ℕ) (t : Step) (w : Walk) → Inner a (t ∷ w) b → E a (t .to)
-  first-edge a b t w r = can-ahead turned is count keyed table inner a (t .label) (t .to) (first-can a b t w r)
+  first-edge a b t w r = can-ahead turned is count letters inner a (t .label) (t .to) (first-can a b t w r)
 
   others : (a b : ℕ) (t : Step) (w : Walk) → Inner a (t ∷ w) b → Inner (t .to) w b
   others a b t w r = (r .0 .1, r .1 .2, r .2 .1)
@@ -125,7 +121,7 @@ module _ {g back : Graph} (turned : TurnedGraph g back) {all force : Claims} {ro
 
     at-free : (i a : ℕ) → At i a → Free rows p a
     at-free zero a m = free a (subst (λ (x : ℕ). a ∈ x) (lay .base) m)
-    at-free (suc i) a (t, e, m) = let c = ahead-can turned is count keyed table inner a t e in (e .end, step-unstruck rows a (c .0) t (c .1 .0) .0)
+    at-free (suc i) a (t, e, m) = let c = ahead-can turned is count letters inner a t e in (e .end, step-unstruck rows a (c .0) t (c .1 .0) .0)
 
     -- of the steps into the layer below, one is the first
     first-into : (i a : ℕ) → i ≤ d → At (suc i) a → (kind : ℕ) × (value : ℕ) × (to : ℕ) × Chooses (getD layers i 0) (W a) Ordered (Taken kind value to)
@@ -133,16 +129,16 @@ module _ {g back : Graph} (turned : TurnedGraph g back) {all force : Claims} {ro
         let layer = getD layers i 0 in
         let into : (s : Step) → s among keep (λ (s : Step). eqb (s .from) a && member (s .to) layer) (steps-in rows claims p) ↔ (s among steps-in rows claims p × ((s .from ≡ a) × (s .to ∈ layer))) =
         keep· {P = λ (s : Step). (s .from ≡ a) × (s .to ∈ layer)} (λ (s : Step). and· (eqb· (s .from) a) (test· (member (s .to) layer))) (steps-in rows claims p) in
-        let c = ahead-can turned is count keyed table inner a t e in
+        let c = ahead-can turned is count letters inner a t e in
         let r = least-of step-key _ (step a (c .0) t) (into (step a (c .0) t) .1 (listed rows claims p a (c .0) t (c .1), (refl, m))) in
         let z = into (r .0) .0 (r .1) in
         let can : Can rows claims p a (r .0 .label) (r .0 .to) = subst (λ (x : ℕ). Can rows claims p x (r .0 .label) (r .0 .to)) (z .1 .0) (listed-can rows claims p (r .0) (z .0)) in (
           kind (r .0 .label),
           value (r .0 .label),
           r .0 .to,
-          taken layer (W a) Ordered (r .0 .label) (r .0 .to) (can-way turned is count keyed table inner a (r .0 .label) (r .0 .to) can) (z .1 .1)
+          taken layer (W a) Ordered (r .0 .label) (r .0 .to) (can-way turned is count letters inner a (r .0 .label) (r .0 .to) can) (z .1 .1)
               (λ o l u w q. r .2 (step a l u) (into (step a l u) .1
-              (listed rows claims p a l u (way-can turned is count keyed table inner a l u (at-free (suc i) a (t, e, m)) (at-free i u (at-in i u h q)) w), (refl, q)))),
+              (listed rows claims p a l u (way-can turned is count letters inner a l u (at-free (suc i) a (t, e, m)) (at-free i u (at-in i u h q)) w), (refl, q)))),
         )
 
     falls : (i a : ℕ) → i ≤ suc d → At i a → (w : Walk) × Descends W Ordered layers a i w
@@ -160,7 +156,7 @@ module _ {g back : Graph} (turned : TurnedGraph g back) {all force : Claims} {ro
     leads (suc i) a w h m (kind′, value′, to, v, e, c, rest) =
         let there = at-in i to (omega arith) (c .1) in
         let r = leads i to v (omega arith) there rest in
-        let can = way-can turned is count keyed table inner a (named kind′ value′) to (at-free (suc i) a m) (at-free i to there) (c .0) in
+        let can = way-can turned is count letters inner a (named kind′ value′) to (at-free (suc i) a m) (at-free i to there) (c .0) in
         (r .0, r .1, rw e ((refl, r .2 .0), (can .0, can .1, r .2 .1), (can .2, r .2 .2)), rw e (ap suc (r .3)))
 
     -- and no walk of as many steps comes before it
@@ -176,7 +172,7 @@ module _ {g back : Graph} (turned : TurnedGraph g back) {all force : Claims} {ro
         let there : t .to ∈ getD layers i 0 = ⊎-elim (λ (g : low .0 < i). absurd (far (low .0) (t .to) (omega arith) (first-edge a b t v r) (low .2)))
         (λ (g : i ≤ low .0). let z : low .0 ≡ i = omega (arith, low .1) in subst (λ (x : ℕ). t .to ∈ getD layers x 0) z (low .2)) (lt-or-le (low .0) i) in
         ⊎-elim
-        (c .2 (in-order turned is count keyed table inner) (t .label) (t .to) (can-way turned is count keyed table inner a (t .label) (t .to) (first-can a b t v r)) there)
+        (c .2 ordered (t .label) (t .to) (can-way turned is count letters inner a (t .label) (t .to) (first-can a b t v r)) there)
         (λ s. least i to u (omega arith) (far-in i to (omega arith) (c .1)) rest v b m (subst (λ (x : ℕ). Inner x v b) (s .0) (others a b t v r)) (omega arith) (s .1))
         (split-three (kind (t .label)) (value (t .label)) (t .to) (kind y) (value y) to (gather step-key v) (gather step-key u) (rw e at q))
 

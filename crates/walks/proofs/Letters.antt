@@ -15,8 +15,9 @@ use Rattle.sorted_keys.specs.Keys.{key-less, Ascending, SearchesKey}
 use Rattle.rows.specs.declared.Row.the-variants.{Successor}
 use Rattle.rows.specs.Keys.{high as high-of}
 use Rattle.rows.proofs.Keys.{letter-least, letter-between, letter-order}
+use Rattle.row_table.specs.Letters.{LetterRow, LetterAt}
 use Rattle.walks.specs.declared.Choice.the-variants.{Taken, Nothing}
-use Rattle.walks.specs.Choices.{LetterRow, LetterAt, RowsFrom, First}
+use Rattle.walks.specs.Choices.{RowsFrom, First}
 
 -- a key that is less has no greater high word, and a lesser one where the other's low word is 0
 pub key-le : (a b c d : ℕ) → key-less a b c d ≡ true → a ≤ c

@@ -7,3 +7,4 @@ pub mod Descending
 pub mod Standing
 pub mod Courses
 pub mod Answers
+pub mod Chained

@@ -1,5 +1,5 @@
--- Arrays that stand for rows and claims: their order (`in-order`), and the steps inside a set that they have (`way-can`, `can-way`, `can-ahead`,
--- `ahead-can`).
+-- Arrays that stand for rows and claims: their order (`sets-rise-in`, `in-order`), keys as words of letter rows (`keyed-letters`), and the steps
+-- inside a set that they have (`way-can`, `can-way`, `can-ahead`, `ahead-can`).
 use Prim.Native.Nat.{ℕ, _<_}
 use mathlib.Core.Path.{_≡_, refl, sym, subst, _∙_}
 use mathlib.Core.Logic.{⊎-elim, _↔_}
@@ -28,9 +28,10 @@ use Rattle.search.specs.Promises.{Stands}
 use Rattle.search.proofs.Hops.{hop-back, hop-turn}
 use Rattle.search.proofs.Steps.{mix-rows, set-in, and-in, hop-step, step-hop}
 use Rattle.row_table.specs.Arrays.{Keyed}
+use Rattle.row_table.specs.Letters.{LetterAt, LettersIn}
 use Rattle.row_table.proofs.Keys.{none, ascending, row-at}
 use Rattle.walks.specs.Layers.{Ahead}
-use Rattle.walks.specs.Choices.{Way, InOrder}
+use Rattle.walks.specs.Choices.{Way, SetsRise, InOrder}
 
 -- a step of the rows inside p, with the claims in force
 abbrev pub Can : List Row → List Claim → ℕ → ℕ → Label → ℕ → Type 0
@@ -44,10 +45,24 @@ both-unstruck : (rows : List Row) (a t : ℕ) → ¬ Struck rows a → ¬ Struck
 both-unstruck rows a t f g s m = ⊎-elim (λ e. subst (λ (x : ℕ). ¬ Struck rows x) (sym e) f)
     (λ k. subst (λ (x : ℕ). ¬ Struck rows x) (sym (List·Memᴰ·eq-of-singleton k)) g) (List·Memᴰ·cases-cons m)
 
+-- the keys of rows are words of their letter rows
+pub keyed-letters : {rows : List Row} {highs lows : List ℕ} {n : ℕ} → Keyed rows highs lows n → Table rows → LettersIn rows highs n
+keyed-letters {rows} {highs} {lows} {n} keyed table = record { letter-iff = λ a x t. (to a x t, of a x t) }
+  where
+    to : (a x t : ℕ) → LetterAt highs n a x t → Successor a x t among rows
+    to a x t (j, hj, e) = let r = row-at rows highs lows n keyed table j hj .0 in
+        subst (λ (y : Row). y among rows) (sym r ∙ letter-low (getD highs j 0) (getD lows j 0) e) (getD-among rows j none (omega (arith, keyed .count)))
+
+    of : (a x t : ℕ) → Successor a x t among rows → LetterAt highs n a x t
+    of a x t m =
+        let r = place-of (map high rows) (high (Successor a x t)) (map-in high m) in
+        let l : r .0 < n = omega (arith, r .1, length-map rows high, keyed .count) in
+        (r .0, l, rw (held-at n highs (map high rows) (keyed .highs-are) (r .0) 0 l ∙ r .2) (letter-back a x t (table .fit (Successor a x t) m)))
+
 -- the arrays have all claims of the list; the claims in force are those about parts of p
 module _ {g b : Graph} (turned : TurnedGraph g b) {all force : Claims} {rows : List Row} {claims : List Claim} {k : ℕ}
     (is : Stands g all rows claims k) (count : length (standing-sets rows) ≡ k)
-    {highs lows : List ℕ} {n : ℕ} (keyed : Keyed rows highs lows n) (table : Table rows) {p : ℕ} (inner : InnerClaims g all p force) where
+    {words : List ℕ} {n : ℕ} (letters : LettersIn rows words n) {p : ℕ} (inner : InnerClaims g all p force) where
   -- what the rows and the claims say of the graph turned round
   left-iff : (i r : ℕ) → i < k → (r ∈ getD (b .rights) i 0) ↔ LeftRow rows (getD (b .sets) i 0) r
   left-iff i r l = rw (turned .rights-are i, turned .sets-are i) (is .masked .left-iff i r l)
@@ -74,25 +89,19 @@ module _ {g b : Graph} (turned : TurnedGraph g b) {all force : Claims} {rows : L
   rise : (i j : ℕ) → i < j → j < k → getD (b .sets) i 0 < getD (b .sets) j 0
   rise i j h l = rw (turned .sets-are i, turned .sets-are j) (sets-rise rows (g .sets) k (is .masked .sets-are) (sym count) i j h l)
 
-  -- the rows stand in order, and so do the sets
-  pub in-order : InOrder highs lows n b force
-  in-order = (
-    ascending rows highs lows n keyed table,
-    (λ i j hi hj h. rise i j h (loop-iff j .0 hj .0)),
-    λ i j hi hj h. rise i j h (mix-iff j .0 hj .0),
-  )
+  pub sets-rise-in : SetsRise b force
+  sets-rise-in = ((λ i j hi hj h. rise i j h (loop-iff j .0 hj .0)), λ i j hi hj h. rise i j h (mix-iff j .0 hj .0))
 
   abbrev WayOf : ℕ → Label → ℕ → Type 0
-  WayOf = Way highs n b force
+  WayOf = Way words n b force
 
   -- a step that the arrays have is one of the rows; the keys of letter rows do not say what is struck
   pub way-can : (a : ℕ) (l : Label) (t : ℕ) → Free rows p a → Free rows p t → WayOf a l t → Can rows claims p a l t
-  way-can a (letter x) t from to (j, hj, e) =
-      let r = row-at rows highs lows n keyed table j hj .0 in (
-        (subst (λ (y : Row). y among rows) (sym r ∙ letter-low (getD highs j 0) (getD lows j 0) e) (getD-among rows j none (omega (arith, keyed .count))), both-unstruck rows a t (from .1) (to .1)),
-        tt,
-        and-in p a (t ∷ []) (from .0) (and-in p t [] (to .0) (λ s m. absurd (List·Memᴰ·not-nil m))),
-      )
+  way-can a (letter x) t from to w = (
+    (letters .letter-iff a x t .0 w, both-unstruck rows a t (from .1) (to .1)),
+    tt,
+    and-in p a (t ∷ []) (from .0) (and-in p t [] (to .0) (λ s m. absurd (List·Memᴰ·not-nil m))),
+  )
   way-can a (ω P) t from to (i, hi, e, here, there) =
       let f = loop-iff i .0 hi in let l = left-iff i t (f .0) .0 there in
       rw e (((l .0, here), l .1), f .1, and-in p t _ (to .0) (set-in p _ (f .2)))
@@ -105,11 +114,7 @@ module _ {g b : Graph} (turned : TurnedGraph g b) {all force : Claims} {rows : L
 
   -- and the other way round
   pub can-way : (a : ℕ) (l : Label) (t : ℕ) → Can rows claims p a l t → WayOf a l t
-  can-way a (letter x) t h =
-      let f = table .fit (Successor a x t) (h .0 .0) in
-      let r = place-of (map high rows) (high (Successor a x t)) (map-in high (h .0 .0)) in
-      let l : r .0 < n = omega (arith, r .1, length-map rows high, keyed .count) in
-      (r .0, l, rw (held-at n highs (map high rows) (keyed .highs-are) (r .0) 0 l ∙ r .2) (letter-back a x t f))
+  can-way a (letter x) t h = letters .letter-iff a x t .1 (h .0 .0)
   can-way a (ω P) t h = let i = place P (LeftLimit P t, h .0 .0 .0, List·Memᴰ·head refl) in
       let part : P ⊆ p = λ s m. h .2 s (List·Memᴰ·tail (members-iff P s .1 m)) in
       let f = rw (i .2) at h in
@@ -130,3 +135,8 @@ module _ {g b : Graph} (turned : TurnedGraph g b) {all force : Claims} {rows : L
 
   pub ahead-can : (s t : ℕ) → Ahead b force p s t → (l : Label) × Can rows claims p s l t
   ahead-can s t h = let r = hop-step (is .masked) (is .forced) p inner s t (hop-back turned t s h) in (r .0, (r .1, r .2, r .3))
+
+-- the rows stand in order, and so do the sets
+pub in-order : {g b : Graph} → TurnedGraph g b → {all force : Claims} {rows : List Row} {claims : List Claim} {k : ℕ} → Stands g all rows claims k → length (standing-sets rows) ≡ k
+    → {highs lows : List ℕ} {n : ℕ} → Keyed rows highs lows n → Table rows → {p : ℕ} → InnerClaims g all p force → InOrder highs lows n b force
+in-order turned {rows = rows} is count {highs} {lows} {n} keyed table inner = (ascending rows highs lows n keyed table, sets-rise-in turned is count (keyed-letters keyed table) inner)

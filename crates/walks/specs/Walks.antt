@@ -19,7 +19,7 @@ use Rattle.search.specs.declared.Claims.{Claims}
 use Rattle.search.specs.Graph.{Graph, TurnedGraph}
 use Rattle.search.specs.Masked.{Initials, Finals}
 use Rattle.search.specs.Promises.{Stands}
-use Rattle.row_table.specs.Arrays.{Keyed}
+use Rattle.row_table.specs.Letters.{LettersIn}
 use Rattle.walks.specs.declared.Choice.the-variants.{Taken, Nothing}
 use Rattle.walks.specs.declared.FoundWalk.{FoundWalk}
 use Rattle.walks.specs.Choices.{named, Chooses}
@@ -74,8 +74,8 @@ pub record Answers (rows : List Row) (claims : List Claim) (w : FoundWalk) : Typ
   pub best : w .found ≡ true → Best rows claims (as-found w)
   pub none : w .found ≡ false → (g : Found) → ¬ Candidate rows claims g
 
--- for all rows and claims that the arrays and the graph, which is turned round, stand for
-abbrev pub FirstWalk : List ℕ → List ℕ → ℕ → Graph → Claims → ℕ → ℕ → FoundWalk → Type 0
-FirstWalk high low n back force initials finals w = (g : Graph) (rows : List Row) (claims : List Claim) (k : ℕ) → TurnedGraph g back
-    → Stands g force rows claims k → length (standing-sets rows) ≡ k → Keyed rows high low n → Table rows
+-- for all rows and claims that the words and the graph, which is turned round, stand for
+abbrev pub FirstWalk : List ℕ → ℕ → Graph → Claims → ℕ → ℕ → FoundWalk → Type 0
+FirstWalk words n back force initials finals w = (g : Graph) (rows : List Row) (claims : List Claim) (k : ℕ) → TurnedGraph g back
+    → Stands g force rows claims k → length (standing-sets rows) ≡ k → LettersIn rows words n → Table rows
     → Initials rows initials → Finals rows finals → Answers rows claims w

@@ -14,15 +14,18 @@ use search::graphs::mask_at;
 use search::graphs::set_at;
 use search::moves;
 ghost use mathlib.Core.Path.{_≡_};
-ghost use mathlib.Core.Bool.{false};
+ghost use mathlib.Core.Bool.{true, false};
 ghost use mathlib.Core.Logic.{_↔_};
 ghost use Prim.Native.Nat.{ℕ, _≤_, _<_};
-ghost use lib.ListN.{length};
+ghost use lib.ListN.{length, replicate};
+ghost use Rattle.rows.specs.Keys.{row-from};
 ghost use Rattle.masks.specs.Mask.{member, _∈_};
 ghost use Rattle.sorted_keys.specs.Keys.{Ascending};
-ghost use Rattle.search.specs.Graph.{graph-of};
+ghost use Rattle.search.specs.Graph.{graph-of, Indexed};
 ghost use Rattle.walks.specs.Layers.{Ahead, Lays};
-ghost use Rattle.walks.specs.Choices.{LetterAt, Way, RowsFrom, Picked, PickedPass, InOrder, Chooses};
+ghost use Rattle.walks.specs.Choices.{Way, ClaimWay, source, BySource, Chained, Better, as-step};
+ghost use Rattle.walks.specs.Choices.{RowsFrom, Picked, PickedPass, SetsRise, InOrder, Chooses};
+ghost use Rattle.row_table.specs.Letters.{LetterAt};
 ghost use Rattle.walks.specs.Walks.{Bounded, Follows, FirstWalk};
 use masks::difference;
 use masks::has;
@@ -52,7 +55,7 @@ pub fn lay(
     ends: Set,
     layers: &mut [Set],
 ) -> Course
-    requires { ⌜ 64 ≤ length (now layers) ⌝ }
+    requires { ⌜ (64 ≤ length (now layers)) × Indexed (now back) ⌝ }
     ensures kept { λ _. ⌜ length (now (layers .exit)) ≡ length (now (layers .entry)) ⌝ }
     ensures laid { λ r. ⌜ Lays (Ahead (graph-of (now (back .entry))) force p) starts ends (now (layers .exit)) r ⌝ }
 {
@@ -61,7 +64,7 @@ pub fn lay(
     let mut seen = ends;
     layers[0] = ends;
     loop {
-        let near = moves::targets(back, force, p, layer);
+        let near = moves::near(back, force, p, layer);
         // Before what was seen is taken away: a start may be an end, and the walk still has a step.
         let met = intersection(near, starts);
         if met != 0 {
@@ -170,7 +173,24 @@ fn first_pass(
     Choice::Nothing
 }
 
-// The first step from `a` into `layer`: by kind, then by letter or set, then by target. The graph is turned round, so its rights are the lefts.
+// The first step from `a` into `layer` by a claim: by kind, then by set, then by target. The graph is turned round, so its rights are the lefts.
+fn first_claim(back: &Masks, force: Claims, a: u8, layer: Set) -> Choice
+    requires { ⌜ a < 64 ⌝ }
+    ensures { λ r. ⌜ Chooses layer (ClaimWay (graph-of (now (back .entry))) force a)
+        (SetsRise (graph-of (now (back .entry))) force) r ⌝ }
+{
+    let by_omega = first_pass(back, SETS, RIGHTS, force.loops, a, layer, 1);
+    let Choice::Nothing = by_omega else {
+        return by_omega;
+    };
+    let by_back = first_pass(back, LEFTS, SETS, force.loops, a, layer, 2);
+    let Choice::Nothing = by_back else {
+        return by_back;
+    };
+    first_pass(back, LEFTS, RIGHTS, force.mixes, a, layer, 3)
+}
+
+// The first step from `a` into `layer`: by kind, then by letter or set, then by target.
 pub fn first_step(
     high: &[u64; MOST_ROWS],
     low: &[u64; MOST_ROWS],
@@ -188,15 +208,116 @@ pub fn first_step(
     let Choice::Nothing = letter else {
         return letter;
     };
-    let by_omega = first_pass(back, SETS, RIGHTS, force.loops, a, layer, 1);
-    let Choice::Nothing = by_omega else {
-        return by_omega;
+    first_claim(back, force, a, layer)
+}
+
+// The state that a letter row starts from; 0 for a row of another kind.
+fn source(row: Row) -> u8
+    ensures is { λ r. ⌜ r ≡ source row ⌝ }
+    ensures low { λ r. ⌜ r < 64 ⌝ }
+{
+    match row {
+        Row::Initial(_) => 0,
+        Row::Final(_) => 0,
+        Row::Successor(p, _, _) => p % NO_STATE,
+        Row::LeftLimit(_, _) => 0,
+        Row::RightLimit(_, _) => 0,
+        Row::Strike(_) => 0,
+    }
+}
+
+// Chains the first `n` words by the states that they start from.
+fn by_source(
+    words: &[u64; MOST_ROWS],
+    count: usize,
+    first: &mut [u16; STATES],
+    next: &mut [u16; MOST_ROWS],
+)
+    requires { ⌜ count ≤ 256 ⌝ }
+    ensures { λ _. ⌜ (now (first .entry) ≡ replicate 64 0 → length (now (next .entry)) ≡ 256 →
+        BySource (now (first .exit)) (now (next .exit)) (now (words .entry)) count) ⌝ }
+{
+    let mut i = 0;
+    while i < count {
+        chains::put(first, next, source(row_of(words[i], 0)) as usize, i);
+        i += 1;
+    }
+}
+
+// The lesser of the best word so far, 0 for none, and of a word that is a letter row from `a` into `layer`.
+fn better(best: u64, word: u64, a: u8, layer: Set) -> u64
+    ensures { λ r. ⌜ Better a layer best word r ⌝ }
+{
+    let Row::Successor(from, _, to) = row_of(word, 0) else {
+        return best;
     };
-    let by_back = first_pass(back, LEFTS, SETS, force.loops, a, layer, 2);
-    let Choice::Nothing = by_back else {
-        return by_back;
+    if from != a {
+        return best;
+    }
+    if !in_layer(layer, to) {
+        return best;
+    }
+    if best == 0 {
+        return word;
+    }
+    if best < word { best } else { word }
+}
+
+// A letter row as a step; none where it is no such row.
+fn letter_of(row: Row) -> Choice
+    ensures { λ r. ⌜ r ≡ as-step row ⌝ }
+{
+    match row {
+        Row::Initial(_) => Choice::Nothing,
+        Row::Final(_) => Choice::Nothing,
+        Row::Successor(_, letter, to) => Choice::Taken(0, letter as u64, to),
+        Row::LeftLimit(_, _) => Choice::Nothing,
+        Row::RightLimit(_, _) => Choice::Nothing,
+        Row::Strike(_) => Choice::Nothing,
+    }
+}
+
+// The first letter step from `a` into `layer`, of the rows that are chained to it.
+fn first_chained(
+    words: &[u64; MOST_ROWS],
+    first: &[u16; STATES],
+    next: &[u16; MOST_ROWS],
+    a: u8,
+    layer: Set,
+) -> Choice
+    requires { ⌜ (a < 64) × Chained (now first) (now next) (now words) ⌝ }
+    ensures { λ r. ⌜ ((n : ℕ) → BySource (now (first .entry)) (now (next .entry)) (now (words .entry)) n
+        → Picked layer (LetterAt (now (words .entry)) n a) 0 Unit r) ⌝ }
+{
+    let mut best: u64 = 0;
+    let mut link = chains::wide(first[a as usize]);
+    while link != 0 {
+        best = better(best, words[link - 1], a, layer);
+        link = chains::wide(next[link - 1]);
+    }
+    letter_of(row_of(best, 0))
+}
+
+// The first step from `a` into `layer`, where the letter rows are chained by the states that they start from.
+fn step_from(
+    words: &[u64; MOST_ROWS],
+    first: &[u16; STATES],
+    next: &[u16; MOST_ROWS],
+    back: &Masks,
+    force: Claims,
+    a: u8,
+    layer: Set,
+) -> Choice
+    requires { ⌜ (a < 64) × Chained (now first) (now next) (now words) ⌝ }
+    ensures { λ r. ⌜ ((n : ℕ) → BySource (now (first .entry)) (now (next .entry)) (now (words .entry)) n
+        → Chooses layer (Way (now (words .entry)) n (graph-of (now (back .entry))) force a)
+        (SetsRise (graph-of (now (back .entry))) force) r) ⌝ }
+{
+    let letter = first_chained(words, first, next, a, layer);
+    let Choice::Nothing = letter else {
+        return letter;
     };
-    first_pass(back, LEFTS, RIGHTS, force.mixes, a, layer, 3)
+    first_claim(back, force, a, layer)
 }
 
 // A walk, if there is one: its start, how many steps it has, and of each step its kind, its letter or set, and its target.
@@ -225,20 +346,21 @@ fn no_walk() -> FoundWalk
 
 // The walk of `d` steps from `start` that goes down one layer at each step, by the first step into it.
 fn follow(
-    high: &[u64; MOST_ROWS],
-    low: &[u64; MOST_ROWS],
-    row_count: usize,
+    words: &[u64; MOST_ROWS],
+    count: usize,
     back: &Masks,
     force: Claims,
     layers: &[Set; STATES],
     start: u8,
     d: usize,
 ) -> FoundWalk
-    requires { ⌜ («row_count» ≤ 256) × (start < 64) × (d ≤ 64) ⌝ }
-    ensures { λ r. ⌜ Follows (Way (now (high .entry)) «row_count» (graph-of (now (back .entry))) force)
-        (InOrder (now (high .entry)) (now (low .entry)) «row_count» (graph-of (now (back .entry))) force)
-        (now (layers .entry)) start d r ⌝ }
+    requires { ⌜ (count ≤ 256) × (start < 64) × (d ≤ 64) ⌝ }
+    ensures { λ r. ⌜ Follows (Way (now (words .entry)) count (graph-of (now (back .entry))) force)
+        (SetsRise (graph-of (now (back .entry))) force) (now (layers .entry)) start d r ⌝ }
 {
+    let mut first = [0u16; STATES];
+    let mut next = [0u16; MOST_ROWS];
+    by_source(words, count, &mut first, &mut next);
     let mut kinds = [0u8; STATES];
     let mut values = [0u64; STATES];
     let mut targets = [0u8; STATES];
@@ -246,7 +368,7 @@ fn follow(
     let mut i = 0;
     while i < d {
         let layer = layers[d - 1 - i];
-        let step = first_step(high, low, row_count, back, force, a, layer);
+        let step = step_from(words, &first, &next, back, force, a, layer);
         let Choice::Taken(kind, value, target) = step else {
             break;
         };
@@ -266,31 +388,41 @@ fn follow(
     }
 }
 
-// The first of the shortest walks from an initial to a final state, with the claims in force. `back` is the graph turned round.
+// The walk of no steps.
+fn staying(start: u8) -> FoundWalk
+    ensures { λ r. ⌜ (r .found ≡ true) × (r .start ≡ start) × (r .count ≡ 0) ⌝ }
+{
+    FoundWalk {
+        found: true,
+        start,
+        count: 0,
+        kinds: [0u8; STATES],
+        values: [0u64; STATES],
+        targets: [0u8; STATES],
+    }
+}
+
+// The first of the shortest walks from an initial to a final state, with the claims in force. The letter rows are among the first `n` words, in
+// any order. `back` is the graph turned round.
 pub fn first_walk(
-    high: &[u64; MOST_ROWS],
-    low: &[u64; MOST_ROWS],
-    row_count: usize,
+    words: &[u64; MOST_ROWS],
+    count: usize,
     back: &Masks,
     force: Claims,
     initials: Set,
     finals: Set,
 ) -> FoundWalk
-    requires { ⌜ «row_count» ≤ 256 ⌝ }
+    requires { ⌜ (count ≤ 256) × Indexed (now back) ⌝ }
     ensures bounded { λ r. ⌜ Bounded r ⌝ }
-    ensures first { λ r. ⌜ FirstWalk (now (high .entry)) (now (low .entry)) «row_count»
-        (graph-of (now (back .entry))) force
-        initials finals r ⌝ }
+    ensures first { λ r. ⌜ FirstWalk (now (words .entry)) count (graph-of (now (back .entry))) force initials finals r ⌝ }
 {
-    let mut layers = [0u64; STATES];
     let both = intersection(initials, finals);
     if both != 0 {
-        return follow(high, low, row_count, back, force, &layers, lowest(both), 0);
+        return staying(lowest(both));
     }
+    let mut layers = [0u64; STATES];
     match lay(back, force, !0u64, initials, finals, &mut layers) {
-        Course::From(start, steps) => {
-            follow(high, low, row_count, back, force, &layers, start, steps)
-        }
+        Course::From(start, steps) => follow(words, count, back, force, &layers, start, steps),
         Course::Nowhere => no_walk(),
     }
 }

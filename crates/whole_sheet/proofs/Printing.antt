@@ -23,30 +23,29 @@ use Rattle.row_table.specs.Arrays.{SetsIn}
 use Rattle.search.specs.declared.Claims.{Claims}
 use Rattle.search.specs.Graph.{Graph, graph-of, TurnedGraph}
 use Rattle.automaton.specs.declared.Automaton.{Automaton}
-use Rattle.automaton.proofs.Giving.{graph-sets-in}
 use Rattle.rounds.specs.declared.Progress.{Progress}
 use Rattle.rounds.specs.Arrays.{OpenPlaces}
 use Rattle.rounds.specs.Promises.{Mirrors}
 use Rattle.rounds.proofs.Settled.{forced-of}
 use Rattle.walks.specs.declared.FoundWalk.{FoundWalk}
-use Rattle.walks.specs.Walks.{as-found, Answers, FirstWalk}
+use Rattle.walks.specs.Walks.{as-found, Bounded, Answers, FirstWalk}
+use Rattle.sheet_parts.proofs.Lines.{openings-lines, openings-few, walk-few}
 use Rattle.sheet_parts.proofs.Sheet.{sheet-empty, sheet-nonempty}
 use Rattle.whole_sheet.specs.Text.{openings-text, head-text, walked-text}
 use Rattle.whole_sheet.specs.Promise.{FindsWalk, PrintsSheet}
 
 -- ---- the walk
 
-pub finds : (highs lows : List ℕ) (n k : ℕ) (a : Automaton) (rounds : Progress) (back : Graph) (force : Claims) (w : FoundWalk) → TurnedGraph (graph-of (a .graph)) back
+pub finds : (words : List ℕ) (n k : ℕ) (a : Automaton) (rounds : Progress) (back : Graph) (force : Claims) (w : FoundWalk) → TurnedGraph (graph-of (a .graph)) back
     → OpenPlaces (rounds .«loop_rounds») k (force .loops) → OpenPlaces (rounds .«mix_rounds») k (force .mixes)
-    → FirstWalk highs lows n back force (a .initials) (a .finals) w → FindsWalk highs lows n k a rounds w
-finds highs lows n k a rounds back force w turned h g f m sets formed filed gives kept =
+    → FirstWalk words n back force (a .initials) (a .finals) w → FindsWalk words n k a rounds w
+finds words n k a rounds back force w turned h g f m formed letters given kept =
     f (graph-of (a .graph)) (m .rows) (open-claims m) k turned
     (record {
-      masked = gives .masked;
-      forced = forced-of m formed (graph-of (a .graph)) k (graph-sets-in (m .rows) sets k a gives (filed .1))
-          (rounds .«loop_rounds») (rounds .«mix_rounds») (kept .loops-are) (kept .mixes-are) force h g;
+      masked = given .masked;
+      forced = forced-of m formed (graph-of (a .graph)) k (given .sets-in) (rounds .«loop_rounds») (rounds .«mix_rounds») (kept .loops-are) (kept .mixes-are) force h g;
     })
-    (sym (filed .1 .count)) (filed .0) (formed .table) (gives .initial-iff) (gives .final-iff)
+    (sym (given .sets-in .count)) letters (formed .table) (given .initial-iff) (given .final-iff)
 
 -- ---- the text
 
@@ -62,7 +61,7 @@ module _ (m : Machine) (formed : WellFormed m) (sets : List ℕ) (k : ℕ) (sets
       ∙ sym (append-assoc (verdict-line NonEmpty (rounds .rounds)) (openings-text sets k rounds) (walk-lines (some (as-found w))))
 
 -- how long the verdict's line is
-pub verdict-short : (v : Verdict) (k : ℕ) → k < 256 → length (verdict-line v k) ≤ 64
+pub verdict-short : (v : Verdict) (k : ℕ) → k < 256 → length (verdict-line v k) ≤ 28
 verdict-short NonEmpty k h = simp length-append (omega (arith, number-length 3 k (omega arith) (omega arith)))
 verdict-short Empty k h = simp length-append (omega (arith, number-length 3 k (omega arith) (omega arith)))
 
@@ -71,9 +70,24 @@ module _ (sets : List ℕ) (k : ℕ) (rounds : Progress) where
   unfolding head-text
   head-length v = length-append (verdict-line v (rounds .rounds)) (openings-text sets k rounds)
 
+  -- the verdict, and two openings for each set
+  pub head-few : (v : Verdict) → k ≤ 64 → rounds .rounds < 256 → length (head-text v sets k rounds) ≤ 3996
+  head-few v few low = omega (
+    arith,
+    head-length v,
+    verdict-short v (rounds .rounds) low,
+    ap length (openings-lines (rounds .«loop_rounds») (rounds .«mix_rounds») sets k (rounds .rounds)),
+    openings-few (rounds .«loop_rounds») (rounds .«mix_rounds») sets k (rounds .rounds) (omega arith),
+    few,
+  )
+
   pub walked-length : (w : FoundWalk) → length (walked-text sets k rounds w) ≡ length (head-text NonEmpty sets k rounds) + length (walk-lines (some (as-found w)))
   unfolding walked-text
   walked-length w = length-append (head-text NonEmpty sets k rounds) (walk-lines (some (as-found w)))
+
+  -- and 63 steps at most
+  pub walked-few : (w : FoundWalk) → k ≤ 64 → rounds .rounds < 256 → Bounded w → length (walked-text sets k rounds w) ≤ 6400
+  walked-few w few low bounded = omega (arith, walked-length w, head-few NonEmpty few low, walk-few w bounded)
 
   -- the openings after the verdict, and the walk after both
   pub head-wrote : (v : Verdict) (old new : List ℕ) {r : ℕ} → Writing.Wrote (verdict-line v (rounds .rounds) ++ openings-text sets k rounds) old new r → Writing.Wrote (head-text v sets k rounds) old new r
@@ -92,10 +106,13 @@ prints-text : (m : Machine) (v : Verdict) (text old new : List ℕ) (r : Answer)
 prints-text m v text old new r e is t =
     tells-as (ap (written (length old)) (sym is) ∙ sym (ap (λ (x : Next). x .answer) (writing m (sheets v (length old) e)))) t
 
-module _ (highs lows : List ℕ) (n : ℕ) (sets : List ℕ) (k : ℕ) (a : Automaton) (rounds : Progress) (old new : List ℕ) (r : Answer) where
-  pub prints-empty : TellsText (head-text Empty sets k rounds) old new r → PrintsSheet Empty highs lows n sets k a rounds old new r
-  prints-empty p m formed e filed gives kept = prints-text m Empty (head-text Empty sets k rounds) old new r e (empty-sheet m formed sets k (filed .1) rounds kept e) p
+module _ (words : List ℕ) (n k : ℕ) (a : Automaton) (rounds : Progress) (old new : List ℕ) (r : Answer) where
+  abbrev sets : List ℕ
+  sets = graph-of (a .graph) .sets
 
-  pub prints-nonempty : (w : FoundWalk) → FindsWalk highs lows n k a rounds w → TellsText (walked-text sets k rounds w) old new r → PrintsSheet NonEmpty highs lows n sets k a rounds old new r
-  prints-nonempty w f p m formed e filed gives kept =
-      prints-text m NonEmpty (walked-text sets k rounds w) old new r e (nonempty-sheet m formed sets k (filed .1) rounds kept w (f m sets formed filed gives kept) e) p
+  pub prints-empty : TellsText (head-text Empty sets k rounds) old new r → PrintsSheet Empty words n k a rounds old new r
+  prints-empty p m formed e letters given kept = prints-text m Empty (head-text Empty sets k rounds) old new r e (empty-sheet m formed sets k (given .sets-in) rounds kept e) p
+
+  pub prints-nonempty : (w : FoundWalk) → FindsWalk words n k a rounds w → TellsText (walked-text sets k rounds w) old new r → PrintsSheet NonEmpty words n k a rounds old new r
+  prints-nonempty w f p m formed e letters given kept =
+      prints-text m NonEmpty (walked-text sets k rounds w) old new r e (nonempty-sheet m formed sets k (given .sets-in) rounds kept w (f m formed letters given kept) e) p

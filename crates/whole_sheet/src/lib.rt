@@ -2,25 +2,27 @@
 pub mod saved;
 
 use machine::Answer;
+use machine::LONGEST_SHEET;
 use machine::MOST_ROWS;
 use machine::MOST_SETS;
 use machine::Verdict;
 use masks::Set;
 use rounds::Progress;
 use search::Claims;
-use search::graphs;
-use search::graphs::MASKS;
+use search::graphs::LEFTS;
 use search::graphs::Masks;
+use search::graphs::SETS;
 use walks::FoundWalk;
 ghost use mathlib.Core.Path.{_≡_};
 ghost use mathlib.Core.Option.{some};
 ghost use Prim.Native.Nat.{_≤_, _+_};
 ghost use lib.ListN.{length};
-ghost use Rattle.lists.specs.Tests.{gather};
+ghost use Rattle.lists.specs.Tests.{gather, Decides};
 ghost use Rattle.lists.specs.Writing.{Wrote, WroteAt};
 ghost use Rattle.machine.specs.declared.Verdict.the-variants.{Empty};
 ghost use Rattle.machine.specs.Sheet.{opening-line, walk-lines};
 ghost use Rattle.machine.specs.Calls.{TellsText};
+ghost use Rattle.search.specs.Graph.{graph-of, BothWays};
 ghost use Rattle.automaton.specs.Promise.{automaton-of};
 ghost use Rattle.walks.specs.Walks.{as-found, Bounded};
 ghost use Rattle.sheet_parts.specs.Openings.{openings-in};
@@ -33,11 +35,11 @@ fn openings_at(
     at: usize,
     looped: &[u8; MOST_SETS],
     mixed: &[u8; MOST_SETS],
-    sets: &[Set; MOST_SETS],
+    sets: &[Set],
     set_count: usize,
     count: u8,
 ) -> usize
-    requires { ⌜ («set_count» ≤ 64)
+    requires { ⌜ («set_count» ≤ 64) × (64 ≤ length (now sets))
         × (at + length (gather opening-line (openings-in (now looped) (now mixed) (now sets) «set_count» count))
         ≤ length (now buf)) ⌝ }
     ensures { λ r. ⌜ WroteAt
@@ -57,9 +59,9 @@ fn walk_at(buf: &mut [u8], at: usize, walk: FoundWalk) -> usize
 }
 
 // How long the lines of the verdict and of the openings are.
-fn head_len(v: Verdict, sets: &[Set; MOST_SETS], set_count: usize, rounds: Progress) -> usize
-    requires { ⌜ «set_count» ≤ 64 ⌝ }
-    ensures { λ r. ⌜ (r ≡ length (head-text v (now (sets .entry)) «set_count» rounds)) × (r ≤ 1100000) ⌝ }
+fn head_len(v: Verdict, sets: &[Set], set_count: usize, rounds: Progress) -> usize
+    requires { ⌜ («set_count» ≤ 64) × (64 ≤ length (now sets)) ⌝ }
+    ensures { λ r. ⌜ (r ≡ length (head-text v (now (sets .entry)) «set_count» rounds)) × (r ≤ 3996) ⌝ }
 {
     let looped = rounds.loop_rounds;
     let mixed = rounds.mix_rounds;
@@ -68,15 +70,45 @@ fn head_len(v: Verdict, sets: &[Set; MOST_SETS], set_count: usize, rounds: Progr
     first + sheet_parts::openings_len(&looped, &mixed, sets, set_count, count)
 }
 
+// Has a buffer of this size room for these lines? No sheet is longer than 6,400 bytes: so much room is not measured.
+fn head_fits(size: usize, v: Verdict, sets: &[Set], set_count: usize, rounds: Progress) -> bool
+    requires { ⌜ («set_count» ≤ 64) × (64 ≤ length (now sets)) ⌝ }
+    ensures { λ r. ⌜ Decides r (length (head-text v (now (sets .entry)) «set_count» rounds) ≤ size) ⌝ }
+{
+    if LONGEST_SHEET <= size {
+        return true;
+    }
+    head_len(v, sets, set_count, rounds) <= size
+}
+
+// The same with the lines of a walk.
+fn walked_fits(
+    size: usize,
+    sets: &[Set],
+    set_count: usize,
+    rounds: Progress,
+    walk: FoundWalk,
+) -> bool
+    requires { ⌜ («set_count» ≤ 64) × (64 ≤ length (now sets)) × Bounded walk ⌝ }
+    ensures { λ r. ⌜ Decides r (length (walked-text (now (sets .entry)) «set_count» rounds walk) ≤ size) ⌝ }
+{
+    if LONGEST_SHEET <= size {
+        return true;
+    }
+    let head = head_len(Verdict::NonEmpty, sets, set_count, rounds);
+    head + sheet_parts::walk_len(walk) <= size
+}
+
 // Writes the lines of the verdict and of the openings.
 fn put_head(
     buffer: &mut [u8],
     v: Verdict,
-    sets: &[Set; MOST_SETS],
+    sets: &[Set],
     set_count: usize,
     rounds: Progress,
 ) -> usize
-    requires { ⌜ («set_count» ≤ 64) × (length (head-text v (now sets) «set_count» rounds) ≤ length (now buffer)) ⌝ }
+    requires { ⌜ («set_count» ≤ 64) × (64 ≤ length (now sets))
+        × (length (head-text v (now sets) «set_count» rounds) ≤ length (now buffer)) ⌝ }
     ensures { λ r. ⌜ Wrote (head-text v (now (sets .entry)) «set_count» rounds)
         (now (buffer .entry)) (now (buffer .exit)) r ⌝ }
 {
@@ -89,43 +121,37 @@ fn put_head(
 
 // The first of the shortest walks from an initial to a final state, with the claims that are open.
 fn first_walk(
-    high: &[u64; MOST_ROWS],
-    low: &[u64; MOST_ROWS],
-    row_count: usize,
+    words: &[u64; MOST_ROWS],
+    count: usize,
     set_count: usize,
     graph: &Masks,
+    back: &Masks,
     initials: Set,
     finals: Set,
     rounds: Progress,
 ) -> FoundWalk
-    requires { ⌜ («row_count» ≤ 256) × («set_count» ≤ 64) ⌝ }
+    requires { ⌜ (count ≤ 256) × («set_count» ≤ 64) × BothWays (now graph) (now back) ⌝ }
     ensures bounded { λ r. ⌜ Bounded r ⌝ }
-    ensures finds { λ r. ⌜ FindsWalk (now (high .entry)) (now (low .entry)) «row_count» «set_count»
+    ensures finds { λ r. ⌜ FindsWalk (now (words .entry)) count «set_count»
         (automaton-of (now (graph .entry)) initials finals) rounds r ⌝ }
 {
     let looped = rounds.loop_rounds;
     let mixed = rounds.mix_rounds;
-    let mut back = [0u64; MASKS];
-    graphs::turn(graph, &mut back);
     let loops = rounds::open_mask(&looped, set_count);
     let mixes = rounds::open_mask(&mixed, set_count);
     let force = Claims { loops, mixes };
-    walks::first_walk(high, low, row_count, &back, force, initials, finals)
+    walks::first_walk(words, count, back, force, initials, finals)
 }
 
 // The sheet of an empty automaton: the verdict and the openings.
-fn print_empty(
-    buffer: &mut [u8],
-    sets: &[Set; MOST_SETS],
-    set_count: usize,
-    rounds: Progress,
-) -> Answer
-    requires { ⌜ «set_count» ≤ 64 ⌝ }
-    ensures { λ r. ⌜ TellsText (head-text Empty (now (sets .entry)) «set_count» rounds)
+fn print_empty(buffer: &mut [u8], graph: &[Set], set_count: usize, rounds: Progress) -> Answer
+    requires { ⌜ («set_count» ≤ 64) × (448 ≤ length (now graph)) ⌝ }
+    ensures { λ r. ⌜ TellsText (head-text Empty (graph-of (now (graph .entry)) .sets) «set_count» rounds)
         (now (buffer .entry)) (now (buffer .exit)) r ⌝ }
 {
-    let head = head_len(Verdict::Empty, sets, set_count, rounds);
-    if buffer.len() < head {
+    let sets = &graph[SETS..LEFTS];
+    let fits = head_fits(buffer.len(), Verdict::Empty, sets, set_count, rounds);
+    if !fits {
         return Answer::Refused(12, 0);
     }
     let wrote = put_head(buffer, Verdict::Empty, sets, set_count, rounds);
@@ -135,18 +161,18 @@ fn print_empty(
 // The sheet of a non-empty one: the verdict, the openings and the walk.
 fn print_nonempty(
     buffer: &mut [u8],
-    sets: &[Set; MOST_SETS],
+    graph: &[Set],
     set_count: usize,
     rounds: Progress,
     walk: FoundWalk,
 ) -> Answer
-    requires { ⌜ («set_count» ≤ 64) × Bounded walk ⌝ }
-    ensures { λ r. ⌜ TellsText (walked-text (now (sets .entry)) «set_count» rounds walk)
+    requires { ⌜ («set_count» ≤ 64) × (448 ≤ length (now graph)) × Bounded walk ⌝ }
+    ensures { λ r. ⌜ TellsText (walked-text (graph-of (now (graph .entry)) .sets) «set_count» rounds walk)
         (now (buffer .entry)) (now (buffer .exit)) r ⌝ }
 {
-    let head = head_len(Verdict::NonEmpty, sets, set_count, rounds);
-    let len = head + sheet_parts::walk_len(walk);
-    if buffer.len() < len {
+    let sets = &graph[SETS..LEFTS];
+    let fits = walked_fits(buffer.len(), sets, set_count, rounds, walk);
+    if !fits {
         return Answer::Refused(12, 0);
     }
     let at = put_head(buffer, Verdict::NonEmpty, sets, set_count, rounds);
@@ -154,39 +180,38 @@ fn print_nonempty(
     Answer::Wrote(wrote)
 }
 
-// The sheet of the automaton, settled with the verdict, into the buffer; nothing where the buffer is too short.
+// The sheet of the automaton, settled with the verdict, into the buffer; nothing where the buffer is too short. The letter rows are among the
+// first `count` words, in any order. `back` is the graph turned round.
 pub fn print(
     buffer: &mut [u8],
     verdict: Verdict,
-    high: &[u64; MOST_ROWS],
-    low: &[u64; MOST_ROWS],
-    row_count: usize,
-    sets: &[Set; MOST_SETS],
+    words: &[u64; MOST_ROWS],
+    count: usize,
     set_count: usize,
     graph: &Masks,
+    back: &Masks,
     initials: Set,
     finals: Set,
     rounds: Progress,
 ) -> Answer
-    requires { ⌜ («row_count» ≤ 256) × («set_count» ≤ 64) ⌝ }
-    ensures { λ r. ⌜ PrintsSheet verdict (now (high .entry)) (now (low .entry)) «row_count» (now (sets .entry))
-        «set_count» (automaton-of (now (graph .entry)) initials finals) rounds
-        (now (buffer .entry)) (now (buffer .exit)) r ⌝ }
+    requires { ⌜ (count ≤ 256) × («set_count» ≤ 64) × BothWays (now graph) (now back) ⌝ }
+    ensures { λ r. ⌜ PrintsSheet verdict (now (words .entry)) count «set_count»
+        (automaton-of (now (graph .entry)) initials finals) rounds (now (buffer .entry)) (now (buffer .exit)) r ⌝ }
 {
     match verdict {
         Verdict::NonEmpty => {
             let walk = first_walk(
-                high,
-                low,
-                row_count,
+                words,
+                count,
                 set_count,
                 graph,
+                back,
                 initials,
                 finals,
                 rounds,
             );
-            print_nonempty(buffer, sets, set_count, rounds, walk)
+            print_nonempty(buffer, graph, set_count, rounds, walk)
         }
-        Verdict::Empty => print_empty(buffer, sets, set_count, rounds),
+        Verdict::Empty => print_empty(buffer, graph, set_count, rounds),
     }
 }

@@ -11,25 +11,28 @@ use borrow.Author.Needs.{needs}
 use Rattle.rows.specs.declared.Row.{Row}
 use Rattle.rows.specs.declared.Row.the-variants.{Initial}
 use Rattle.rows.specs.Rows.{AllFit}
+use Rattle.rows.proofs.Sets.{sets-rise}
+use Rattle.sorted_keys.specs.Keys.{Rising}
 use Rattle.search.specs.Graph.{Unindexed}
 use Rattle.row_table.specs.Arrays.{Keyed}
 use Rattle.row_table.proofs.Keys.{row-there}
+use Rattle.automaton.specs.Passed.{Passed}
 use Rattle.automaton.specs.Promise.{HasSets}
-use Rattle.automaton.proofs.Passing.{Passed, none-passed, pass-initial, pass-final, pass-step, pass-left, pass-right, pass-strike, none-unindexed, letter-unindexed, limit-unindexed, struck-unindexed}
-use Rattle.automaton.proofs.Giving.{passed-all, gives-as}
+use Rattle.automaton.proofs.Passing.{grown-last, none-passed, pass-initial, pass-final, pass-step, pass-left, pass-right, pass-strike, none-unindexed, letter-unindexed, limit-unindexed}
+use Rattle.automaton.proofs.Giving.{finished, finished-indexed}
 use Rattle.automaton.proofs.fill.Statement.{statement}
 use Rattle.automaton.proofs.fill.Tie as tie
 
 abbrev Inv-loop : tie.InvT-loop
 Inv-loop graph₀ high low row-count sets set-count initials₀ finals₀ struck₀ i₀ graph initials finals struck i =
     (i ≤ row-count) × (HasSets sets set-count graph₀ → Unindexed graph set-count)
-    × (HasSets sets set-count graph₀ → (rows : List Row) → AllFit rows → Keyed rows high low row-count → Passed sets set-count (take i rows) graph initials finals struck)
+    × (HasSets sets set-count graph₀ → (rows : List Row) → AllFit rows → Keyed rows high low row-count → Passed (Rising sets set-count) sets set-count (take i rows) graph initials finals struck)
 
 abbrev μ-loop : tie.MeasureT-loop
 μ-loop graph₀ high low row-count sets set-count initials₀ finals₀ struck₀ i₀ graph initials finals struck i = row-count - i
 
 loop-holds : tie.Need-loop-holds Inv-loop μ-loop
-loop-holds c = (omega arith, none-unindexed _ _ _ (c .before .before .pre .1), λ has rows f key. none-passed _ _ _ (c .before .before .pre .1) has)
+loop-holds c = (omega arith, none-unindexed _ _ _ (c .before .before .pre .1), λ has rows f key. none-passed _ _ _ _ (c .before .before .pre .1) has)
 
 loop-again : tie.Need-loop-again Inv-loop μ-loop
 loop-again c =
@@ -53,32 +56,30 @@ loop-again c =
           let x = getD rows i (Initial 0) in
           let p = h .loop .inv .2 has rows f key in
           let there : x ≡ read .row-of .result = sym (read .row-of .ensures ∙ row-there rows f (a .high .now) (a .low .now) (a .row-count) key i (read .before .before .before .loop-test .taken)) in
+          let last = grown-last (take i rows) x in
           rw (add-one i, take-suc rows i (Initial 0) (omega (arith, key .count)))
           (elim (c .match .came) [
-            | inl w ↦ rw (w .4, w .5, w .6, w .7) (pass-initial sets (a .set-count) few p x (there ∙ w .1 .given .1) (w .3 .ensures))
-            | inr (inl w) ↦ rw (w .4, w .5, w .6, w .7) (pass-final sets (a .set-count) few p x (there ∙ w .1 .given .1) (w .3 .ensures))
-            | inr (inr (inl w)) ↦ rw (w .5, w .6, w .7, w .8) (pass-step sets (a .set-count) few p x (there ∙ w .1 .given .1) (w .4 .ensures))
-            | inr (inr (inr (inl w))) ↦ rw (w .6, w .7, w .8, w .9) (pass-left sets (a .set-count) few p x (w .4 .result) (there ∙ w .1 .given .1) (w .4 .ensures .0) (w .5 .ensures))
-            | inr (inr (inr (inr (inl w)))) ↦ rw (w .6, w .7, w .8, w .9) (pass-right sets (a .set-count) few p x (w .4 .result) (there ∙ w .1 .given .1) (w .4 .ensures .0) (w .5 .ensures))
-            | inr (inr (inr (inr (inr w)))) ↦ rw (w .4, w .5, w .6, w .7) (pass-strike sets (a .set-count) few p x (there ∙ w .1 .given .1) (w .3 .ensures))
+            | inl w ↦ rw (w .4, w .5, w .6, w .7) (pass-initial _ sets (a .set-count) few p last (there ∙ w .1 .given .1) (w .3 .ensures))
+            | inr (inl w) ↦ rw (w .4, w .5, w .6, w .7) (pass-final _ sets (a .set-count) few p last (there ∙ w .1 .given .1) (w .3 .ensures))
+            | inr (inr (inl w)) ↦ rw (w .5, w .6, w .7, w .8) (pass-step _ sets (a .set-count) few p last (there ∙ w .1 .given .1) (w .4 .ensures))
+            | inr (inr (inr (inl w))) ↦ rw (w .6, w .7, w .8, w .9) (pass-left _ sets (a .set-count) few p last (w .4 .result) (there ∙ w .1 .given .1) (w .4 .ensures .0) (w .5 .ensures))
+            | inr (inr (inr (inr (inl w)))) ↦ rw (w .6, w .7, w .8, w .9) (pass-right _ sets (a .set-count) few p last (w .4 .result) (there ∙ w .1 .given .1) (w .4 .ensures .0) (w .5 .ensures))
+            | inr (inr (inr (inr (inr w)))) ↦ rw (w .4, w .5, w .6, w .7) (pass-strike _ sets (a .set-count) few p last (there ∙ w .1 .given .1) (w .3 .ensures))
           ]),
     )
 
 returns : tie.Need-returns Inv-loop μ-loop
 returns c =
-    let done = c .before .before in
-    let out = done .before .before in
+    let out = c .before .before in
     let left = out .before .before in
     let l = left .before .loop in
     let put = left .before .before in
-    let s = put .before .before in
-    let is = done .index .ensures in (
+    let s = put .before .before in (
       (λ e rows f key count are.
-          gives-as (out .strike .last .0) (done .index .last .0) (c .before .difference .result) (c .difference2 .result) (is .graph-stays)
-          (passed-all rows f (s .args .sets .now) (s .args .set-count) count are (s .pre .1) (l .graph) (l .initials) (l .finals) (l .struck) (l .inv .1 (put .put-sets .ensures e))
+          finished f count are (s .pre .1) (l .inv .1 (put .put-sets .ensures e)) (sets-rise rows (s .args .sets .now) (s .args .set-count) are count)
           (rw (take-all (l .i) rows (omega (arith, key .count, left .loop-test .left))) at (l .inv .2 (put .put-sets .ensures e) rows f key))
-          _ (out .strike .ensures) (c .before .difference .ensures) (c .difference2 .ensures))),
-      λ e. is .indexed (struck-unindexed (s .pre .1) (out .strike .ensures) (l .inv .1 (put .put-sets .ensures e))),
+          (out .finish .ensures) (c .before .difference .ensures) (c .difference2 .ensures)),
+      λ e. finished-indexed (s .pre .1) (l .inv .1 (put .put-sets .ensures e)) (out .finish .ensures),
     )
 
 pub fill-spec : {M : Type 1} → statement M
@@ -112,7 +113,6 @@ fill-spec =
     (λ c. search needs)
     (λ c. search needs)
     loop-again
-    (λ c κs. search needs)
     (λ c κs. search needs)
     (λ c κs. search needs)
     (λ c κs. search needs)

@@ -11,13 +11,13 @@ use Rattle.automaton.proofs.struck_sets.Statement.{statement}
 use Rattle.automaton.proofs.struck_sets.Tie as tie
 
 abbrev Inv-loop : tie.InvT-loop
-Inv-loop sets set-count struck places₀ i₀ places i = (i ≤ set-count) × StruckSets sets i struck places
+Inv-loop graph set-count struck places₀ i₀ places i = (i ≤ set-count) × StruckSets graph i struck places
 
 abbrev μ-loop : tie.MeasureT-loop
-μ-loop sets set-count struck places₀ i₀ places i = set-count - i
+μ-loop graph set-count struck places₀ i₀ places i = set-count - i
 
 loop-holds : tie.Need-loop-holds Inv-loop μ-loop
-loop-holds c = (omega arith, none-struck (c .args .sets .now) (c .args .struck))
+loop-holds c = (omega arith, none-struck (c .args .graph .now) (c .args .struck))
 
 loop-again : tie.Need-loop-again Inv-loop μ-loop
 loop-again c =
@@ -26,8 +26,8 @@ loop-again c =
     let is = c .before .meets .ensures in (
       omega arith,
       ⊎-elim
-          (λ w. struck-more (a .sets .now) (a .struck) (at .loop .i) (at .loop .places) (c .if1 .places) (at .loop .inv .1) (is .to (w .0 .taken)) (rw (w .2) (w .1 .ensures)))
-          (λ w. rw (w .1) (unstruck-more (a .sets .now) (a .struck) (at .loop .i) (at .loop .places) (at .loop .inv .1) (λ m. not-both (is .of m) (w .0 .left))))
+          (λ w. struck-more (a .graph .now) (a .struck) (at .loop .i) (at .loop .places) (c .if1 .places) (at .loop .inv .1) (is .to (w .0 .taken)) (rw (w .2) (w .1 .ensures)))
+          (λ w. rw (w .1) (unstruck-more (a .graph .now) (a .struck) (at .loop .i) (at .loop .places) (at .loop .inv .1) (λ m. not-both (is .of m) (w .0 .left))))
           (c .if1 .came),
     )
 
@@ -41,6 +41,7 @@ struck-sets-spec =
     Inv-loop
     μ-loop
     loop-holds
+    (λ c. search needs)
     (λ c. search needs)
     (λ c. search needs)
     (λ c κs. search needs)

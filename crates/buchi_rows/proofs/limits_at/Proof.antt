@@ -2,12 +2,11 @@
 use Prim.Native.Nat.{ℕ, _+_, _-_, _*_, _%_, _^_, _≤_}
 use mathlib.Core.Path.{_≡_, _∙_}
 use mathlib.Core.Logic.{⊎-elim}
-use native.Mathlib.Nat.{one-mul}
 use native.Mathlib.Omega.{arith}
 use borrow.Author.Needs.{needs}
-use lib.Dec.{lit<}
-use lib.Pow.{pow-pos, shl-exact}
+use lib.Pow.{pow-pos}
 use Rattle.lists.proofs.Deciding.{alike}
+use Rattle.masks.proofs.Member.{shifted}
 use Rattle.buchi_rows.specs.Writing.{meet?, limit-row, limit-rows}
 use Rattle.buchi_rows.proofs.Kept.{few-subsets, meet·, WroteKept, kept-start, kept-next, kept-past, kept-short, limit-length}
 use Rattle.buchi_rows.proofs.limits_at.Statement.{statement}
@@ -21,7 +20,7 @@ abbrev μ-loop : tie.MeasureT-loop
 
 -- nothing is shifted out
 end-is : (n : ℕ) → n ≤ 6 → (1 * 2 ^ n) % 2 ^ 64 ≡ 2 ^ n
-end-is n h = shl-exact 1 n 64 (lit< tt) (omega arith) ∙ one-mul (2 ^ n)
+end-is n h = shifted n (omega arith)
 
 loop-holds : tie.Need-loop-holds Inv-loop μ-loop
 loop-holds c = (pow-pos (c .before .args .states), kept-start _ _ 1 _ _)

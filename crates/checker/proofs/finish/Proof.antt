@@ -2,62 +2,51 @@
 use mathlib.Core.Path.{refl}
 use lib.ListN.{length}
 use Rattle.machine.specs.declared.Phase.the-variants.{Open, Running}
+use Rattle.machine.specs.Calls.{print}
+use Rattle.machine.specs.Causes.{printing, to-print}
 use Rattle.machine.proofs.Phases.{open-refuses, running-refuses}
 use Rattle.automaton.specs.declared.Automaton.{Automaton}
 use Rattle.automaton.specs.Promise.{automaton-of}
-use Rattle.checker.specs.Promise.{call-for}
-use Rattle.checker.proofs.Finishing.{for-closed, for-settled, few-done, not-settled, is-settled}
+use Rattle.checker.proofs.Finishing.{given-of, not-settled, is-printed}
 use borrow.Author.Needs.{needs}
 use Rattle.checker.proofs.finish.Statement.{statement}
 use Rattle.checker.proofs.finish.Tie as tie
 
 -- the automaton that the graph and the endpoints make
-abbrev made : tie.After-fill → Automaton
-made c = automaton-of (c .fill .last .0) (c .fill .result .initials) (c .fill .result .finals)
+abbrev made : tie.Start → Automaton
+made s = let a = s .args in automaton-of (a .graph .now) (a .loaded .initials) (a .loaded .finals)
 
 settle-requires : tie.Need-settle-requires
-settle-requires c κs = let g = c .before in (g .before .before .before .pre .1, g .fill .ensures .1 refl)
+settle-requires c κs = let s = c .before .before .before .before in (s .pre .few-sets, c .before .turn-indexed .ensures refl (s .pre .indexed))
 
--- of the rows that the arrays hold
-tell-requires : tie.Need-tell-requires
-tell-requires c κs =
-    let d = c .before .before .before .before .before in
-    let g = d .before .before in
-    let s = g .before .before .before in
-    let a = s .args in
-    let h = s .pre .2 in (
-      s .pre .0,
-      s .pre .1,
-      few-done (h .rows) (h .table) (a .high .now) (a .low .now) (a .sets .now) (a .row-count) (a .set-count) (h .filed) (made g) (g .fill .ensures .0 refl) (d .settle .result) (d .settle .ensures),
-    )
+print-requires : tie.Need-print-requires
+print-requires c κs = let s = c .before .before .before .before .before .before .before .before .before .before in (s .pre .few, s .pre .few-sets, c .before .before .before .before .before .before .before .turn-indexed .ensures refl (s .pre .indexed))
 
 returns : tie.Need-returns
-returns c rows t f =
+returns c rows t h =
     let d = c .before .before in
-    let g = d .before .before in
-    let a = g .before .before .before .args in
-    let size = length (a .buffer .now) in
-    not-settled rows t (a .high .now) (a .low .now) (a .sets .now) (a .row-count) (a .set-count) f (made g) (g .fill .ensures .0 refl) (d .settle .result) (d .settle .ensures)
-    Open 9 (call-for (a .text) size) (a .buffer .now) (c .enum-told .given .1) (open-refuses (for-closed (a .text) size))
+    let s = d .before .before .before .before .before in
+    let size = length (s .args .buffer .now) in
+    not-settled rows t (s .args .loaded .«set_count») (made s) (given-of t h) (d .settle .result) (d .settle .ensures) Open 9 (print size) (s .args .buffer .now) (c .enum-told .given .1)
+    (open-refuses (printing size))
 
 returns-2 : tie.Need-returns-2
-returns-2 c rows t f =
+returns-2 c rows t h =
     let d = c .before .before in
-    let g = d .before .before in
-    let a = g .before .before .before .args in
-    let size = length (a .buffer .now) in
-    not-settled rows t (a .high .now) (a .low .now) (a .sets .now) (a .row-count) (a .set-count) f (made g) (g .fill .ensures .0 refl) (d .settle .result) (d .settle .ensures)
-    Running 11 (call-for (a .text) size) (a .buffer .now) (c .enum-told2 .given .1) (running-refuses (for-settled (a .text) size))
+    let s = d .before .before .before .before .before in
+    let size = length (s .args .buffer .now) in
+    not-settled rows t (s .args .loaded .«set_count») (made s) (given-of t h) (d .settle .result) (d .settle .ensures) Running 11 (print size) (s .args .buffer .now) (c .enum-told2 .given .1)
+    (running-refuses (to-print size))
 
 returns-3 : tie.Need-returns-3
-returns-3 c rows t f =
+returns-3 c rows t h =
     let p = c .before .before in
     let v = p .before .before .before .before in
     let d = v .before .before in
-    let g = d .before .before in
-    let a = g .before .before .before .args in
-    is-settled rows t (a .high .now) (a .low .now) (a .sets .now) (a .row-count) (a .set-count) f (made g) (g .fill .ensures .0 refl) (d .settle .result) (d .settle .ensures)
-    (a .text) (v .phase .given .0 .0) (v .phase .given .1) (a .buffer .now) (p .tell .last .1 .0) (p .tell .result) (p .tell .ensures)
+    let s = d .before .before .before .before .before in
+    let a = s .args in
+    is-printed rows t (a .loaded .«set_count») (made s) (given-of t h) (d .settle .result) (d .settle .ensures) (v .phase .given .0 .0) (v .phase .given .1)
+    (a .letters .now) (a .loaded .«letter_count») (h .letters-in) (a .buffer .now) (p .print .last .0) (p .print .result) (p .print .ensures)
 
 pub finish-spec : {M : Type 1} → statement M
 finish-spec =
@@ -68,7 +57,7 @@ finish-spec =
     (λ c. search needs)
     (λ c. search needs)
     (λ c. search needs)
-    tell-requires
+    print-requires
     returns
     returns-2
     (λ c. search needs)

@@ -1,24 +1,44 @@
 -- `express` meets its contract: with a buffer that is too short, and with one that is long enough.
 use mathlib.Core.Path.{refl}
 use borrow.Author.Needs.{needs}
+use Rattle.search.specs.Graph.{BothWays}
 use Rattle.automaton.specs.Promise.{automaton-of}
 use Rattle.expression.proofs.Expressing.{Prepared, express-short, express-text}
 use Rattle.expression.proofs.express.Statement.{statement}
 use Rattle.expression.proofs.express.Tie as tie
 
+-- the graph turned round has its other parts
+back-ways : (t : tie.After-turn-indexed) → let s = t .before .before .before .before .before .before .before .before in
+    BothWays (s .args .graph .now) (t .turn-indexed .last .1 .0)
+back-ways t = let s = t .before .before .before .before .before .before .before .before in t .turn-indexed .ensures refl (s .pre .3)
+
+note-all-requires : tie.Need-note-all-requires
+note-all-requires c κs =
+    let t = c .before .before .before in
+    let p = t .before .before .before .before .before .before .before .before .pre in
+    (p .0, p .1, p .2, refl, back-ways t .back-indexed)
+
 of-frame-requires : tie.Need-of-frame-requires
-of-frame-requires c κs = let w = c .before .before in let s = w .before .before .before .before .before .before .before .before .before .before .before .before .before .before in (s .pre .0, s .pre .1, w .of-walk .ensures .0)
+of-frame-requires c κs =
+    let w = c .before .before in
+    let t = w .before .before .before .before .before .before in
+    let p = t .before .before .before .before .before .before .before .before .pre in
+    (p .0, p .1, w .of-walk .ensures .0, back-ways t .back-indexed)
 
 put-requires : tie.Need-put-requires
-put-requires c κs = let w = c .before .before .before .before .before .before .before .before in let s = w .before .before .before .before .before .before .before .before .before .before .before .before .before .before in (s .pre .0, s .pre .1, w .of-walk .ensures .0)
+put-requires c κs =
+    let w = c .before .before .before .before .before .before .before .before in
+    let t = w .before .before .before .before .before .before in
+    let p = t .before .before .before .before .before .before .before .before .pre in
+    (p .0, p .1, w .of-walk .ensures .0, back-ways t .back-indexed)
 
 -- what the calls up to the walk's frame have made
 prepared : (w : tie.After-of-walk)
     → let n = w .before .before in let t = n .before .before .before .before in let o = t .before .before in let a = o .before .before .before .before .before .before .args in
     Prepared (a .high .now) (a .low .now) (a .row-count) (a .set-count) (automaton-of (a .graph .now) (a .initials) (a .finals)) (a .rounds)
-    (t .turn .last .1 .0) (o .opened-in .result) (n .note-all .last .0) (a .buffer .now) (w .of-walk .result)
+    (t .turn-indexed .last .1 .0) (o .opened-in .result) (n .note-all .last .0) (a .buffer .now) (w .of-walk .result)
 prepared w = let n = w .before .before in let t = n .before .before .before .before in let o = t .before .before in
-    record { turned = t .turn .ensures .turned refl; joined = o .opened-in .ensures; notes = n .note-all .ensures; frames = w .of-walk .ensures .1 }
+    record { turned = back-ways t .turned; joined = o .opened-in .ensures; notes = n .note-all .ensures; frames = w .of-walk .ensures .1 }
 
 returns : tie.Need-returns
 returns c = let l = c .before .before in (refl, express-short (prepared (l .before .before .before)) (rw (c .enum-told .given .1) at (l .of-frame .ensures)))
@@ -36,7 +56,7 @@ express-spec =
     (tie.spec
     (λ c κs. search needs)
     (λ c κs. search needs)
-    (λ c κs. search needs)
+    note-all-requires
     (λ c κs. search needs)
     of-frame-requires
     (λ c. search needs)

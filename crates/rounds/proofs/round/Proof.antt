@@ -5,7 +5,7 @@ use Rattle.machine.specs.declared.Phase.{Phase}
 use Rattle.machine.specs.Machine.{next-round}
 use Rattle.search.specs.declared.Claims.{Claims}
 use Rattle.rounds.specs.Promises.{Mirrors}
-use Rattle.rounds.proofs.Settled.{round-kept}
+use Rattle.rounds.proofs.Settled.{round-paired, round-kept}
 use borrow.Author.Needs.{needs}
 use Rattle.rounds.proofs.round.Statement.{statement}
 use Rattle.rounds.proofs.round.Tie as tie
@@ -25,7 +25,7 @@ returns c m w g kept =
     let force : Claims = record { loops = loops .open-mask .result; mixes = mixes .open-mask2 .result } in
     subst (λ (p : Phase). Mirrors (next-round m) (looped .note .last .0) (c .note2 .last .0) p (b .rounds + 1)) (sym (phased .judge .ensures))
     (round-kept m w g force (new .opened .result) (all .with-new .result) kept (loops .open-mask .ensures) (mixes .open-mask2 .ensures) (record {
-      opens = new .opened .ensures;
+      opens = new .opened .ensures (round-paired m w g force kept (loops .open-mask .ensures) (mixes .open-mask2 .ensures));
       with-new = all .with-new .ensures;
       tested = tested .accepts .ensures;
       vain-iff = vain .nothing .ensures;

@@ -8,7 +8,8 @@ use Rattle.machine.specs.Calls.{close, round, run}
 use Rattle.search.specs.Graph.{graph-of}
 use Rattle.search.specs.Promises.{AcceptsRight}
 use Rattle.rounds.specs.declared.Progress.{Progress}
-use Rattle.rounds.specs.Promises.{Mirrors, no-claims}
+use Rattle.search.specs.Hops.{no-claims}
+use Rattle.rounds.specs.Promises.{Mirrors}
 use Rattle.rounds.proofs.Settled.{closed-end}
 use Rattle.rounds.proofs.work.Statement.{statement}
 use Rattle.rounds.proofs.work.Tie as tie

@@ -1,36 +1,41 @@
--- `rows::read_step` meets its contract: the tests of kind 3 in their order.
+-- `rows::read_step` meets its contract: a row without a cause is that of its kind.
+use Prim.Native.Nat.{_≤_}
 use mathlib.Core.Path.{_≡_, sym, _∙_}
-use mathlib.Core.List.{[], _∷_}
 use native.Mathlib.Omega.{arith}
-use borrow.Author.Tests.{lt-ltb, le-ltb}
+use lib.ListN.{length}
 use borrow.Author.Needs.{needs}
-use Rattle.rows.specs.Reading.{row-at, read-row}
-use Rattle.rows.proofs.Reading.{by-tests, read-known}
+use Rattle.rows.specs.Reading.{row-at}
+use Rattle.rows.proofs.Reading.{cause-refuses, cause-none, cause-sound}
 use Rattle.rows.proofs.read_step.Statement.{statement}
 use Rattle.rows.proofs.read_step.Tie as tie
 
-tests : (s : tie.Start) → let l = s .args .rest .now in read-row l ≡ by-tests 4 (1 ∷ 3 ∷ []) [] 3 l
-tests s = read-known 3 (s .args .rest .now) (s .pre) (omega arith)
-
 returns : tie.Need-returns
-returns c = sym (tests (c .before) ∙ simp (lt-ltb _ _ (c .if1 .taken)))
+returns c = let s = c .before .before .before in sym (cause-refuses _ (s .pre .0) (c .before .step-cause .ensures) (c .if1 .taken))
+
+long : (c : tie.Else1) → 4 ≤ length (c .before .before .before .args .rest .now)
+long c = let s = c .before .before .before in omega (arith, cause-sound 3 (s .args .rest .now) (s .pre .1) (c .before .step-cause .ensures) (c .if1 .left) .whole)
+
+shared-slice-read-t5 : tie.Need-shared-slice-read-t5
+shared-slice-read-t5 c = omega (arith, long (c .before))
+
+shared-slice-read-t7 : tie.Need-shared-slice-read-t7
+shared-slice-read-t7 c = omega (arith, long (c .before .before))
+
+shared-slice-read-t9 : tie.Need-shared-slice-read-t9
+shared-slice-read-t9 c = omega (arith, long (c .before .before .before))
 
 returns-2 : tie.Need-returns-2
-returns-2 c = let up = c .before .before in sym (tests (up .before) ∙ simp (le-ltb _ _ (up .if1 .left), lt-ltb _ _ (c .if2 .taken)))
-
-returns-3 : tie.Need-returns-3
-returns-3 c =
-    let low = c .before .before .before in
-    let up = low .before .before in
-    sym (tests (up .before) ∙ simp (le-ltb _ _ (up .if1 .left), le-ltb _ _ (low .if2 .left), lt-ltb _ _ (c .if3 .taken)))
-
-returns-4 : tie.Need-returns-4
 unfolding row-at
-returns-4 c =
-    let low = c .before .before .before in
-    let up = low .before .before in
-    sym (tests (up .before) ∙ simp (le-ltb _ _ (up .if1 .left), le-ltb _ _ (low .if2 .left), le-ltb _ _ (c .if3 .left)))
+returns-2 c = let e = c .before .before .before in let p = e .before .before .before .pre in
+    sym (cause-none 3 _ p (e .before .step-cause .ensures) (e .if1 .left))
 
 pub read-step-spec : {M : Type 1} → statement M
 read-step-spec =
-    tie.close (tie.spec returns (λ c. search needs) returns-2 (λ c. search needs) (λ c. search needs) returns-3 returns-4)
+    tie.close
+    (tie.spec
+    (λ c κs. search needs)
+    returns
+    shared-slice-read-t5
+    shared-slice-read-t7
+    shared-slice-read-t9
+    returns-2)

@@ -7,7 +7,7 @@ use Rattle.tours.proofs.begin.Statement.{statement}
 use Rattle.tours.proofs.begin.Tie as tie
 
 onward-requires : tie.Need-onward-requires
-onward-requires c κs = let told = c .before .before .before .before in rw (told .shape .given .1) at (told .before .before .pre)
+onward-requires c κs = let told = c .before .before .before .before in let p = told .before .before .pre in (rw (told .shape .given .1) at (p .0), p .1)
 
 returns : tie.Need-returns
 returns c = let a = c .before .before .before .before .args in

@@ -7,7 +7,7 @@ use types.Run.{miss}
 use denote.Ref.{now}
 use borrow.Author.Needs.{needs}
 use Rattle.rows.specs.declared.Row.the-variants.{Successor}
-use Rattle.walks.specs.Choices.{LetterRow}
+use Rattle.row_table.specs.Letters.{LetterRow}
 use Rattle.walks.proofs.Letters.{Passed, passed-start, passed-end, passed-stop, letter-first, passed-more}
 use Rattle.walks.proofs.first_letter.Statement.{statement}
 use Rattle.walks.proofs.first_letter.Tie as tie

@@ -6,53 +6,68 @@ use native.Mathlib.Omega.{arith}
 use denote.Ref.{now}
 use borrow.Author.Needs.{needs}
 use Rattle.search.specs.Graph.{graph-of}
-use Rattle.walks.specs.Choices.{Way, InOrder}
+use Rattle.walks.specs.Choices.{Way, BySource, SetsRise}
 use Rattle.walks.proofs.Following.{Taking, take-more}
 use Rattle.walks.proofs.follow.Statement.{statement}
 use Rattle.walks.proofs.follow.Tie as tie
 
 abbrev Inv-loop : tie.InvT-loop
-Inv-loop high low row-count back force layers start d kinds₀ values₀ targets₀ a₀ i₀ kinds values targets a i =
-    Taking (Way high row-count (graph-of back) force) (InOrder high low row-count (graph-of back) force) layers start d kinds values targets a i
+Inv-loop words count back force layers start d first next kinds₀ values₀ targets₀ a₀ i₀ kinds values targets a i =
+    BySource first next words count × Taking (Way words count (graph-of back) force) (SetsRise (graph-of back) force) layers start d kinds values targets a i
 
 abbrev μ-loop : tie.MeasureT-loop
-μ-loop high low row-count back force layers start d kinds₀ values₀ targets₀ a₀ i₀ kinds values targets a i =
+μ-loop words count back force layers start d first next kinds₀ values₀ targets₀ a₀ i₀ kinds values targets a i =
     d - i
 
 loop-holds : tie.Need-loop-holds Inv-loop μ-loop
-loop-holds c = record {
-  within = omega arith;
-  long-kinds = refl;
-  long-values = refl;
-  long-targets = refl;
-  low = search needs;
-  state = refl;
-  chosen = λ j h. absurd (omega arith);
-}
+loop-holds c = (
+  c .by-source .ensures refl refl,
+  record {
+    within = omega arith;
+    long-kinds = refl;
+    long-values = refl;
+    long-targets = refl;
+    low = search needs;
+    state = refl;
+    chosen = λ j h. absurd (omega arith);
+  },
+)
+
+step-from-requires : tie.Need-step-from-requires Inv-loop μ-loop
+step-from-requires c κs = let at = c .before .before .before .before in (at .loop .inv .1 .low, (at .before .before .before .before .args .count, at .loop .inv .0))
 
 loop-again : tie.Need-loop-again Inv-loop μ-loop
 loop-again c =
-    let p = c .before .before .before .before .before .before in
-    let a = p .before .args in
+    let step = c .before .before .before in
+    let turn = step .before .before .before .before in
+    let p = turn .before in
+    let s = p .before .before .before .before in
+    let a = s .args in
     let at = p .loop in
-    let x = c .before .step .given in
-    take-more (Way (now (a .high)) (a .row-count) (graph-of (now (a .back))) (a .force)) (InOrder (now (a .high)) (now (a .low)) (a .row-count) (graph-of (now (a .back))) (a .force)) (now (a .layers)) (a .start) (a .d)
-    (at .kinds) (at .values) (at .targets) (at .a) (at .i) (x .0 .0) (x .0 .1 .0) (x .0 .1 .1 .0) (c .before .before .before .before .before .loop-test .taken) (p .before .pre .2) (at .inv) (rw (x .1) at (c .before .before .before .first-step .ensures))
+    let x = c .before .step .given in (
+      at .inv .0,
+      take-more (Way (now (a .words)) (a .count) (graph-of (now (a .back))) (a .force)) (SetsRise (graph-of (now (a .back))) (a .force)) (now (a .layers)) (a .start) (a .d)
+          (at .kinds) (at .values) (at .targets) (at .a) (at .i) (x .0 .0) (x .0 .1 .0) (x .0 .1 .1 .0) (turn .loop-test .taken) (s .pre .2) (at .inv .1)
+          (rw (x .1) at (step .step-from .ensures (a .count) (at .inv .0))),
+    )
 
 returns : tie.Need-returns Inv-loop μ-loop
 returns c =
     let at = c .before .loop in
-    record { found = refl; begins = refl; within = at .inv .within; chosen = at .inv .chosen; stopped = inl (omega (arith, at .inv .within, c .loop-test .left)) }
+    record { found = refl; begins = refl; within = at .inv .1 .within; chosen = at .inv .1 .chosen; stopped = inl (omega (arith, at .inv .1 .within, c .loop-test .left)) }
 
 returns-2 : tie.Need-returns-2 Inv-loop μ-loop
 returns-2 c =
-    let at = c .before .before .before .before .before .loop in
+    let step = c .before .before in
+    let turn = step .before .before .before .before in
+    let p = turn .before in
+    let at = p .loop in
     record {
       found = refl;
       begins = refl;
-      within = at .inv .within;
-      chosen = at .inv .chosen;
-      stopped = inr (c .before .before .before .before .loop-test .taken, rw (sym (at .inv .state)) (rw (c .enum-told .given .1) at (c .before .before .first-step .ensures)));
+      within = at .inv .1 .within;
+      chosen = at .inv .1 .chosen;
+      stopped = inr (turn .loop-test .taken, rw (sym (at .inv .1 .state)) (rw (c .enum-told .given .1) at (step .step-from .ensures (p .before .before .before .before .args .count) (at .inv .0))));
     }
 
 pub follow-spec : {M : Type 1} → statement M
@@ -61,12 +76,13 @@ follow-spec =
     (tie.spec
     Inv-loop
     μ-loop
+    (λ c κs. search needs)
     loop-holds
     (λ c. search needs)
     (λ c. search needs)
     (λ c. search needs)
     (λ c. search needs)
-    (λ c κs. search needs)
+    step-from-requires
     (λ c. search needs)
     (λ c. search needs)
     (λ c. search needs)

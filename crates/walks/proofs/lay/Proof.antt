@@ -30,7 +30,7 @@ loop-holds : tie.Need-loop-holds Inv-loop μ-loop
 loop-holds c =
     let ends = c .before .args .ends in
     let layers = c .before .args .layers .now in
-    let size : 64 ≤ length layers = c .before .pre in
+    let size : 64 ≤ length layers = c .before .pre .0 in
     let here : getD (set layers 0 ends) 0 0 ≡ ends = getD-set-same layers 0 ends 0 (omega arith) in
     let some : (t : ℕ) → t ∈ ends → 0 < ones ends = λ t h.
     let g : ones 0 < ones ends = ones-grows 0 ends (lit< tt) (c .before .fits .ends .fits) (λ u m. absurd (in-none u m)) (λ e. in-none t (subst (λ (x : ℕ). t ∈ x) (sym e) h)) in omega arith in
@@ -38,14 +38,14 @@ loop-holds c =
 
 -- the states with a step to the last layer
 onward : (c : tie.After-intersection Inv-loop μ-loop) → let a = c .before .before .before .before .args in let at = c .before .before .loop in
-    Onward (λ t s. Ahead (graph-of (a .back .now)) (a .force) (a .p) s t) (getD (at .layers) (at .k) 0) (c .before .targets .result)
-onward c = rw (sym (c .before .before .loop .inv .1)) (c .before .targets .ensures)
+    Onward (λ t s. Ahead (graph-of (a .back .now)) (a .force) (a .p) s t) (getD (at .layers) (at .k) 0) (c .before .near .result)
+onward c = rw (sym (c .before .before .loop .inv .1)) (c .before .near .ensures)
 
 -- where one is found, there are more states than layers
-more-seen : (c : tie.After-intersection Inv-loop μ-loop) (s : ℕ) → s ∈ c .before .targets .result → c .before .before .loop .k < ones (c .before .before .loop .seen)
+more-seen : (c : tie.After-intersection Inv-loop μ-loop) (s : ℕ) → s ∈ c .before .near .result → c .before .before .loop .k < ones (c .before .before .loop .seen)
 more-seen c s h =
     let at = c .before .before .loop in
-    let r = near-seen (at .layers) (at .k) (at .seen) (c .before .targets .result) (c .intersection .result) (at .inv .4) (onward c) (c .intersection .ensures) s h in
+    let r = near-seen (at .layers) (at .k) (at .seen) (c .before .near .result) (c .intersection .result) (at .inv .4) (onward c) (c .intersection .ensures) s h in
     at .inv .3 (r .0) (r .1)
 
 length-kept : (c : tie.After-intersection Inv-loop μ-loop) → length (c .before .before .loop .layers) ≡ length (c .before .before .before .before .args .layers .now)
@@ -56,7 +56,7 @@ met-seen : (c : tie.After-lowest Inv-loop μ-loop) → c .before .before .before
 met-seen c =
     let d = c .before .before in
     let at = d .before .before .loop in
-    more-seen d (c .lowest .result) (met-near (at .layers) (at .k) (at .seen) (d .before .targets .result) (d .intersection .result) (at .inv .4) (onward d) (d .intersection .ensures) (c .lowest .result) (c .lowest .ensures .0))
+    more-seen d (c .lowest .result) (met-near (at .layers) (at .k) (at .seen) (d .before .near .result) (d .intersection .result) (at .inv .4) (onward d) (d .intersection .ensures) (c .lowest .result) (c .lowest .ensures .0))
 
 add-t16 : tie.Need-add-t16 Inv-loop μ-loop
 add-t16 c = let at = c .before .before .before .before .loop in omega (arith, met-seen c, ones-le 64 (at .seen) (at .inv .2))
@@ -69,7 +69,7 @@ returns c =
     let d = c .before .before in
     let at = d .before .before .loop in (
       length-kept d,
-      laying-met (at .layers) (at .k) (at .seen) (d .before .targets .result) (d .intersection .result) (at .inv .4) (onward d) (d .intersection .ensures)
+      laying-met (at .layers) (at .k) (at .seen) (d .before .near .result) (d .intersection .result) (at .inv .4) (onward d) (d .intersection .ensures)
           (c .lowest .result) (c .lowest .ensures .0) (c .lowest .ensures .1) (at .inv .2) (met-seen c),
     )
 
@@ -81,7 +81,7 @@ returns-2 c =
     let d = c .before .before .before in
     let at = d .before .before .loop in (
       length-kept d,
-      laying-end (at .layers) (at .k) (at .seen) (d .before .targets .result) (d .intersection .result) (at .inv .4) (onward d) (d .intersection .ensures)
+      laying-end (at .layers) (at .k) (at .seen) (d .before .near .result) (d .intersection .result) (at .inv .4) (onward d) (d .intersection .ensures)
           (c .before .before .if1 .left) (c .before .difference .result) (c .before .difference .ensures) (at .layers) (c .if2 .taken),
     )
 
@@ -96,8 +96,8 @@ grows c =
     let new = lowest-is next (omega arith) (e .difference .ok) .0 in
     omega (
       arith,
-      more-seen d _ (difference-left (d .before .targets .result) (at .seen) next (e .difference .ensures) _ new),
-      laying-grows (at .layers) (at .k) (at .seen) (d .before .targets .result) (d .intersection .result) (at .inv .4) (onward d) (d .intersection .ensures)
+      more-seen d _ (difference-left (d .before .near .result) (at .seen) next (e .difference .ensures) _ new),
+      laying-grows (at .layers) (at .k) (at .seen) (d .before .near .result) (d .intersection .result) (at .inv .4) (onward d) (d .intersection .ensures)
           (e .before .if1 .left) next (e .difference .ensures) (c .union .result) (c .union .ensures) (at .inv .2) (e .difference .ok) (c .union .ok) n,
     )
 
@@ -113,7 +113,7 @@ mul-layers c = omega (arith, few c)
 -- and the slice has a place for it
 room : (c : tie.After-union Inv-loop μ-loop) → c .before .before .before .before .before .before .loop .k + 1 < length (c .before .before .before .before .before .before .loop .layers)
 room c = let d = c .before .before .before .before in
-    let size : 64 ≤ length (d .before .before .before .before .args .layers .now) = d .before .before .before .before .pre in
+    let size : 64 ≤ length (d .before .before .before .before .args .layers .now) = d .before .before .before .before .pre .0 in
     omega (arith, few c, length-kept d)
 
 loop-less : tie.Need-loop-less Inv-loop μ-loop
@@ -130,7 +130,7 @@ loop-again c =
       sym here,
       c .union .ok,
       (λ t h. grows c),
-      rw add-one (laying-more (at .layers) (at .k) (at .seen) (d .before .targets .result) (d .intersection .result) (at .inv .4) (onward d) (d .intersection .ensures)
+      rw add-one (laying-more (at .layers) (at .k) (at .seen) (d .before .near .result) (d .intersection .result) (at .inv .4) (onward d) (d .intersection .ensures)
           (e .before .if1 .left) next (e .difference .ensures) (c .union .result) (c .union .ensures) (set (at .layers) (suc (at .k)) next) (rw add-one at here)
           (λ j h. getD-set-other (at .layers) (suc (at .k)) j next 0 (λ q. omega arith))),
     )

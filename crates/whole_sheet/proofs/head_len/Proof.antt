@@ -13,13 +13,13 @@ low-count c = search needs
 add-result : tie.Need-add-result
 add-result c =
     let t = c .before .before .before in
-    let s = t .before .before .before in
+    let s = t .before .before .before .before in
     omega (arith, t .verdict-line-len .ensures, verdict-short (s .args .v) (s .args .rounds .rounds) (low-count s), c .openings-len .ensures .1, low-count s)
 
 returns : tie.Need-returns
 returns c =
     let t = c .before .before .before in
-    let s = t .before .before .before in (
+    let s = t .before .before .before .before in (
       omega (arith, t .verdict-line-len .ensures, c .openings-len .ensures .0, head-length (s .args .sets .now) (s .args .set-count) (s .args .rounds) (s .args .v)),
       omega (arith, t .verdict-line-len .ensures, verdict-short (s .args .v) (s .args .rounds .rounds) (low-count s), c .openings-len .ensures .1, low-count s),
     )

@@ -10,7 +10,7 @@ use Rattle.whole_sheet.proofs.openings_at.Tie as tie
 returns : tie.Need-returns
 returns c =
     let p = c .before .before in
-    let a = p .before .before .before .args in
+    let a = p .before .before .before .before .args in
     wrote-at-part (gather opening-line (openings-in (a .looped .now) (a .mixed .now) (a .sets .now) (a .set-count) (a .count))) (a .buf .now) (p .put-openings .last .0) (a .at) (p .put-openings .ensures)
 
 pub openings-at-spec : {M : Type 1} → statement M

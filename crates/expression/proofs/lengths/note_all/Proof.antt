@@ -25,7 +25,7 @@ loop-holds : tie.Need-loop-holds Inv-loop μ-loop
 loop-holds c = let a = c .args in (omega arith, c .pre .3, λ m g held noted. known-none m g (a .set-count) (a .opened .now) (a .most) (a .bytes .now))
 
 note-round-requires : tie.Need-note-round-requires Inv-loop μ-loop
-note-round-requires c κs = let at = c .before .before in (at .before .pre .0, at .before .pre .1, omega arith, at .loop .inv .1)
+note-round-requires c κs = let at = c .before .before in let p = at .before .pre in (p .0, p .1, omega arith, at .loop .inv .1, p .4)
 
 loop-again : tie.Need-loop-again Inv-loop μ-loop
 loop-again c = let at = c .before .before .before in

@@ -22,7 +22,7 @@ loop-holds c = let a = c .args in
     (omega arith, c .pre .3, note-start (a .high .now) (a .low .now) (a .row-count) (graph-of (a .back .now)) (a .set-count) (a .opened .now) (a .round) (a .most) (a .bytes .now))
 
 of-frame-requires : tie.Need-of-frame-requires Inv-loop μ-loop
-of-frame-requires c κs = let place = c .before in let p = place .before .before .before .before .before .pre in (p .0, p .1, place .of-place .ensures .0)
+of-frame-requires c κs = let place = c .before in let p = place .before .before .before .before .before .pre in (p .0, p .1, place .of-place .ensures .0, p .4)
 
 loop-again : tie.Need-loop-again Inv-loop μ-loop
 loop-again c =

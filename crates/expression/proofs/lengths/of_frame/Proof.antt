@@ -31,7 +31,7 @@ target-requires : tie.Need-target-requires Inv-loop μ-loop
 target-requires c κs = let step = c .before .before in (step .before .before .before .loop .inv .0 .state, step .step-at .ensures .0)
 
 advance-requires : tie.Need-advance-requires Inv-loop μ-loop
-advance-requires c κs = let at = c .before .before .before .before .before .before .before in (at .before .before .before .pre .2, at .loop .inv .0, c .before .target .ensures .0)
+advance-requires c κs = let at = c .before .before .before .before .before .before .before in let p = at .before .before .before .pre in (p .2, at .loop .inv .0, c .before .target .ensures .0, p .3)
 
 loop-less : tie.Need-loop-less Inv-loop μ-loop
 loop-less c = let enter = c .before .before .before .before .before .before .before in c .advance .ensures .1 .0 (enter .loop-test .taken)

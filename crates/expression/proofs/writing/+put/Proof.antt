@@ -66,7 +66,7 @@ abbrev put-μ-loop : put-lts.MeasureT-loop
 put-μ-loop buf₀ high low row-count back opened set-count frame layers₀ cursor₀ at₀ buf layers cursor at = size-of cursor
 
 put-begin-requires : (t : ℕ) → put-lts.Need-begin-requires (calls t) (put-at t) put.Post put-Inv-loop put-μ-loop
-put-begin-requires t c κs = c .before .before .pre .1 .2
+put-begin-requires t c κs = let p = c .before .before .pre .1 in (p .2, p .3)
 
 put-loop-holds : (t : ℕ) → put-lts.Need-loop-holds (calls t) (put-at t) put.Post put-Inv-loop put-μ-loop
 put-loop-holds t c =
@@ -98,7 +98,7 @@ put-put-requires : (t : ℕ) → put-lts.Need-put-requires (calls t) (put-at t) 
 put-put-requires t c κs =
     let s = c .before .before .before .before .before .before .before .before .before .before .before .before .before .before .before in
     let e = c .before .before .is-earlier .ensures .to (c .before .if1 .taken) in
-    (omega (arith, e .1, s .pre .0), (s .pre .1 .0, s .pre .1 .1, c .before .before .before .of-step .ensures .0))
+    (omega (arith, e .1, s .pre .0), (s .pre .1 .0, s .pre .1 .1, c .before .before .before .of-step .ensures .0, s .pre .1 .3))
 
 put-add-at : (t : ℕ) → put-lts.Need-add-at (calls t) (put-at t) put.Post put-Inv-loop put-μ-loop
 put-add-at t c =
@@ -114,7 +114,7 @@ put-target-requires : (t : ℕ) → put-lts.Need-target-requires (calls t) (put-
 put-target-requires t c κs = let s = c .before .before .before .before .before .before .before .before .before .before .before in (s .before .before .before .loop .inv .2 .state, s .step-at .ensures .0)
 
 put-advance-requires : (t : ℕ) → put-lts.Need-advance-requires (calls t) (put-at t) put.Post put-Inv-loop put-μ-loop
-put-advance-requires t c κs = let h = c .before .before .before .before .before .before .before .before .before .before .before .before .before .before .before .before in (h .before .before .before .before .pre .1 .2, h .loop .inv .2, c .before .target .ensures .0)
+put-advance-requires t c κs = let h = c .before .before .before .before .before .before .before .before .before .before .before .before .before .before .before .before in let p = h .before .before .before .before .pre .1 in (p .2, h .loop .inv .2, c .before .target .ensures .0, p .3)
 
 put-loop-less : (t : ℕ) → put-lts.Need-loop-less (calls t) (put-at t) put.Post put-Inv-loop put-μ-loop
 put-loop-less t c = c .advance .ensures .1 .0 (c .before .before .before .before .before .before .before .before .before .before .before .before .before .before .before .before .loop-test .taken)

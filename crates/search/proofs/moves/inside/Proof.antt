@@ -1,19 +1,16 @@
 -- `search::moves::inside` meets its contract. The place i gives i where its set is a part of p.
-use Prim.Native.Nat.{ℕ}
-use mathlib.Core.Path.{_≡_, refl, subst, sym}
 use lib.Count.{ones}
 use lib.ListN.{getD}
 use borrow.Author.Needs.{needs}
-use Rattle.masks.specs.Mask.{_∈_, _⊆_}
+use Rattle.masks.specs.Mask.{_⊆_}
 use Rattle.search.specs.Graph.{graph-of}
-use Rattle.masks.proofs.Gathering.{Gathered, gather-start, gather-end, gather-more}
+use Rattle.masks.proofs.Gathering.{Gathered, Here, gather-start, gather-more, here-end}
 use Rattle.search.proofs.moves.inside.Statement.{statement}
 use Rattle.search.proofs.moves.inside.Tie as tie
 
 abbrev Inv-loop : tie.InvT-loop
 Inv-loop graph places p r₀ rest₀ r rest =
-    Gathered
-    (λ i t. (t ≡ i) × (getD (graph-of graph .sets) i 0 ⊆ p)) places rest r
+    Gathered (Here (λ i. getD (graph-of graph .sets) i 0 ⊆ p)) places rest r
 
 abbrev μ-loop : tie.MeasureT-loop
 μ-loop graph places p r₀ rest₀ r rest = ones rest
@@ -41,14 +38,7 @@ loop-again c =
     (λ t. let g = got .ensures t in ((λ h. (g .0 h .0, part .to (g .0 h .1))), λ h. g .1 (h .0, part .of (h .1)))) (c .union .ensures)
 
 returns : tie.Need-returns Inv-loop μ-loop
-returns c t =
-    let sets = graph-of (c .before .before .args .graph .now) .sets in
-    let p = c .before .before .args .p in
-    let all = gather-end (c .before .loop .inv) (c .loop-test .left) t in (
-      (λ h. let x = all .0 h in
-          (subst (λ (i : ℕ). i ∈ c .before .before .args .places) (sym (x .2 .0)) (x .1), subst (λ (i : ℕ). getD sets i 0 ⊆ p) (sym (x .2 .0)) (x .2 .1))),
-      λ h. all .1 (t, h .0, (refl, h .1)),
-    )
+returns c = here-end (λ i. getD (graph-of (c .before .before .args .graph .now) .sets) i 0 ⊆ c .before .before .args .p) (c .before .loop .inv) (c .loop-test .left)
 
 pub inside-spec : {M : Type 1} → statement M
 inside-spec =

@@ -13,14 +13,18 @@ piece-at-gap-requires c κs =
     let both : ℕ = h .before .intersection .result in
     let is = h .before .intersection .ensures in
     let m = sym (h .has .ensures) ∙ c .before .if1 .taken in
-    (intersection-left (a .starts) (a .ends) both is (a .s) m, intersection-right (a .starts) (a .ends) both is (a .s) m)
+    (intersection-left (a .starts) (a .ends) both is (a .s) m, intersection-right (a .starts) (a .ends) both is (a .s) m, h .before .before .pre .1)
 
 piece-through-requires : tie.Need-piece-through-requires
 piece-through-requires c κs =
     let h = c .before .before in
     let a = h .before .before .args in
     let both : ℕ = h .before .intersection .result in
-    (h .before .before .pre, λ i j. not-both (intersection-both (a .starts) (a .ends) both (h .before .intersection .ensures) (a .s) i j) (sym (h .has .ensures) ∙ c .before .if1 .left))
+    let p = h .before .before .pre in (
+      p .0,
+      (λ i j. not-both (intersection-both (a .starts) (a .ends) both (h .before .intersection .ensures) (a .s) i j) (sym (h .has .ensures) ∙ c .before .if1 .left)),
+      p .1,
+    )
 
 pub piece-spec : {M : Type 1} → statement M
 piece-spec =

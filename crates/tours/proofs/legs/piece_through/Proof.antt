@@ -19,7 +19,7 @@ to-small c = let d = c .before .before .before .before in let a = d .before .arg
     zero-small (Ahead (graph-of (now (a .back))) (a .force) (a .p)) (a .starts) (d .with .result) _ (c .zero-or-more2 .result) (c .zero-or-more2 .ensures .1)
 
 zero-or-more-requires-2 : tie.Need-zero-or-more-requires-2
-zero-or-more-requires-2 c κs = omega (arith, on-small (c .before) .1, c .before .zero-or-more .ensures .0 .length-is)
+zero-or-more-requires-2 c κs = (omega (arith, on-small (c .before) .1, c .before .zero-or-more .ensures .0 .length-is), search needs)
 
 add-t16 : tie.Need-add-t16
 add-t16 c = omega (arith, on-small (c .before .before .before) .1, to-small (c .before) .1)

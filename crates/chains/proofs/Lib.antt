@@ -1,0 +1,2 @@
+-- The laws of chains.
+pub mod Linking

@@ -1,0 +1,2 @@
+-- The definitions that the contracts of `chains` cite.
+pub mod Chains

@@ -1,0 +1,2 @@
+-- The definitions that the contracts of `lacks` cite.
+pub mod Lacks
