@@ -1,10 +1,9 @@
 -- A table that is judged: the verdict of its machine (`is-judged`). One that is closed and settled: what its machine prints (`is-printed`), or writes
 -- as an expression (`is-expressed`, `none-expressed`).
-use Prim.Native.Nat.{ℕ, _≤_}
+use Prim.Native.Nat.{ℕ}
 use mathlib.Core.Path.{_≡_, ap, sym, _∙_, subst}
 use mathlib.Core.List.{List}
 use lib.ListN.{length}
-use native.Mathlib.Omega.{arith}
 use Rattle.rows.specs.declared.Row.{Row}
 use Rattle.machine.specs.declared.Answer.{Answer}
 use Rattle.machine.specs.declared.Answer.the-variants.{Decided, Refused}
@@ -21,15 +20,12 @@ use Rattle.machine.proofs.Answers.{tells-as, tells-decided, tells-refused}
 use Rattle.machine.proofs.Outcomes.{deciding, writing}
 use Rattle.machine.proofs.Phases.{empty-refuses}
 use Rattle.machine.proofs.History.{settle-runs}
-use Rattle.machine.proofs.Ending.{rounds-end}
 use Rattle.machine.proofs.Program.{settled-formed}
 use Rattle.search.specs.Graph.{graph-of}
 use Rattle.automaton.specs.declared.Automaton.{Automaton}
-use Rattle.automaton.specs.Promise.{Gives}
 use Rattle.rounds.specs.declared.Progress.{Progress}
 use Rattle.rounds.specs.Promises.{Given, Mirrors, Settles as SettlesRows}
 use Rattle.rising.specs.Promises.{Judges}
-use Rattle.row_table.specs.Arrays.{Filed}
 use Rattle.row_table.specs.Letters.{LettersIn}
 use Rattle.expression.specs.Promise.{ExpressesWalk}
 use Rattle.loader.specs.declared.LoadedGraph.{LoadedGraph}
@@ -57,9 +53,12 @@ module _ (rows : List Row) (t : Table rows) (k : ℕ) (a : Automaton) (given : G
     kept : Mirrors m (d .«loop_rounds») (d .«mix_rounds») (d .phase) (d .rounds)
     kept = s rows given
 
-    -- no more rounds are done than any machine does
-    pub few-done : d .rounds ≤ 129
-    few-done = omega (arith, kept .count-is, rounds-end m (settled-formed rows t) .so-far)
+    -- its rows are those of the masks and of the words still
+    given-then : Given (m .rows) (graph-of (a .graph)) (a .initials) (a .finals) k
+    given-then = subst (λ (l : List Row). Given l (graph-of (a .graph)) (a .initials) (a .finals) k) (sym same-rows) given
+
+    letters-then : (words : List ℕ) (n : ℕ) → LettersIn rows words n → LettersIn (m .rows) words n
+    letters-then words n letters = subst (λ (l : List Row). LettersIn l words n) (sym same-rows) letters
 
     -- the machine that is not in the phase for a call refuses
     pub not-settled : (p : Phase) (number : ℕ) (c : Call) (old : List ℕ) → d .phase ≡ p → ((y : Machine) → call-in p y c ≡ refuse y number) → Tells (call m c .answer) old old (Refused number 0)
@@ -70,16 +69,15 @@ module _ (rows : List Row) (t : Table rows) (k : ℕ) (a : Automaton) (given : G
     pub is-printed : (v : Verdict) → d .phase ≡ Settled v → (words : List ℕ) (n : ℕ) → LettersIn rows words n → (old new : List ℕ) (r : Answer) → PrintsSheet v words n k a d old new r
         → Tells (call m (print (length old)) .answer) old new r
     is-printed v e words n letters old new r h =
-        h m (settled-formed rows t) (sym (kept .phase-is) ∙ e) (subst (λ (l : List Row). LettersIn l words n) (sym same-rows) letters)
-        (subst (λ (l : List Row). Given l (graph-of (a .graph)) (a .initials) (a .finals) k) (sym same-rows) given) kept
+        h m (settled-formed rows t) (sym (kept .phase-is) ∙ e) (letters-then words n letters) given-then kept
 
     -- its expression, where it is settled as non-empty
-    pub is-expressed : (v : Verdict) → d .phase ≡ Settled v → v ≡ NonEmpty → (highs lows : List ℕ) (n : ℕ) (sets : List ℕ) → Filed highs lows sets n k rows → Gives rows sets k a
-        → (old new : List ℕ) (r : Answer) → ExpressesWalk highs lows n k a d old new r → Tells (call m (expression (length old)) .answer) old new r
-    is-expressed v e is highs lows n sets filed gives old new r h =
+    pub is-expressed : (v : Verdict) → d .phase ≡ Settled v → v ≡ NonEmpty → (words : List ℕ) (n : ℕ) → LettersIn rows words n → (old new : List ℕ) (r : Answer) → ExpressesWalk words n k a d old new r
+        → Tells (call m (expression (length old)) .answer) old new r
+    is-expressed v e is words n letters old new r h =
         let phase = sym (kept .phase-is) ∙ e ∙ ap Settled is in
         tells-as (ap (λ (x : Next). x .answer) (sym (writing m (expresses (length old) phase))))
-        (h m sets (settled-formed rows t) phase (subst (λ (l : List Row). Filed highs lows sets n k l) (sym same-rows) filed) (subst (λ (l : List Row). Gives l sets k a) (sym same-rows) gives) kept)
+        (h m (settled-formed rows t) phase (letters-then words n letters) given-then kept)
 
     -- and where it is settled as empty
     pub none-expressed : (v : Verdict) → d .phase ≡ Settled v → v ≡ Empty → (old : List ℕ) → Tells (call m (expression (length old)) .answer) old old (Refused 17 0)

@@ -3,12 +3,12 @@ use Prim.Native.Nat.{ℕ, _<_, _≤_}
 use mathlib.Core.Path.{_≡_, refl, ap, sym, _∙_, subst}
 use mathlib.Core.Bool.{Bool, true, false}
 use mathlib.Core.List.{List, [], _++_}
-use lib.ListN.{length, drop, replicate}
+use lib.ListN.{length, drop}
 use native.Mathlib.Omega.{arith}
 use Rattle.lists.specs.Writing.{Wrote}
 use Rattle.lists.proofs.Deciding.{not-so, ltb·}
 use Rattle.rows.specs.declared.Row.{Row}
-use Rattle.rows.specs.Rows.{standing-sets, Bytes}
+use Rattle.rows.specs.Rows.{Bytes}
 use Rattle.rows.specs.Batch.{Fed, fed, failed, feed}
 use Rattle.machine.specs.declared.Answer.{Answer}
 use Rattle.machine.specs.declared.Answer.the-variants.{Done, Wrote as WroteCount, Decided, Refused}
@@ -23,16 +23,11 @@ use Rattle.machine.proofs.Answers.{done-by, wrote-by, decided-by, refused-by, t
 use Rattle.machine.proofs.Outcomes.{deciding}
 use Rattle.machine.proofs.Phases.{load-feeds}
 use Rattle.machine.proofs.Program.{outcome-size}
-use Rattle.row_table.specs.Arrays.{Filed, Comes}
+use Rattle.row_table.specs.Arrays.{Comes}
 use Rattle.checker.specs.declared.Asked.the-variants.{Verdict as AskedVerdict}
 use Rattle.checker.specs.Promise.{asking, Checks}
 
 -- ---- the answer of the load
-
--- empty arrays hold the empty table
-pub empty-filed : Filed (replicate 256 0) (replicate 256 0) (replicate 64 0) 0 0 []
-unfolding standing-sets
-empty-filed = (record { count = refl; highs-are = refl; lows-are = refl }, record { count = refl; sets-are = refl })
 
 -- what a load comes to, and what the machine then answers
 module _ (then : Machine → Outcome) (l : List ℕ) (a : Answer) (Has : List Row → Type 0) (comes : Comes Has (feed load-row [] l) a) (old : List ℕ) where

@@ -9,13 +9,12 @@ use Rattle.machine.specs.Machine.{longest-sheet, Machine, open-with}
 use Rattle.machine.specs.Calls.{verdict, print, expression, Outcome, call, run, settle, Tells}
 use Rattle.machine.specs.WellFormed.{Table}
 use Rattle.machine.specs.Program.{after-load, outcome, batch-verdict, batch-expression, program}
-use Rattle.row_table.specs.Arrays.{Filed}
 use Rattle.search.specs.Graph.{Indexed}
 use Rattle.loader.specs.declared.LoadedGraph.{LoadedGraph}
 use Rattle.loader.specs.Promise.{HoldsGraph}
 use Rattle.checker.specs.declared.Written.{Written}
 use Rattle.checker.specs.declared.Asked.{Asked}
-use Rattle.checker.specs.declared.Asked.the-variants.{Sheet, Verdict}
+use Rattle.checker.specs.declared.Asked.the-variants.{Sheet, Expression, Verdict}
 
 -- the graph has the parts by state, and the counts fit their arrays
 pub record Ready (graph : List ℕ) (loaded : LoadedGraph) : Type 0 where
@@ -28,9 +27,15 @@ abbrev pub Finishes : List ℕ → List ℕ → LoadedGraph → List ℕ → Lis
 Finishes graph letters loaded old new r = (rows : List Row) → Table rows → HoldsGraph graph letters loaded rows
     → Tells (call (run (open-with rows) settle) (print (length old)) .answer) old new r
 
+-- the same, asked for its expression
+abbrev pub Expresses : List ℕ → List ℕ → LoadedGraph → List ℕ → List ℕ → Answer → Type 0
+Expresses graph letters loaded old new r = (rows : List Row) → Table rows → HoldsGraph graph letters loaded rows
+    → Tells (call (run (open-with rows) settle) (expression (length old)) .answer) old new r
+
 -- what is asked of a machine, with a buffer of that size
 abbrev pub asking : Asked → ℕ → Machine → Outcome
 asking Sheet size = λ m. call (run m settle) (print size) .answer
+asking Expression size = λ m. call (run m settle) (expression size) .answer
 asking Verdict size = λ m. call m verdict .answer
 
 -- the answer and the buffer are those of the open machine with the rows that the masks are of
@@ -41,17 +46,6 @@ GivesAsked asked graph letters loaded old new r = (rows : List Row) → Table ro
 -- the answer and the buffer are those of a fresh machine that loads the batch and is asked
 abbrev pub AnswersAsked : Asked → List ℕ → List ℕ → List ℕ → Answer → Type 0
 AnswersAsked asked batch old new r = Tells (after-load (asking asked (length old)) batch) old new r
-
--- the arrays of keys hold the rows of some table
-pub record Holding (highs lows : List ℕ) (n : ℕ) (sets : List ℕ) (k : ℕ) : Type 0 where
-  pub rows : List Row
-  pub table : Table rows
-  pub filed : Filed highs lows sets n k rows
-
--- the answer and the buffer are those of the machine with the rows that the keys are of, closed, settled and asked for its expression
-abbrev pub Expresses : List ℕ → List ℕ → ℕ → List ℕ → ℕ → List ℕ → List ℕ → Answer → Type 0
-Expresses highs lows n sets k old new r = (rows : List Row) → Table rows → Filed highs lows sets n k rows
-    → Tells (call (run (open-with rows) settle) (expression (length old)) .answer) old new r
 
 -- the answer and the buffer are those of a fresh machine that loads the batch, closes, does rounds until settled and prints
 abbrev pub Checks : List ℕ → List ℕ → List ℕ → Answer → Type 0

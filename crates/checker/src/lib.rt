@@ -4,16 +4,14 @@ use machine::Answer;
 use machine::LONGEST_BATCH;
 use machine::LONGEST_SHEET;
 use machine::MOST_ROWS;
-use machine::MOST_SETS;
 use machine::Phase;
 use machine::Verdict;
 use search::graphs;
 use search::graphs::MASKS;
 use search::graphs::Masks;
-ghost use Prim.Native.Nat.{_≤_};
 ghost use Rattle.lists.specs.Writing.{Wrote};
 ghost use Rattle.machine.specs.Program.{program};
-ghost use Rattle.checker.specs.Promise.{Ready, Finishes, GivesAsked, AnswersAsked, Holding, Expresses};
+ghost use Rattle.checker.specs.Promise.{Ready, Finishes, Expresses, GivesAsked, AnswersAsked};
 ghost use Rattle.checker.specs.Promise.{Checks, GivesVerdict, GivesExpression, Roomy, Told};
 
 // A text at the start of an array that has room for any that the program writes, and its length.
@@ -22,9 +20,10 @@ pub struct Written {
     pub length: usize,
 }
 
-// What is asked of a batch that is loaded into masks: its sheet, or its verdict.
+// What is asked of a batch that is loaded into masks: its sheet, the expression of its walk, or its verdict.
 enum Asked {
     Sheet,
+    Expression,
     Verdict,
 }
 
@@ -62,6 +61,42 @@ fn finish(
     }
 }
 
+// Closes the automaton of a table, settles it and writes its walk as an expression; 17 where the verdict is empty.
+fn express(
+    graph: &Masks,
+    letters: &[u64; MOST_ROWS],
+    loaded: LoadedGraph,
+    buffer: &mut [u8],
+) -> Answer
+    requires { ⌜ Ready (now graph) loaded ⌝ }
+    ensures { λ r. ⌜ Expresses (now (graph .entry)) (now (letters .entry)) loaded
+        (now (buffer .entry)) (now (buffer .exit)) r ⌝ }
+{
+    let mut back = [0u64; MASKS];
+    graphs::turn_indexed(graph, &mut back);
+    let k = loaded.set_count;
+    let done = rounds::settle(graph, &back, loaded.initials, loaded.finals, k);
+    let phase = done.phase;
+    match phase {
+        Phase::Open => Answer::Refused(9, 0),
+        Phase::Running => Answer::Refused(11, 0),
+        Phase::Settled(v) => match v {
+            Verdict::Empty => Answer::Refused(17, 0),
+            Verdict::NonEmpty => expression::express(
+                buffer,
+                letters,
+                loaded.letter_count,
+                k,
+                graph,
+                &back,
+                loaded.initials,
+                loaded.finals,
+                done,
+            ),
+        },
+    }
+}
+
 // What is asked of the table that the masks are of.
 fn give(
     asked: Asked,
@@ -76,6 +111,7 @@ fn give(
 {
     match asked {
         Asked::Sheet => finish(graph, letters, loaded, buffer),
+        Asked::Expression => express(graph, letters, loaded, buffer),
         Asked::Verdict => {
             let v = rising::verdict(graph, loaded.initials, loaded.finals, loaded.set_count);
             Answer::Decided(v)
@@ -83,7 +119,7 @@ fn give(
     }
 }
 
-// Loads one batch into masks, and gives what is asked of it; or the refusal, and the buffer as it was. Both calls load here: a load that
+// Loads one batch into masks, and gives what is asked of it; or the refusal, and the buffer as it was. All calls load here: a load that
 // each of them called took longer on long batches.
 fn answer(asked: Asked, batch: &[u8], buffer: &mut [u8]) -> Answer
     ensures { λ r. ⌜ AnswersAsked asked (now (batch .entry)) (now (buffer .entry)) (now (buffer .exit)) r ⌝ }
@@ -113,59 +149,11 @@ pub fn verdict(batch: &[u8]) -> Answer
     answer(Asked::Verdict, batch, &mut none)
 }
 
-// Closes the table that the arrays of keys hold, settles it and writes its walk as an expression; 17 where the verdict is empty.
-fn express(
-    high: &[u64; MOST_ROWS],
-    low: &[u64; MOST_ROWS],
-    row_count: usize,
-    sets: &[u64; MOST_SETS],
-    set_count: usize,
-    buffer: &mut [u8],
-) -> Answer
-    requires { ⌜ («row_count» ≤ 256) × («set_count» ≤ 64)
-        × Holding (now high) (now low) «row_count» (now sets) «set_count» ⌝ }
-    ensures { λ r. ⌜ Expresses (now (high .entry)) (now (low .entry)) «row_count» (now (sets .entry)) «set_count»
-        (now (buffer .entry)) (now (buffer .exit)) r ⌝ }
-{
-    let mut graph = [0u64; MASKS];
-    let points = automaton::fill(&mut graph, high, low, row_count, sets, set_count);
-    let mut back = [0u64; MASKS];
-    graphs::turn_indexed(&graph, &mut back);
-    let done = rounds::settle(&graph, &back, points.initials, points.finals, set_count);
-    let phase = done.phase;
-    match phase {
-        Phase::Open => Answer::Refused(9, 0),
-        Phase::Running => Answer::Refused(11, 0),
-        Phase::Settled(v) => match v {
-            Verdict::Empty => Answer::Refused(17, 0),
-            Verdict::NonEmpty => expression::express(
-                buffer,
-                high,
-                low,
-                row_count,
-                set_count,
-                &graph,
-                points.initials,
-                points.finals,
-                done,
-            ),
-        },
-    }
-}
-
 // Loads one batch, closes it, settles it and writes its walk as an expression; or the refusal, and the buffer as it was.
 pub fn expression(batch: &[u8], text: &mut [u8]) -> Answer
     ensures { λ r. ⌜ GivesExpression (now (batch .entry)) (now (text .entry)) (now (text .exit)) r ⌝ }
 {
-    let mut high = [0u64; MOST_ROWS];
-    let mut low = [0u64; MOST_ROWS];
-    let mut sets = [0u64; MOST_SETS];
-    let loaded = row_table::load_rows(&mut high, &mut low, &mut sets, 0, 0, batch);
-    let told = loaded.answer;
-    match told {
-        Answer::Done => express(&high, &low, loaded.rows, &sets, loaded.sets, text),
-        Answer::Wrote(_) | Answer::Decided(_) | Answer::Refused(_, _) => told,
-    }
+    answer(Asked::Expression, batch, text)
 }
 
 // What the program `sheet` writes for its input, into a buffer that has room for it: the sheet, the line of the refusal, or `too long`.

@@ -50,7 +50,7 @@ frames-by {m} {g} {k} {r} shape P e f framed rounded = record {
   rounded = rounded ∙ (ap (round-for m shape) (sym f) ∙ ap (λ (s : Shape). round-for m s (r .set)) (sym e));
 }
 
-module _ {m : Machine} {g : Graph} {highs lows : List ℕ} {n : ℕ} {back : Graph} {k : ℕ} (held : Held m g highs lows n back k)
+module _ {m : Machine} {g : Graph} {words heads links : List ℕ} {n : ℕ} {back : Graph} {k : ℕ} (held : Held m g words heads links n back k)
     {opened : List ℕ} (noted : Noted m opened) where
   abbrev set : ℕ → ℕ
   set i = getD (g .sets) i 0
@@ -221,16 +221,16 @@ module _ {m : Machine} {g : Graph} {highs lows : List ℕ} {n : ℕ} {back : Gra
 
 module _ (b : Graph) (k : ℕ) (opened : List ℕ) (a P to i : ℕ) (r : Frame) (f : FindsSet (b .sets) k P i) where
   pub omega-frame : SetFrame b k opened (Tour a) i (getD opened i 0) r → ClaimFrame b k opened a 1 P to r
-  omega-frame s m g highs lows n held noted goes = tour-claim held noted a P i r (goes .0 .0 .1) (goes .1) f s
+  omega-frame s m g words heads links n held noted goes = tour-claim held noted a P i r (goes .0 .0 .1) (goes .1) f s
 
   pub back-frame : SetFrame b k opened (Tour to) i (getD opened i 0) r → ClaimFrame b k opened a 2 P to r
-  back-frame s m g highs lows n held noted goes = tour-claim held noted to P i r (goes .0 .0 .1) (goes .1) f s
+  back-frame s m g words heads links n held noted goes = tour-claim held noted to P i r (goes .0 .0 .1) (goes .1) f s
 
   pub mix-frame : (kind : ℕ) → 2 < kind → SetFrame b k opened Pieces i (getD opened (64 + i) 0) r → ClaimFrame b k opened a kind P to r
   mix-frame zero h s = absurd (omega arith)
   mix-frame (suc zero) h s = absurd (omega arith)
   mix-frame (suc (suc zero)) h s = absurd (omega arith)
-  mix-frame (suc (suc (suc j))) h s = λ m g highs lows n held noted goes. pieces-claim held noted P i r (goes .1) f s
+  mix-frame (suc (suc (suc j))) h s = λ m g words heads links n held noted goes. pieces-claim held noted P i r (goes .1) f s
 
 module _ (b : Graph) (k : ℕ) (opened : List ℕ) (a kind value to : ℕ) (r : Frame) where
   pub letter-step : kind ≡ 0 → r .round ≡ 0 → StepFrame b k opened a (Taken kind value to) r
@@ -247,21 +247,21 @@ module _ (b : Graph) (k : ℕ) (opened : List ℕ) (a kind value to : ℕ) (r : 
 
 module _ (b : Graph) (k : ℕ) (opened : List ℕ) (slot : ℕ) (r : Frame) where
   pub tour-place : (q : ℕ) → slot < 64 → q ∈ getD (b .sets) slot 0 → SetFrame b k opened (Tour q) slot (getD opened slot 0) r → PlaceFrame b k opened slot r
-  tour-place q h j s m g highs lows n held noted o = let l = loop-below held noted slot h o in (
+  tour-place q h j s m g words heads links n held noted o = let l = loop-below held noted slot h o in (
     tour-frames held noted slot q r l (subst (λ (Q : ℕ). q ∈ Q) (held .turned .sets-are slot) j) (open-iff held noted _ .0 (omega (arith, o, loop-round held noted slot l))) s,
     inl (q, h, s .shape-is, s .set-is ∙ held .turned .sets-are slot),
   )
 
   -- no set is 0
   pub none-place : slot < 64 → getD (b .sets) slot 0 ≡ 0 → PlaceFrame b k opened slot r
-  none-place h e m g highs lows n held noted o =
+  none-place h e m g words heads links n held noted o =
       let l = loop-below held noted slot h o in
       let c = loops (getD (g .sets) slot 0) in
       let open-here : c among open-claims m = open-iff held noted c .0 (omega (arith, o, loop-round held noted slot l)) in
       absurd (omega (arith, e, held .turned .sets-are slot, set-fits (m .rows) (held .formed .table .fit) (set-of c) (open-holds (m .rows) (m .openings) (grounded m (held .formed)) c open-here .0) .0))
 
   pub pieces-place : 64 ≤ slot → slot < 128 → SetFrame b k opened Pieces (slot - 64) (getD opened slot 0) r → PlaceFrame b k opened slot r
-  pieces-place h h′ s m g highs lows n held noted o =
+  pieces-place h h′ s m g words heads links n held noted o =
       let e : slot ≡ 64 + (slot - 64) = omega arith in
       let o′ = subst (λ (x : ℕ). 0 < getD opened x 0) e o in
       let l = mix-below held noted (slot - 64) (omega arith) o′ in (

@@ -23,7 +23,7 @@ use Rattle.expression.proofs.Texts.{step-spelled}
 
 -- ---- the text of a claim
 
-module _ {m : Machine} {g : Graph} {highs lows : List ℕ} {n : ℕ} {b : Graph} {k : ℕ} (held : Held m g highs lows n b k) {opened : List ℕ} (noted : Noted m opened)
+module _ {m : Machine} {g : Graph} {words heads links : List ℕ} {n : ℕ} {b : Graph} {k : ℕ} (held : Held m g words heads links n b k) {opened : List ℕ} (noted : Noted m opened)
     {round most : ℕ} {bytes : List ℕ} (known : Known m g k opened round most bytes) (P i : ℕ) (f : FindsSet (b .sets) k P i) where
   -- of a tour, from a state of the set
   tour-known : (q : ℕ) → q ∈ P → loops P among open-claims m → round-of (m .openings) (loops P) < round → Counted most (length (shape-text m (Tour q) P)) (getD bytes i 0)
@@ -57,10 +57,10 @@ module _ (b : Graph) (k : ℕ) (bytes : List ℕ) (most P to i : ℕ) (f : Finds
   pub tour-adds : (kind : ℕ) → 0 < kind → kind < 3 → ((x : ℕ) → Measured most x old → Measured most (x + 3) mid)
       → ((x y : ℕ) → Measured most x mid → Counted most y (getD bytes i 0) → Measured most (x + y) new) → AddsStep b k bytes most (Taken kind P to) old new
   tour-adds zero h l first then = absurd (omega arith)
-  tour-adds (suc zero) h l first then = λ m g highs lows opened n round a held noted known goes earlier.
+  tour-adds (suc zero) h l first then = λ m g words heads links opened n round a held noted known goes earlier.
       adds _ (text "(") (shape-text m (Tour a) P) (text ")w") 3 (step-spelled m (held .formed) a 0 P to goes) refl first
       (λ x d. then x _ d (tour-known held noted known P i f a (goes .0 .0 .1) (goes .1) earlier))
-  tour-adds (suc (suc zero)) h l first then = λ m g highs lows opened n round a held noted known goes earlier.
+  tour-adds (suc (suc zero)) h l first then = λ m g words heads links opened n round a held noted known goes earlier.
       adds _ (text "(") (shape-text m (Tour to) P) (text ")v") 3 (step-spelled m (held .formed) a 1 P to goes) refl first
       (λ x d. then x _ d (tour-known held noted known P i f to (goes .0 .0 .1) (goes .1) earlier))
   tour-adds (suc (suc (suc j))) h l first then = absurd (omega arith)
@@ -70,7 +70,7 @@ module _ (b : Graph) (k : ℕ) (bytes : List ℕ) (most P to i : ℕ) (f : Finds
   mix-adds zero h first then = absurd (omega arith)
   mix-adds (suc zero) h first then = absurd (omega arith)
   mix-adds (suc (suc zero)) h first then = absurd (omega arith)
-  mix-adds (suc (suc (suc j))) h first then = λ m g highs lows opened n round a held noted known goes earlier.
+  mix-adds (suc (suc (suc j))) h first then = λ m g words heads links opened n round a held noted known goes earlier.
       adds _ (text "sh(") (shape-text m Pieces P) (text ")") 4 (step-spelled m (held .formed) a (suc (suc j)) P to goes) refl first
       (λ x d. then x _ d (pieces-known held noted known P i f (goes .1) earlier))
 

@@ -46,17 +46,17 @@ pub record KnownBelow (m : Machine) (g : Graph) (k : ℕ) (opened : List ℕ) (r
 at-or-below : {i slot : ℕ} → i < slot + 1 → (i ≡ slot) ⊎ (i < slot)
 at-or-below {i} {slot} h = let l : i ≤ slot = omega arith in eq-or-lt-of-le l
 
-module _ (highs lows : List ℕ) (n : ℕ) (b : Graph) (k : ℕ) (opened : List ℕ) (round most : ℕ) where
+module _ (words heads links : List ℕ) (b : Graph) (k : ℕ) (opened : List ℕ) (round most : ℕ) where
   -- of every machine that the arrays hold, where those opened before the round were known
   abbrev pub NotesBelow : List ℕ → ℕ → List ℕ → Type 0
-  NotesBelow old slot new = (m : Machine) (g : Graph) → Held m g highs lows n b k → Noted m opened → Known m g k opened round most old → KnownBelow m g k opened round most slot new
+  NotesBelow old slot new = (m : Machine) (g : Graph) (n : ℕ) → Held m g words heads links n b k → Noted m opened → Known m g k opened round most old → KnownBelow m g k opened round most slot new
 
   pub note-start : (old : List ℕ) → NotesBelow old 0 old
-  note-start old m g held noted known = record { old = known; tours = λ i q h l. absurd (omega (arith, l)); pieces = λ i h l. absurd (omega (arith, l)) }
+  note-start old m g n held noted known = record { old = known; tours = λ i q h l. absurd (omega (arith, l)); pieces = λ i h l. absurd (omega (arith, l)) }
 
   -- nothing opened in this round at the slot
   pub note-past : (old : List ℕ) (slot : ℕ) (new : List ℕ) → NotesBelow old slot new → ¬ (getD opened slot 0 ≡ round) → NotesBelow old (slot + 1) new
-  note-past old slot new notes other m g held noted known = let s = notes m g held noted known in record {
+  note-past old slot new notes other m g n held noted known = let s = notes m g n held noted known in record {
     old = s .old;
     tours = λ i q h l e. ⊎-elim (λ c. absurd (other (ap (λ j. getD opened j 0) (sym c) ∙ e))) (λ c. s .tours i q h c e) (at-or-below l);
     pieces = λ i h l e. ⊎-elim (λ c. absurd (other (ap (λ j. getD opened j 0) (sym c) ∙ e))) (λ c. s .pieces i h c e) (at-or-below l);
@@ -64,17 +64,17 @@ module _ (highs lows : List ℕ) (n : ℕ) (b : Graph) (k : ℕ) (opened : List 
 
   -- the length of the text of the claim at the slot
   module _ (old : List ℕ) (slot : ℕ) (bytes : List ℕ) (f : Frame) (r : Length) (v : ℕ) (notes : NotesBelow old slot bytes) (size : length bytes ≡ 128) (low : slot < 128) (first : 0 < round)
-      (here : getD opened slot 0 ≡ round) (place : PlaceFrame b k opened slot f) (measures : MeasuresFrame highs lows n b k bytes f most r)
+      (here : getD opened slot 0 ≡ round) (place : PlaceFrame b k opened slot f) (measures : MeasuresFrame words heads links b k bytes f most r)
       (counts : (most x : ℕ) → 0 < x → Measured most x r → Counted most x v) where
     abbrev new : List ℕ
     new = set bytes slot v
 
-    module _ (m : Machine) (g : Graph) (held : Held m g highs lows n b k) (noted : Noted m opened) (known : Known m g k opened round most old) where
+    module _ (m : Machine) (g : Graph) (n : ℕ) (held : Held m g words heads links n b k) (noted : Noted m opened) (known : Known m g k opened round most old) where
       abbrev s : KnownBelow m g k opened round most slot bytes
-      s = notes m g held noted known
+      s = notes m g n held noted known
 
       abbrev placed : Frames m g k f × AtPlace g slot f
-      placed = place m g highs lows n held noted (omega (arith, here, first))
+      placed = place m g words heads links n held noted (omega (arith, here, first))
 
       abbrev some : 0 < getD opened slot 0
       some = omega (arith, here, first)
@@ -95,7 +95,7 @@ module _ (highs lows : List ℕ) (n : ℕ) (b : Graph) (k : ℕ) (opened : List 
       counted : (shape : Shape) (P : ℕ) → f .shape ≡ shape → f .set ≡ P → Counted most (length (shape-text m shape P)) v
       counted shape P e c = subst (λ (x : Shape). Counted most (length (shape-text m x P)) v) e (subst (λ Q. Counted most (length (shape-text m (f .shape) Q)) v) c
           (counts most _ (text-some m (held .formed) (f .shape) (f .set) (f .starts) (f .ends) (placed .0 .framed .about))
-          (measures m g opened held noted (placed .0) (subst (λ j. Known m g k opened j most bytes) (sym rounded) (s .old)))))
+          (measures m g opened n held noted (placed .0) (subst (λ j. Known m g k opened j most bytes) (sym rounded) (s .old)))))
 
       now-there : getD new slot 0 ≡ v
       now-there = getD-set-same bytes slot v 0 (omega (arith, size, low))
@@ -142,8 +142,8 @@ module _ (highs lows : List ℕ) (n : ℕ) (b : Graph) (k : ℕ) (opened : List 
     pub note-more : NotesBelow old (slot + 1) new
     note-more = noted-more
 
-  pub note-end : (old : List ℕ) (slot : ℕ) (new : List ℕ) → NotesBelow old slot new → 128 ≤ slot → NotesRound highs lows n b k opened round most old new
-  note-end old slot new notes past m g held noted known = let s = notes m g held noted known in record {
+  pub note-end : (old : List ℕ) (slot : ℕ) (new : List ℕ) → NotesBelow old slot new → 128 ≤ slot → NotesRound words heads links b k opened round most old new
+  note-end old slot new notes past m g n held noted known = let s = notes m g n held noted known in record {
     tours = λ i q h o l j. ⊎-elim (λ e. s .tours i q h (omega (arith, h, held .masked .few)) e j) (λ c. s .old .tours i q h o c j) (at-or-below l);
     pieces = λ i h o l. ⊎-elim (λ e. s .pieces i h (omega (arith, h, held .masked .few)) e) (λ c. s .old .pieces i h o c) (at-or-below l);
   }
@@ -155,7 +155,7 @@ pub known-none : (m : Machine) (g : Graph) (k : ℕ) (opened : List ℕ) (most :
 known-none m g k opened most bytes = record { tours = λ i q h o l. absurd (omega (arith, o, l)); pieces = λ i h o l. absurd (omega (arith, o, l)) }
 
 -- and after the last one all is known
-pub known-all : {m : Machine} {g : Graph} {highs lows : List ℕ} {n : ℕ} {b : Graph} {k : ℕ} → Held m g highs lows n b k → {opened : List ℕ} → Noted m opened
+pub known-all : {m : Machine} {g : Graph} {words heads links : List ℕ} {n : ℕ} {b : Graph} {k : ℕ} → Held m g words heads links n b k → {opened : List ℕ} → Noted m opened
     → (most : ℕ) (bytes : List ℕ) → Known m g k opened (m .rounds + 1) most bytes → Known m g k opened 130 most bytes
 known-all {g} held noted most bytes known = record {
   tours = λ i q h o l. known .tours i q h o (omega (arith, loop-round held noted i h, round-done held noted (loops (getD (g .sets) i 0))));

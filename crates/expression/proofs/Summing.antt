@@ -38,7 +38,7 @@ in-force-of : {In : Claim → Type 0} (o : Option Claim) → ((c : Claim) → o 
 in-force-of none h = tt
 in-force-of (some c) h = h c refl
 
-module _ {m : Machine} {g : Graph} {highs lows : List ℕ} {n : ℕ} {b : Graph} {k : ℕ} (held : Held m g highs lows n b k) where
+module _ {m : Machine} {g : Graph} {words heads links : List ℕ} {n : ℕ} {b : Graph} {k : ℕ} (held : Held m g words heads links n b k) where
   goes-before : {f : Frame} → Frames m g k f → (p : Part) → p among parts m f → (o : Option Step) → p .step ≡ o → GoesBefore m (f .round) o
   goes-before fr p i none e = tt
   goes-before {f} fr p i (some t) e = (
@@ -56,37 +56,37 @@ module _ {m : Machine} {g : Graph} {highs lows : List ℕ} {n : ℕ} {b : Graph}
       subst (λ l. Adds most l old new) (sym (ap (writer m) h ∙ letter-spelled m a value to)) d
   step-adds {opened} noted {round} {most} known a (some t) (Taken (suc kind) P to) old new h go d =
       let go′ = subst (λ s. GoesBefore m round (some s)) h go in
-      subst (λ s. Adds most (writer m s) old new) (sym h) (d m g highs lows opened n round a held noted known (go′ .0) (go′ .1))
+      subst (λ s. Adds most (writer m s) old new) (sym h) (d m g words heads links opened n round a held noted known (go′ .0) (go′ .1))
 
 -- ---- the loop
 
 -- the parts before the cursor are measured
-pub record Summed (m : Machine) (highs lows : List ℕ) (n : ℕ) (b : Graph) (f : Frame) (most : ℕ) (layers : List ℕ) (c : Cursor) (r : Length) : Type 0 where
+pub record Summed (m : Machine) (words : List ℕ) (n : ℕ) (b : Graph) (f : Frame) (most : ℕ) (layers : List ℕ) (c : Cursor) (r : Length) : Type 0 where
   pub done : List Part
   pub rest : List Part
   pub all : parts m f ≡ done ++ rest
-  pub stands : Stands m highs lows n b f layers c rest
+  pub stands : Stands m words n b f layers c rest
   pub measured : Measured most (length (gather (part-text (writer m)) done)) r
 
-module _ (highs lows : List ℕ) (n : ℕ) (b : Graph) (k : ℕ) (bytes : List ℕ) (f : Frame) (most : ℕ) where
+module _ (words heads links : List ℕ) (b : Graph) (k : ℕ) (bytes : List ℕ) (f : Frame) (most : ℕ) where
   -- of every machine that the arrays hold, where the texts of the claims opened before the frame's round are known
   abbrev pub Sums : List ℕ → Cursor → Length → Type 0
-  Sums layers c r = (m : Machine) (g : Graph) (opened : List ℕ) → Held m g highs lows n b k → Noted m opened → Frames m g k f → Known m g k opened (f .round) most bytes
-      → Summed m highs lows n b f most layers c r
+  Sums layers c r = (m : Machine) (g : Graph) (opened : List ℕ) (n : ℕ) → Held m g words heads links n b k → Noted m opened → Frames m g k f → Known m g k opened (f .round) most bytes
+      → Summed m words n b f most layers c r
 
   pub sum-start : (layers : List ℕ) (c : Cursor) → Begins b f layers c → Sums layers c (Fits 0)
-  sum-start layers c begins m g opened held noted fr known =
-      record { done = []; rest = parts m f; all = refl; stands = begins m g highs lows n k held (fr .framed); measured = (refl, omega arith) }
+  sum-start layers c begins m g opened n held noted fr known =
+      record { done = []; rest = parts m f; all = refl; stands = begins m g words heads links n k held (fr .framed); measured = (refl, omega arith) }
 
   pub sum-more : (layers : List ℕ) (c : Cursor) (old mid new : Length) (choice : Choice) (to : ℕ) (layers′ : List ℕ) (c′ : Cursor) → c .live ≡ true → Sums layers c old
-      → ShowsPart highs lows n b f layers c choice → Adds most (before-text (c .before)) old mid → AddsStep b k bytes most choice mid new
+      → ShowsPart words heads links b f layers c choice → Adds most (before-text (c .before)) old mid → AddsStep b k bytes most choice mid new
       → LeadsOn (c .state) choice to → Advances b f layers c to layers′ c′ → Sums layers′ c′ new
-  sum-more layers c old mid new choice to layers′ c′ live sums shows before step leads advances m g opened held noted fr known =
-      let s = sums m g opened held noted fr known in
-      let x = live-part m highs lows n b f layers c (s .rest) (s .stands) live in
+  sum-more layers c old mid new choice to layers′ c′ live sums shows before step leads advances m g opened n held noted fr known =
+      let s = sums m g opened n held noted fr known in
+      let x = live-part m words n b f layers c (s .rest) (s .stands) live in
       let p = x .0 in let l = x .1 in
-      let here = subst (Stands m highs lows n b f layers c) (x .2) (s .stands) in
-      let shown = shows m g k held (fr .framed) p l live here in
+      let here = subst (Stands m words n b f layers c) (x .2) (s .stands) in
+      let shown = shows m g n k held (fr .framed) p l live here in
       let all : parts m f ≡ s .done ++ (p ∷ l) = s .all ∙ ap (λ (t : List Part). s .done ++ t) (x .2) in
       let i : p among parts m f = subst (λ (t : List Part). p among t) (sym all) (Memᴰ·append-right (s .done) (List·Memᴰ·head refl)) in
       let W = writer m in
@@ -103,13 +103,13 @@ module _ (highs lows : List ℕ) (n : ℕ) (b : Graph) (k : ℕ) (bytes : List �
         done = s .done ++ (p ∷ []);
         rest = l;
         all = all ∙ sym (append-assoc (s .done) (p ∷ []) l);
-        stands = advances m g highs lows n k held (fr .framed) p l here (leads (p .step) (shown .1));
+        stands = advances m g words heads links n k held (fr .framed) p l here (leads (p .step) (shown .1));
         measured = subst (λ (j : ℕ). Measured most j new) e
             (step-adds held noted known (c .state) (p .step) choice mid new (shown .1) (goes-before held fr p i (p .step) refl) step (size + length (before-text (c .before))) (before size (s .measured)));
       }
 
-  pub sum-end : (layers : List ℕ) (c : Cursor) (r : Length) → c .live ≡ false → Sums layers c r → MeasuresFrame highs lows n b k bytes f most r
-  sum-end layers c r ended sums m g opened held noted fr known =
-      let s = sums m g opened held noted fr known in
+  pub sum-end : (layers : List ℕ) (c : Cursor) (r : Length) → c .live ≡ false → Sums layers c r → MeasuresFrame words heads links b k bytes f most r
+  sum-end layers c r ended sums m g opened n held noted fr known =
+      let s = sums m g opened n held noted fr known in
       let e : s .done ≡ parts m f = sym (s .all ∙ ap (λ (t : List Part). s .done ++ t) (s .stands .ended ended) ∙ append-nil (s .done)) in
       subst (λ (t : List Part). Measured most (length (gather (part-text (writer m)) t)) r) e (s .measured)

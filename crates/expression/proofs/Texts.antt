@@ -254,9 +254,9 @@ module _ (m : Machine) (w : WellFormed m) where
 
 -- ---- where a cursor stands
 
-pub live-part : (m : Machine) (highs lows : List ℕ) (n : ℕ) (g : Graph) (f : Frame) (layers : List ℕ) (c : Cursor) (l : List Part)
-    → Stands m highs lows n g f layers c l → c .live ≡ true → (p : Part) × (k : List Part) × (l ≡ p ∷ k)
-live-part m highs lows n g f layers c l s e = let r = s .live e in by (r .0) (r .2)
+pub live-part : (m : Machine) (words : List ℕ) (n : ℕ) (g : Graph) (f : Frame) (layers : List ℕ) (c : Cursor) (l : List Part)
+    → Stands m words n g f layers c l → c .live ≡ true → (p : Part) × (k : List Part) × (l ≡ p ∷ k)
+live-part m words n g f layers c l s e = let r = s .live e in by (r .0) (r .2)
   where
     later : List Part
     later = parts-of (separator (f .shape)) (separator (f .shape)) (legs-left m (f .shape) (f .set) c)

@@ -69,7 +69,7 @@ FindsSet sets n P r = Rising sets n → (i : ℕ) → i < n → getD sets i 0 �
 
 -- of every machine that the arrays hold
 abbrev pub OfHeld : Graph → ℕ → List ℕ → (Machine → Graph → Type 0) → Type 0
-OfHeld b k opened T = (m : Machine) (g : Graph) (highs lows : List ℕ) (n : ℕ) → Held m g highs lows n b k → Noted m opened → T m g
+OfHeld b k opened T = (m : Machine) (g : Graph) (words heads links : List ℕ) (n : ℕ) → Held m g words heads links n b k → Noted m opened → T m g
 
 -- of the walk
 abbrev pub WalkFrame : ℕ → List ℕ → ℕ → ℕ → Frame → Type 0

@@ -47,22 +47,22 @@ Adds most text old new = (x : ℕ) → Measured most x old → Measured most (x 
 abbrev pub AddsStep : Graph → ℕ → List ℕ → ℕ → Choice → Length → Length → Type 0
 AddsStep b k bytes most Nothing old new = Adds most (text "e") old new
 AddsStep b k bytes most (Taken zero x to) old new = Adds most (number-text x) old new
-AddsStep b k bytes most (Taken (suc kind) P to) old new = (m : Machine) (g : Graph) (highs lows opened : List ℕ) (n round a : ℕ)
-    → Held m g highs lows n b k → Noted m opened → Known m g k opened round most bytes
+AddsStep b k bytes most (Taken (suc kind) P to) old new = (m : Machine) (g : Graph) (words heads links opened : List ℕ) (n round a : ℕ)
+    → Held m g words heads links n b k → Noted m opened → Known m g k opened round most bytes
     → Goes m a (named (suc kind) P) to → InForce (λ c. round-of (m .openings) c < round) (needs (named (suc kind) P))
     → Adds most (part (m .rows) (m .openings) (m .rounds) (step a (named (suc kind) P) to)) old new
 
 -- the text of a frame, where those of the claims opened before its round are known
-abbrev pub MeasuresFrame : List ℕ → List ℕ → ℕ → Graph → ℕ → List ℕ → Frame → ℕ → Length → Type 0
-MeasuresFrame highs lows n back k bytes f most r = (m : Machine) (g : Graph) (opened : List ℕ) → Held m g highs lows n back k → Noted m opened → Frames m g k f
+abbrev pub MeasuresFrame : List ℕ → List ℕ → List ℕ → Graph → ℕ → List ℕ → Frame → ℕ → Length → Type 0
+MeasuresFrame words heads links back k bytes f most r = (m : Machine) (g : Graph) (opened : List ℕ) (n : ℕ) → Held m g words heads links n back k → Noted m opened → Frames m g k f
     → Known m g k opened (f .round) most bytes → Measured most (length (shape-text m (f .shape) (f .set))) r
 
 -- the texts of the claims opened in a round too
-abbrev pub NotesRound : List ℕ → List ℕ → ℕ → Graph → ℕ → List ℕ → ℕ → ℕ → List ℕ → List ℕ → Type 0
-NotesRound highs lows n back k opened round most old new = (m : Machine) (g : Graph) → Held m g highs lows n back k → Noted m opened
+abbrev pub NotesRound : List ℕ → List ℕ → List ℕ → Graph → ℕ → List ℕ → ℕ → ℕ → List ℕ → List ℕ → Type 0
+NotesRound words heads links back k opened round most old new = (m : Machine) (g : Graph) (n : ℕ) → Held m g words heads links n back k → Noted m opened
     → Known m g k opened round most old → Known m g k opened (round + 1) most new
 
 -- the texts of all claims
-abbrev pub NotesAll : List ℕ → List ℕ → ℕ → Graph → ℕ → List ℕ → ℕ → ℕ → List ℕ → Type 0
-NotesAll highs lows n back k opened rounds most bytes = (m : Machine) (g : Graph) → Held m g highs lows n back k → Noted m opened
+abbrev pub NotesAll : List ℕ → List ℕ → List ℕ → Graph → ℕ → List ℕ → ℕ → ℕ → List ℕ → Type 0
+NotesAll words heads links back k opened rounds most bytes = (m : Machine) (g : Graph) (n : ℕ) → Held m g words heads links n back k → Noted m opened
     → rounds ≡ m .rounds → Known m g k opened 130 most bytes

@@ -5,6 +5,7 @@ use crate::frames::Opened;
 use crate::frames::place_of;
 use machine::MOST_ROWS;
 use masks::PLACES;
+use masks::STATES;
 use search::graphs::Masks;
 use texts::number_len;
 use tours::Frame;
@@ -14,6 +15,7 @@ ghost use mathlib.Core.Path.{_≡_};
 ghost use Prim.Native.Nat.{ℕ, _+_, _≤_, _<_};
 ghost use lib.ListN.{length};
 ghost use Rattle.search.specs.Graph.{graph-of, Indexed};
+ghost use Rattle.walks.specs.Choices.{Chained};
 ghost use Rattle.tours.specs.Frames.{LowShape};
 ghost use Rattle.tours.specs.Cursors.{LowChoice};
 ghost use Rattle.expression.specs.Frames.{LeadsOn};
@@ -118,24 +120,25 @@ pub fn target(step: Choice, a: u8) -> u8
 
 // How long the text of a frame is, where those of the claims opened before its round are known.
 pub fn of_frame(
-    high: &[u64; MOST_ROWS],
-    low: &[u64; MOST_ROWS],
-    row_count: usize,
+    words: &[u64; MOST_ROWS],
+    first: &[u16; STATES],
+    next: &[u16; MOST_ROWS],
     back: &Masks,
     set_count: usize,
     bytes: &Bytes,
     frame: Frame,
     most: usize,
 ) -> Length
-    requires { ⌜ («row_count» ≤ 256) × («set_count» ≤ 64) × LowShape (frame .shape) × Indexed (now back) ⌝ }
-    ensures { λ r. ⌜ MeasuresFrame (now (high .entry)) (now (low .entry)) «row_count» (graph-of (now (back .entry)))
-        «set_count» (now (bytes .entry)) frame most r ⌝ }
+    requires { ⌜ Chained (now first) (now next) (now words) × («set_count» ≤ 64) × LowShape (frame .shape)
+        × Indexed (now back) ⌝ }
+    ensures { λ r. ⌜ MeasuresFrame (now (words .entry)) (now (first .entry)) (now (next .entry))
+        (graph-of (now (back .entry))) «set_count» (now (bytes .entry)) frame most r ⌝ }
 {
     let mut layers = [0u64; LAYERS];
     let mut cursor = tours::begin(back, frame, &mut layers);
     let mut length = Length::Fits(0);
     while cursor.live {
-        let step = tours::step_at(high, low, row_count, back, frame, cursor, &layers);
+        let step = tours::step_at(words, first, next, back, frame, cursor, &layers);
         length = plus_before(length, cursor.before, most);
         length = plus_step(length, back, set_count, bytes, step, most);
         let to = target(step, cursor.state);
@@ -147,26 +150,26 @@ pub fn of_frame(
 // Notes the lengths of the claims that opened in the round.
 fn note_round(
     bytes: &mut Bytes,
-    high: &[u64; MOST_ROWS],
-    low: &[u64; MOST_ROWS],
-    row_count: usize,
+    words: &[u64; MOST_ROWS],
+    first: &[u16; STATES],
+    next: &[u16; MOST_ROWS],
     back: &Masks,
     opened: &Opened,
     set_count: usize,
     round: u8,
     most: usize,
 )
-    requires { ⌜ («row_count» ≤ 256) × («set_count» ≤ 64) × (0 < round) × (length (now bytes) ≡ 128)
+    requires { ⌜ Chained (now first) (now next) (now words) × («set_count» ≤ 64) × (0 < round) × (length (now bytes) ≡ 128)
         × Indexed (now back) ⌝ }
     ensures sized { λ _. ⌜ length (now (bytes .exit)) ≡ 128 ⌝ }
-    ensures notes { λ _. ⌜ NotesRound (now (high .entry)) (now (low .entry)) «row_count» (graph-of (now (back .entry)))
-        «set_count» (now (opened .entry)) round most (now (bytes .entry)) (now (bytes .exit)) ⌝ }
+    ensures notes { λ _. ⌜ NotesRound (now (words .entry)) (now (first .entry)) (now (next .entry))
+        (graph-of (now (back .entry))) «set_count» (now (opened .entry)) round most (now (bytes .entry)) (now (bytes .exit)) ⌝ }
 {
     let mut slot = 0;
     while slot < CLAIMS {
         if opened[slot] == round {
             let frame = frames::of_place(back, opened, set_count, slot);
-            let length = of_frame(high, low, row_count, back, set_count, bytes, frame, most);
+            let length = of_frame(words, first, next, back, set_count, bytes, frame, most);
             bytes[slot] = counted(length);
         }
         slot += 1;
@@ -176,28 +179,28 @@ fn note_round(
 // Notes the lengths of all claims that are open, round by round.
 pub fn note_all(
     bytes: &mut Bytes,
-    high: &[u64; MOST_ROWS],
-    low: &[u64; MOST_ROWS],
-    row_count: usize,
+    words: &[u64; MOST_ROWS],
+    first: &[u16; STATES],
+    next: &[u16; MOST_ROWS],
     back: &Masks,
     opened: &Opened,
     set_count: usize,
     rounds: u8,
     most: usize,
 )
-    requires { ⌜ («row_count» ≤ 256) × («set_count» ≤ 64) × (rounds ≤ 129) × (length (now bytes) ≡ 128)
+    requires { ⌜ Chained (now first) (now next) (now words) × («set_count» ≤ 64) × (length (now bytes) ≡ 128)
         × Indexed (now back) ⌝ }
-    ensures { λ _. ⌜ NotesAll (now (high .entry)) (now (low .entry)) «row_count» (graph-of (now (back .entry)))
-        «set_count» (now (opened .entry)) rounds most (now (bytes .exit)) ⌝ }
+    ensures { λ _. ⌜ NotesAll (now (words .entry)) (now (first .entry)) (now (next .entry))
+        (graph-of (now (back .entry))) «set_count» (now (opened .entry)) rounds most (now (bytes .exit)) ⌝ }
 {
     let mut round = 0;
     while round < rounds {
         round += 1;
         note_round(
             bytes,
-            high,
-            low,
-            row_count,
+            words,
+            first,
+            next,
             back,
             opened,
             set_count,

@@ -10,16 +10,15 @@ use machine::Answer;
 use machine::MOST_ROWS;
 use machine::MOST_SETS;
 use masks::PLACES;
+use masks::STATES;
 use masks::Set;
 use rounds::Progress;
-use search::graphs;
-use search::graphs::MASKS;
 use search::graphs::Masks;
 ghost use mathlib.Core.Path.{_≡_};
 ghost use Prim.Native.Nat.{_≤_};
 ghost use mathlib.Core.List.{_++_};
 ghost use lib.ListN.{length};
-ghost use Rattle.search.specs.Graph.{Indexed};
+ghost use Rattle.search.specs.Graph.{BothWays};
 ghost use Rattle.automaton.specs.Promise.{automaton-of};
 ghost use Rattle.expression.specs.Promise.{ExpressesWalk};
 
@@ -38,57 +37,50 @@ fn opened_in(looped: &[u8; MOST_SETS], mixed: &[u8; MOST_SETS]) -> Opened
     opened
 }
 
-// The expression into the buffer; nothing where the buffer is too short: its length is known first, as far as it fits.
+// The expression into the buffer; nothing where the buffer is too short: its length is known first, as far as it fits. The letter rows are among
+// the first `count` words, in any order. `back` is the graph turned round.
 pub fn express(
     buffer: &mut [u8],
-    high: &[u64; MOST_ROWS],
-    low: &[u64; MOST_ROWS],
-    row_count: usize,
+    words: &[u64; MOST_ROWS],
+    count: usize,
     set_count: usize,
     graph: &Masks,
+    back: &Masks,
     initials: Set,
     finals: Set,
     rounds: Progress,
 ) -> Answer
-    requires { ⌜ («row_count» ≤ 256) × («set_count» ≤ 64) × (rounds .rounds ≤ 129) × Indexed (now graph) ⌝ }
+    requires { ⌜ (count ≤ 256) × («set_count» ≤ 64) × BothWays (now graph) (now back) ⌝ }
     ensures sized { λ _. ⌜ length (now (buffer .exit)) ≡ length (now (buffer .entry)) ⌝ }
-    ensures expresses { λ r. ⌜ ExpressesWalk (now (high .entry)) (now (low .entry)) «row_count» «set_count»
+    ensures expresses { λ r. ⌜ ExpressesWalk (now (words .entry)) count «set_count»
         (automaton-of (now (graph .entry)) initials finals) rounds (now (buffer .entry)) (now (buffer .exit)) r ⌝ }
 {
     let looped = rounds.loop_rounds;
     let mixed = rounds.mix_rounds;
-    let count = rounds.rounds;
     let opened = opened_in(&looped, &mixed);
-    let mut back = [0u64; MASKS];
-    graphs::turn_indexed(graph, &mut back);
+    let mut first = [0u16; STATES];
+    let mut next = [0u16; MOST_ROWS];
+    walks::by_source(words, count, &mut first, &mut next);
     let most = buffer.len();
     let mut bytes = [0usize; CLAIMS];
+    let done = rounds.rounds;
     lengths::note_all(
         &mut bytes,
-        high,
-        low,
-        row_count,
-        &back,
+        words,
+        &first,
+        &next,
+        back,
         &opened,
         set_count,
-        count,
+        done,
         most,
     );
     let walk = frames::of_walk(&opened, set_count, initials, finals);
-    let length = lengths::of_frame(high, low, row_count, &back, set_count, &bytes, walk, most);
+    let length = lengths::of_frame(words, &first, &next, back, set_count, &bytes, walk, most);
     match length {
         Length::Over => Answer::Refused(12, 0),
         Length::Fits(_) => {
-            let wrote = writing::put(
-                buffer,
-                high,
-                low,
-                row_count,
-                &back,
-                &opened,
-                set_count,
-                walk,
-            );
+            let wrote = writing::put(buffer, words, &first, &next, back, &opened, set_count, walk);
             Answer::Wrote(wrote)
         }
     }

@@ -3,6 +3,7 @@ use crate::frames;
 use crate::frames::Opened;
 use crate::lengths::target;
 use machine::MOST_ROWS;
+use masks::STATES;
 use search::graphs::Masks;
 use texts::Item;
 use texts::item_at;
@@ -17,6 +18,7 @@ ghost use lib.ListN.{length};
 ghost use Rattle.lists.specs.Tests.{Decides};
 ghost use Rattle.machine.specs.Text.{number-text};
 ghost use Rattle.search.specs.Graph.{graph-of, Indexed};
+ghost use Rattle.walks.specs.Choices.{Chained};
 ghost use Rattle.tours.specs.Frames.{LowShape};
 ghost use Rattle.expression.specs.Texts.{before-text, open-text, close-text};
 ghost use Rattle.expression.specs.Promise.{PutsAt, PutsFrame};
@@ -100,34 +102,36 @@ fn is_earlier(round: u8, other: u8) -> bool
 // Writes the text of a frame: its parts, and within each the text of its claim, which opened in an earlier round.
 pub fn put(
     buf: &mut [u8],
-    high: &[u64; MOST_ROWS],
-    low: &[u64; MOST_ROWS],
-    row_count: usize,
+    words: &[u64; MOST_ROWS],
+    first: &[u16; STATES],
+    next: &[u16; MOST_ROWS],
     back: &Masks,
     opened: &Opened,
     set_count: usize,
     frame: Frame,
 ) -> usize
-    requires { ⌜ («row_count» ≤ 256) × («set_count» ≤ 64) × LowShape (frame .shape) × Indexed (now back) ⌝ }
+    requires { ⌜ Chained (now first) (now next) (now words) × («set_count» ≤ 64) × LowShape (frame .shape)
+        × Indexed (now back) ⌝ }
     ensures sized { λ _. ⌜ length (now (buf .exit)) ≡ length (now (buf .entry)) ⌝ }
     ensures within { λ r. ⌜ r ≤ length (now (buf .exit)) ⌝ }
-    ensures puts { λ r. ⌜ PutsFrame (now (high .entry)) (now (low .entry)) «row_count» (graph-of (now (back .entry)))
-        «set_count» (now (opened .entry)) frame (now (buf .entry)) (now (buf .exit)) r ⌝ }
+    ensures puts { λ r. ⌜ PutsFrame (now (words .entry)) (now (first .entry)) (now (next .entry))
+        (graph-of (now (back .entry))) «set_count» (now (opened .entry)) frame
+        (now (buf .entry)) (now (buf .exit)) r ⌝ }
 {
     let mut layers = [0u64; LAYERS];
     let mut cursor = tours::begin(back, frame, &mut layers);
     let mut at = 0;
     while cursor.live {
-        let step = tours::step_at(high, low, row_count, back, frame, cursor, &layers);
+        let step = tours::step_at(words, first, next, back, frame, cursor, &layers);
         at = open_at(buf, at, cursor.before, step);
         let within = frames::of_step(back, opened, set_count, cursor.state, step);
         if is_earlier(within.round, frame.round) {
             at = at
                 + put(
                     &mut buf[at..],
-                    high,
-                    low,
-                    row_count,
+                    words,
+                    first,
+                    next,
                     back,
                     opened,
                     set_count,

@@ -23,7 +23,7 @@ use Rattle.rounds.specs.Promises.{Closes, DoesRound}
 use Rattle.rising.specs.Promises.{Judges}
 use Rattle.session.specs.declared.Session.{Session}
 use Rattle.session.specs.declared.Reply.{Reply}
-use Rattle.session.specs.declared.State.the-variants.{Open as IsOpen, Running as IsRunning, Settled as IsSettled}
+use Rattle.session.specs.declared.State.the-variants.{Open as IsOpen, Running as IsRunning}
 use Rattle.session.specs.Promise.{Ranged, Promised, HasState}
 use Rattle.session.specs.Standing.{reply, rounds-in, with-rounds, Reads}
 use Rattle.session.proofs.Gate.{does-as, promised, done-in}
@@ -45,9 +45,6 @@ rounds-most s before k h = rw k (rw (h .1) at (h .0 .few-rounds))
 -- a running one has room for a round
 pub rounds-few : (s : Session) (before : Progress) → before ≡ rounds-in s → HasState s IsRunning → before .rounds < 129
 rounds-few s before k h = omega (arith, rounds-most s before k h)
-
-pub rounds-settled : (s : Session) (before : Progress) → before ≡ rounds-in s → (v : Verdict) → HasState s (IsSettled v) → before .rounds ≤ 129
-rounds-settled s before k v h = rounds-most s before k h
 
 pub reopen-done : (s : Session) {r : Reply} → Ranged s → NotOpen (s .phase)
     → r ≡ reply (with-rounds s (record { «loop_rounds» = replicate 64 0; «mix_rounds» = replicate 64 0; phase = Open; rounds = 0 })) Done

@@ -20,11 +20,13 @@ use Rattle.machine.proofs.Answers.{tells-as}
 use Rattle.machine.proofs.Phases.{empty-refuses}
 use Rattle.machine.proofs.Tables.{sort-table}
 use Rattle.machine.proofs.Outcomes.{writing}
-use Rattle.row_table.specs.Arrays.{Keyed, Filed}
+use Rattle.row_table.specs.Arrays.{Keyed}
+use Rattle.row_table.specs.Letters.{LettersIn}
+use Rattle.search.specs.Graph.{graph-of}
 use Rattle.automaton.specs.declared.Automaton.{Automaton}
-use Rattle.automaton.specs.Promise.{Gives, GivesKeyed}
+use Rattle.automaton.specs.Promise.{GivesKeyed}
 use Rattle.rounds.specs.declared.Progress.{Progress}
-use Rattle.rounds.specs.Promises.{Mirrors}
+use Rattle.rounds.specs.Promises.{Given, Mirrors}
 use Rattle.walks.proofs.Standing.{keyed-letters}
 use Rattle.expression.specs.Promise.{ExpressesWalk}
 use Rattle.whole_sheet.specs.Promise.{PrintsSheet}
@@ -57,20 +59,20 @@ module _ (s : Session) (v : Verdict) (state : HasState s (IsSettled v)) (high lo
     (old new : List ℕ) (l : length new ≡ length old) (r : Answer) (rounds : Progress) (k : rounds ≡ rounds-in s) where
   -- what is told of every machine whose rows, masks and rounds these are
   writes-settled : (c : Call) (text : Machine → List ℕ) → ((m : Machine) → m .phase ≡ Settled v → Writes m c (text m) (length old))
-      → ((m : Machine) → WellFormed m → m .phase ≡ Settled v → Filed high low (s .sets) (s .«row_count») (s .«set_count») (m .rows) → Gives (m .rows) (s .sets) (s .«set_count») a
+      → ((m : Machine) → WellFormed m → m .phase ≡ Settled v → LettersIn (m .rows) high (s .«row_count») → Given (m .rows) (graph-of (a .graph)) (a .initials) (a .finals) (s .«set_count»)
       → Mirrors m (rounds .«loop_rounds») (rounds .«mix_rounds») (rounds .phase) (rounds .rounds) → TellsText (text m) old new r)
       → Promised s (on c) old new (reply s r)
-  writes-settled c text f h = writes s (state .0) old new l r c (λ x p. let e = in-phase x s p (state .1) in
-      (text (x .now), f (x .now) e, (rw k at h) (x .now) (p .formed .now-formed) e (keyed-of x s p high low keyed, sets-in-of x s p) (reads x p) (mirrors-of x s p)))
+  writes-settled c text f h = writes s (state .0) old new l r c (λ x p. let e = in-phase x s p (state .1) in let w = p .formed .now-formed in
+      (text (x .now), f (x .now) e, (rw k at h) (x .now) w e (keyed-letters (keyed-of x s p high low keyed) (w .table)) (given-rows (w .table) (sets-in-of x s p) (reads x p)) (mirrors-of x s p)))
 
   -- the sheet
   pub prints-settled : PrintsSheet v high (s .«row_count») (s .«set_count») a rounds old new r → Promised s (on (print (length old))) old new (reply s r)
   prints-settled h = writes-settled (print (length old)) (sheet v) (λ m. sheets v (length old))
-      (λ m w e f g i. tells-as (ap (λ (n : Next). n .answer) (writing m (sheets v (length old) e))) (h m w e (keyed-letters (f .0) (w .table)) (given-rows (w .table) (f .1) g) i))
+      (λ m w e f g i. tells-as (ap (λ (n : Next). n .answer) (writing m (sheets v (length old) e))) (h m w e f g i))
 
   -- its walk
-  pub expresses-settled : v ≡ NonEmpty → ExpressesWalk high low (s .«row_count») (s .«set_count») a rounds old new r → Promised s (on (expression (length old))) old new (reply s r)
-  expresses-settled n h = writes-settled (expression (length old)) expression-of (λ m e. expresses (length old) (e ∙ ap Settled n)) (λ m w e. h m (s .sets) w (e ∙ ap Settled n))
+  pub expresses-settled : v ≡ NonEmpty → ExpressesWalk high (s .«row_count») (s .«set_count») a rounds old new r → Promised s (on (expression (length old))) old new (reply s r)
+  expresses-settled n h = writes-settled (expression (length old)) expression-of (λ m e. expresses (length old) (e ∙ ap Settled n)) (λ m w e. h m w (e ∙ ap Settled n))
 
 -- no walk where the verdict is empty
 pub expresses-nothing : (s : Session) (v : Verdict) → HasState s (IsSettled v) → v ≡ Empty → {old : List ℕ} {r : Reply} → r ≡ reply s (Refused 17 0)

@@ -4,6 +4,8 @@ use crate::Session;
 use crate::State;
 use machine::FOREIGN_RECORD;
 use machine::Verdict;
+use search::graphs;
+use search::graphs::MASKS;
 ghost use lib.ListN.{length};
 ghost use Rattle.machine.specs.declared.Verdict.the-variants.{NonEmpty};
 ghost use Rattle.machine.specs.Calls.{expression};
@@ -21,17 +23,18 @@ impl Session {
         let k = self.set_count;
         let keys = self.keys();
         let high = keys.high;
-        let low = keys.low;
         let a = self.automaton();
         let graph = a.graph;
+        let mut back = [0u64; MASKS];
+        graphs::turn_indexed(&graph, &mut back);
         let kept = self.progress();
         let answer = expression::express(
             buffer,
             &high,
-            &low,
             n,
             k,
             &graph,
+            &back,
             a.initials,
             a.finals,
             kept,

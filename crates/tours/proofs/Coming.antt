@@ -16,7 +16,7 @@ use Rattle.machine.specs.Search.{shortest}
 use Rattle.machine.specs.Word.{round-trip}
 use Rattle.machine.specs.Expression.{walk-in}
 use Rattle.search.specs.Graph.{Graph}
-use Rattle.walks.specs.Choices.{Way, InOrder}
+use Rattle.walks.specs.Choices.{Way, SetsRise}
 use Rattle.walks.specs.Walks.{Descends}
 use Rattle.tours.specs.declared.Shape.{Shape}
 use Rattle.tours.specs.declared.Shape.the-variants.{Whole, Tour, Pieces}
@@ -58,9 +58,9 @@ left-coming Pieces P c w = w
 pub lays-of : (back : Graph) (f : Frame) (a s : ℕ) (layers : List ℕ) (r : Leg) (shape : Shape) → f .shape ≡ shape
     → (LegWithin shape (f .set) a s → LaysLeg back shape (f .set) (f .starts) (f .ends) (f .force) (λ m. leg-of m shape (f .set) a s) layers r)
     → LaysLegOf back f a s layers r
-lays-of back f a s layers r shape e lays m g highs lows n k held framed within =
-    subst (λ (x : Shape). Descends (Way highs n back (f .force)) (InOrder highs lows n back (f .force)) layers (r .start) (r .steps) (leg-of m x (f .set) a s)) (sym e)
-    (lays (subst (λ (x : Shape). LegWithin x (f .set) a s) e within) m g highs lows n k held (subst (λ (x : Shape). Framed m g k x (f .set) (f .starts) (f .ends) (f .force)) e framed))
+lays-of back f a s layers r shape e lays m g words heads links n k held framed within =
+    subst (λ (x : Shape). Descends (Way words n back (f .force)) (SetsRise back (f .force)) layers (r .start) (r .steps) (leg-of m x (f .set) a s)) (sym e)
+    (lays (subst (λ (x : Shape). LegWithin x (f .set) a s) e within) m g words heads links n k held (subst (λ (x : Shape). Framed m g k x (f .set) (f .starts) (f .ends) (f .force)) e framed))
 
 -- ---- at the leg of the lowest state
 
@@ -81,12 +81,12 @@ module _ (P a rest later low rest′ : ℕ) (t : TakesLowest rest low rest′) (
 module _ (back : Graph) (f : Frame) (layers : List ℕ) (c a rest later : ℕ) where
   pub comes-lead : (low rest′ : ℕ) (leg : Leg) → TakesLowest rest low rest′ → rest′ < 2 ^ 64 → LaysLegOf back f a low layers leg
       → Comes back f c a rest later layers (record { live = true; before = c; state = leg .start; steps = leg .steps; stop = low; rest = rest′; later = later })
-  comes-lead low rest′ leg t fits lays m g highs lows n k held framed coming = record {
+  comes-lead low rest′ leg t fits lays m g words heads links n k held framed coming = record {
     ended = λ e. absurd (true≢false e);
     within = λ e. is-within;
     live = λ e. (
       leg-of m shape P a low,
-      lays m g highs lows n k held framed (leg-within P a rest later low rest′ t fits shape coming),
+      lays m g words heads links n k held framed (leg-within P a rest later low rest′ t fits shape coming),
       ap (λ (l : List ℕ). parts-of c sep (legs-from m shape P a (l ++ members later))) (members-take rest low rest′ t)
           ∙ ap (parts-of c sep) (legs-cons m shape P a low (members rest′ ++ members later))
           ∙ ap (λ (l : List Walk). leg-parts c (leg-of m shape P a low) ++ parts-of sep sep l) (sym (left-is m shape P here is-within)),
@@ -117,13 +117,13 @@ later-coming Pieces P a rest later h = (h .1, λ s k. absurd (in-none s k))
 
 module _ (back : Graph) (f : Frame) (layers : List ℕ) (c a rest later : ℕ) (r : Cursor) where
   pub comes-later : rest ≡ 0 → Comes back f c a later 0 layers r → Comes back f c a rest later layers r
-  comes-later e comes m g highs lows n k held framed coming =
-      subst (λ (l : List ℕ). Stands m highs lows n back f layers r (parts-of c (separator (f .shape)) (legs-from m (f .shape) (f .set) a l)))
-      (rw (e, members-none) (append-nil (members later))) (comes m g highs lows n k held framed (later-coming (f .shape) (f .set) a rest later coming))
+  comes-later e comes m g words heads links n k held framed coming =
+      subst (λ (l : List ℕ). Stands m words n back f layers r (parts-of c (separator (f .shape)) (legs-from m (f .shape) (f .set) a l)))
+      (rw (e, members-none) (append-nil (members later))) (comes m g words heads links n k held framed (later-coming (f .shape) (f .set) a rest later coming))
 
   -- none is left
   pub comes-none : rest ≡ 0 → later ≡ 0 → r .live ≡ false → Comes back f c a rest later layers r
-  comes-none e i dead m g highs lows n k held framed coming = record {
+  comes-none e i dead m g words heads links n k held framed coming = record {
     ended = λ _. ap (parts-of c (separator (f .shape))) (ap (legs-from m (f .shape) (f .set) a) (members-nones e i) ∙ legs-nil m (f .shape) (f .set) a);
     within = λ alive. absurd (true≢false (sym alive ∙ dead));
     live = λ alive. absurd (true≢false (sym alive ∙ dead));
@@ -164,9 +164,9 @@ module _ (P q higher others : ℕ) (above : (t : ℕ) → (t ∈ higher) ↔ ((t
 module _ (back : Graph) (f : Frame) (layers : List ℕ) (r : Cursor) where
   begins-from : (shape : Shape) (a rest later : ℕ) → f .shape ≡ shape → ((m : Machine) → About m shape (f .set) (f .starts) (f .ends) → Starts m shape (f .set) a rest later)
       → Comes back f 0 a rest later layers r → Begins back f layers r
-  begins-from shape a rest later e starts comes m g highs lows n k held framed =
+  begins-from shape a rest later e starts comes m g words heads links n k held framed =
       let s = subst (λ (x : Shape). Starts m x (f .set) a rest later) (sym e) (starts m (subst (λ (x : Shape). About m x (f .set) (f .starts) (f .ends)) e (framed .about))) in
-      subst (λ (l : List Walk). Stands m highs lows n back f layers r (parts-of 0 (separator (f .shape)) l)) (sym (s .1)) (comes m g highs lows n k held framed (s .0))
+      subst (λ (l : List Walk). Stands m words n back f layers r (parts-of 0 (separator (f .shape)) l)) (sym (s .1)) (comes m g words heads links n k held framed (s .0))
 
   pub begins-whole : f .shape ≡ Whole → Comes back f 0 0 1 0 layers r → Begins back f layers r
   begins-whole e = begins-from Whole 0 1 0 e (λ m about. starts-whole m (f .set))

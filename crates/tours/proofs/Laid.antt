@@ -36,9 +36,9 @@ use Rattle.search.specs.Masked.{Initials, Finals}
 use Rattle.search.specs.Promises.{Stands}
 use Rattle.walks.specs.Layers.{Ahead}
 use Rattle.row_table.specs.Letters.{LettersIn}
-use Rattle.walks.specs.Choices.{Way, InOrder}
+use Rattle.walks.specs.Choices.{Way, SetsRise}
 use Rattle.walks.specs.Walks.{Courses, Descends}
-use Rattle.walks.proofs.Standing.{Free, keyed-letters, in-order}
+use Rattle.walks.proofs.Standing.{Free, sets-rise-in}
 use Rattle.walks.proofs.Courses.{lay-none, lay-foremost}
 use Rattle.walks.proofs.Answers.{to-leading, leading-best, final-free}
 use Rattle.tours.specs.declared.Shape.{Shape}
@@ -83,14 +83,14 @@ small-low r h = record { low = h .0; few = omega (arith, h .1) }
 -- ---- arrays that hold a machine
 
 -- the walk goes down the layers of the leg, by the first step into each
-abbrev pub Down : List ℕ → List ℕ → ℕ → Graph → Claims → List ℕ → Leg → Walk → Type 0
-Down highs lows n back force layers r w = Descends (Way highs n back force) (InOrder highs lows n back force) layers (r .start) (r .steps) w
+abbrev pub Down : List ℕ → ℕ → Graph → Claims → List ℕ → Leg → Walk → Type 0
+Down words n back force layers r w = Descends (Way words n back force) (SetsRise back force) layers (r .start) (r .steps) w
 
 -- the first of the shortest is one: what goes down is the walk that was asked for
 pub down-same : (D : Walk → Type 0) (C : Found → Type 0) → ((f : Found) → C f → (b : ℕ) × Leads (f .start) (f .walk) b) → (f g : Found) → Foremost C f → Foremost C g → D (f .walk) → D (g .walk)
 down-same D C leads f g b d h = subst (λ (x : Found). D (x .walk)) (foremost-unique C leads f g b d) h
 
-module _ {m : Machine} {g back : Graph} {highs lows : List ℕ} {n k : ℕ} (held : Held m g highs lows n back k)
+module _ {m : Machine} {g back : Graph} {words heads links : List ℕ} {n k : ℕ} (held : Held m g words heads links n back k)
     {shape : Shape} {P starts ends : ℕ} {force : Claims} (framed : Framed m g k shape P starts ends force) where
   abbrev claims : List Claim
   claims = claims-for m shape P
@@ -98,11 +98,11 @@ module _ {m : Machine} {g back : Graph} {highs lows : List ℕ} {n k : ℕ} (hel
   stands : Stands g (framed .all) (m .rows) claims k
   stands = record { masked = held .masked; forced = framed .forced }
 
-  letters : LettersIn (m .rows) highs n
-  letters = keyed-letters (held .keyed) (held .formed .table)
+  letters : LettersIn (m .rows) words n
+  letters = held .letters
 
-  ordered : InOrder highs lows n back force
-  ordered = in-order (held .turned) stands (held .count) (held .keyed) (held .formed .table) (framed .inner)
+  ordered : SetsRise back force
+  ordered = sets-rise-in (held .turned) stands (held .count) (held .letters) (framed .inner)
 
   -- walks inside P of zero or more steps
   abbrev pub Ways : ℕ → ℕ → Found → Type 0
@@ -114,7 +114,7 @@ module _ {m : Machine} {g back : Graph} {highs lows : List ℕ} {n k : ℕ} (hel
 
   -- the leg is the first of the shortest of some walks
   abbrev pub Lies : (Found → Type 0) → List ℕ → Leg → Type 0
-  Lies C layers r = (w : Walk) × Down highs lows n back force layers r w × Foremost C (found (r .start) w) × (length w ≡ r .steps)
+  Lies C layers r = (w : Walk) × Down words n back force layers r w × Foremost C (found (r .start) w) × (length w ≡ r .steps)
 
   -- it is of one or more steps; or there is none, and it has no steps at s
   abbrev pub Laid : ℕ → ℕ → ℕ → List ℕ → Leg → Type 0
@@ -143,7 +143,7 @@ module _ {m : Machine} {g back : Graph} {highs lows : List ℕ} {n k : ℕ} (hel
 
 -- ---- the sheet's walk
 
-module _ {m : Machine} {g back : Graph} {highs lows : List ℕ} {n k : ℕ} (held : Held m g highs lows n back k)
+module _ {m : Machine} {g back : Graph} {words heads links : List ℕ} {n k : ℕ} (held : Held m g words heads links n back k)
     {P starts ends : ℕ} {force : Claims} (framed : Framed m g k Whole P starts ends force) where
   abbrev about : (P ≡ all-mask) × Initials (m .rows) starts × Finals (m .rows) ends × (m .phase ≡ Settled NonEmpty)
   about = framed .about
@@ -167,17 +167,17 @@ module _ {m : Machine} {g back : Graph} {highs lows : List ℕ} {n k : ℕ} (hel
   ends-free t h = subst (λ (p : ℕ). Free (m .rows) p t) (sym (about .0)) (final-free (m .rows) (open-claims m) starts ends (about .1) (about .2) (held .formed .table) t h)
 
   -- down the layers the leg is the sheet's walk
-  pub whole-down : (layers : List ℕ) (r : Leg) → ZeroOrMore (Ahead back force P) starts ends layers r → Down highs lows n back force layers r (walk-in (shortest (m .rows) (open-claims m)))
+  pub whole-down : (layers : List ℕ) (r : Leg) → ZeroOrMore (Ahead back force P) starts ends layers r → Down words n back force layers r (walk-in (shortest (m .rows) (open-claims m)))
   whole-down layers r o = by (zero-lies held framed starts ends layers r ends-free o)
     where
-      by : Lies held framed (Within P) layers r ⊎ ((f : Found) → ¬ Within P f) → Down highs lows n back force layers r (walk-in (shortest (m .rows) (open-claims m)))
+      by : Lies held framed (Within P) layers r ⊎ ((f : Found) → ¬ Within P f) → Down words n back force layers r (walk-in (shortest (m .rows) (open-claims m)))
       by (inr none) = absurd (none (printed .0) sheet-is)
       by (inl (w, d, f, size)) = let g = found (r .start) w in
-          rw (printed .1) (down-same (Down highs lows n back force layers r) (Candidate (m .rows) (open-claims m)) (λ f c. (c .1 .0, c .1 .2)) g (printed .0) (sheet-best g f) (printed .2) d)
+          rw (printed .1) (down-same (Down words n back force layers r) (Candidate (m .rows) (open-claims m)) (λ f c. (c .1 .0, c .1 .2)) g (printed .0) (sheet-best g f) (printed .2) d)
 
 -- ---- a set that loops
 
-module _ {m : Machine} {g back : Graph} {highs lows : List ℕ} {n k : ℕ} (held : Held m g highs lows n back k)
+module _ {m : Machine} {g back : Graph} {words heads links : List ℕ} {n k : ℕ} (held : Held m g words heads links n back k)
     {q P starts ends : ℕ} {force : Claims} (framed : Framed m g k (Tour q) P starts ends force) where
   abbrev ground : Grounded (m .rows) (m .openings)
   ground = grounded m (held .formed)
@@ -212,9 +212,9 @@ module _ {m : Machine} {g back : Graph} {highs lows : List ℕ} {n k : ℕ} (hel
     nearest = near (m .rows) (m .openings) ground P (framed .about .1) a b ha hb
 
     -- down the layers the leg is the walk from a to its neighbour b
-    pub between-down : (s : ℕ) (layers : List ℕ) (r : Leg) → OneOrMore (Ahead back force P) from to s layers r → Down highs lows n back force layers r (neighbour P a b m)
+    pub between-down : (s : ℕ) (layers : List ℕ) (r : Leg) → OneOrMore (Ahead back force P) from to s layers r → Down words n back force layers r (neighbour P a b m)
     between-down s layers r o = ⊎-elim
         (λ l. let h = l .1 in let f = found (r .start) (h .0) in
-        down-same (Down highs lows n back force layers r) (Between (m .rows) (m .openings) P a b) (λ f c. (b, c .1)) f (found a (neighbour P a b m)) (foremost-of f to-between of-between (h .2)) nearest (h .1))
+        down-same (Down words n back force layers r) (Between (m .rows) (m .openings) P a b) (λ f c. (b, c .1)) f (found a (neighbour P a b m)) (foremost-of f to-between of-between (h .2)) nearest (h .1))
         (λ z. absurd (z .2 (found a (neighbour P a b m)) (of-between (found a (neighbour P a b m)) (nearest .is))))
         (one-lies held framed from to layers r (λ t h. open-free held framed (loops P) (framed .about .1) t (subst (λ (x : ℕ). x ∈ P) (sym (with-none b to is-to t h)) hb)) s o)

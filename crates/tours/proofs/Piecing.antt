@@ -26,7 +26,7 @@ use Rattle.machine.proofs.Legs.{Passing, through-none, through-foremost, gap-no
 use Rattle.search.specs.declared.Claims.{Claims}
 use Rattle.search.specs.Graph.{Graph}
 use Rattle.walks.specs.Layers.{Ahead}
-use Rattle.walks.specs.Choices.{Way, InOrder}
+use Rattle.walks.specs.Choices.{Way, SetsRise}
 use Rattle.walks.specs.Walks.{Descends}
 use Rattle.walks.proofs.Standing.{Free}
 use Rattle.walks.proofs.Descending.{descends-append, descends-same}
@@ -40,7 +40,7 @@ use Rattle.tours.proofs.Laid.{Down, down-same, Ways, Goes, Lies, Laid, 
 abbrev pub as-one : Leg → Leg → Leg
 as-one to on = record { start = to .start; steps = to .steps + on .steps }
 
-module _ {m : Machine} {g back : Graph} {highs lows : List ℕ} {n k : ℕ} (held : Held m g highs lows n back k)
+module _ {m : Machine} {g back : Graph} {words heads links : List ℕ} {n k : ℕ} (held : Held m g words heads links n back k)
     {P starts ends : ℕ} {force : Claims} (framed : Framed m g k Pieces P starts ends force) (s : ℕ) (here : s ∈ P) where
   abbrev ground : Grounded (m .rows) (m .openings)
   ground = grounded m (held .formed)
@@ -79,14 +79,14 @@ module _ {m : Machine} {g back : Graph} {highs lows : List ℕ} {n k : ℕ} (hel
   the-piece = piece-for (m .rows) (m .openings) ground P (framed .about .0) s here
 
   -- the first of the shortest is the piece
-  is-piece : (layers : List ℕ) (r : Leg) (w : Walk) → Foremost Pass (found (r .start) w) → Down highs lows n back force layers r w → Down highs lows n back force layers r (piece-of P s m)
+  is-piece : (layers : List ℕ) (r : Leg) (w : Walk) → Foremost Pass (found (r .start) w) → Down words n back force layers r w → Down words n back force layers r (piece-of P s m)
   is-piece layers r w h d = by the-piece
     where
       first : Foremost (PieceBy (m .rows) (m .openings) P s) (found (r .start) w)
       first = foremost-of (found (r .start) w) to-piece of-piece h
 
-      by : PieceFor (m .rows) (m .openings) P s (piece-of P s m) → Down highs lows n back force layers r (piece-of P s m)
-      by (inl f) = down-same (Down highs lows n back force layers r) (PieceBy (m .rows) (m .openings) P s) (λ f c. (c .1 .0, c .1 .2)) (found (r .start) w) (found (f .0) (piece-of P s m)) first (f .1) d
+      by : PieceFor (m .rows) (m .openings) P s (piece-of P s m) → Down words n back force layers r (piece-of P s m)
+      by (inl f) = down-same (Down words n back force layers r) (PieceBy (m .rows) (m .openings) P s) (λ f c. (c .1 .0, c .1 .2)) (found (r .start) w) (found (f .0) (piece-of P s m)) first (f .1) d
       by (inr z) = absurd (z .0 (found (r .start) w) (first .is))
 
   -- without a piece by way of s, s is an entrance and an exit, and the piece has no steps
@@ -114,7 +114,7 @@ module _ {m : Machine} {g back : Graph} {highs lows : List ℕ} {n k : ℕ} (hel
 
     -- s is not both an entrance and an exit: the walk on from s, and above its layers those of the walk to s
     pub through-down : (s ∈ starts → s ∈ ends → ⊥) → (layers new : List ℕ) (on to : Leg) → ZeroOrMore (Ahead back force P) alone ends layers on → KeptBelow (on .steps) layers new
-        → ZeroOrMore (Ahead back force P) starts alone (drop (on .steps) new) to → Down highs lows n back force new (as-one to on) (piece-of P s m)
+        → ZeroOrMore (Ahead back force P) starts alone (drop (on .steps) new) to → Down words n back force new (as-one to on) (piece-of P s m)
     through-down apart layers new on to o kept t = by (zero-lies held framed alone ends layers on exits-free o) (zero-lies held framed starts alone (drop (on .steps) new) to alone-free t)
       where
         never : ((f : Found) → ¬ Pass f) → ⊥
@@ -122,7 +122,7 @@ module _ {m : Machine} {g back : Graph} {highs lows : List ℕ} {n k : ℕ} (hel
 
         by : Lies held framed (Ways held framed alone ends) layers on ⊎ ((f : Found) → ¬ Ways held framed alone ends f)
             → Lies held framed (Ways held framed starts alone) (drop (on .steps) new) to ⊎ ((f : Found) → ¬ Ways held framed starts alone f)
-            → Down highs lows n back force new (as-one to on) (piece-of P s m)
+            → Down words n back force new (as-one to on) (piece-of P s m)
         by (inr none) t = absurd (never (through-none (m .rows) In P (λ t. t ∈ starts) (λ t. t ∈ ends) (λ t. t ∈ alone) s alone-s s-alone (inr none)))
         by (inl a) (inr none) = absurd (never (through-none (m .rows) In P (λ t. t ∈ starts) (λ t. t ∈ ends) (λ t. t ∈ alone) s alone-s s-alone (inl none)))
         by (inl (w, d, f, size)) (inl (v, e, h, length-is)) =
@@ -135,9 +135,9 @@ module _ {m : Machine} {g back : Graph} {highs lows : List ℕ} {n k : ℕ} (hel
             apart (subst (λ (x : ℕ). x ∈ starts) a (h .is .0)) (subst (λ (x : ℕ). x ∈ ends) (sym b ∙ at) (f .is .1 .1)) in
             is-piece new (as-one to on) (v ++ w)
             (through-foremost (m .rows) In P (λ t. t ∈ starts) (λ t. t ∈ ends) (λ t. t ∈ alone) s alone-s s-alone (found (to .start) v) (found (on .start) w) h f some)
-            (descends-append (Way highs n back force) (InOrder highs lows n back force) new (on .steps) s w
-            (descends-same (Way highs n back force) (InOrder highs lows n back force) layers new (on .steps) s w (λ i l. sym (kept .stay i l))
-            (subst (λ (x : ℕ). Descends (Way highs n back force) (InOrder highs lows n back force) layers x (on .steps) w) at d)) (to .steps) (to .start) v e leads)
+            (descends-append (Way words n back force) (SetsRise back force) new (on .steps) s w
+            (descends-same (Way words n back force) (SetsRise back force) layers new (on .steps) s w (λ i l. sym (kept .stay i l))
+            (subst (λ (x : ℕ). Descends (Way words n back force) (SetsRise back force) layers x (on .steps) w) at d)) (to .steps) (to .start) v e leads)
 
     -- s is an entrance and an exit, and others are the other entrances
     module _ (enters : s ∈ starts) (leaves : s ∈ ends) (others : ℕ) (is-others : (t : ℕ) → member t others ≡ (member t starts && not (member t alone))) where
@@ -156,7 +156,7 @@ module _ {m : Machine} {g back : Graph} {highs lows : List ℕ} {n k : ℕ} (hel
         to-lies = one-lies held framed others alone layers′ to alone-free s t
 
         -- the leg to s comes first
-        pub gap-to-down : ComesFirst to on → Down highs lows n back force layers′ to (piece-of P s m)
+        pub gap-to-down : ComesFirst to on → Down words n back force layers′ to (piece-of P s m)
         gap-to-down c = by to-lies
           where
             longer : (w : Walk) → length w ≡ to .steps → Laid held framed alone ends s layers on
@@ -168,13 +168,13 @@ module _ {m : Machine} {g back : Graph} {highs lows : List ℕ} {n k : ℕ} (hel
                 ⊎-elim (λ (z : on .steps ≡ 0). absurd (omega arith))
                 (⊎-elim (λ (l : to .steps < on .steps). (omega arith, λ e. absurd (omega arith))) (λ e. (omega (arith, e .0), λ z. omega (arith, e .1)))) (c .1)
 
-            by : Laid held framed others alone s layers′ to → Down highs lows n back force layers′ to (piece-of P s m)
+            by : Laid held framed others alone s layers′ to → Down words n back force layers′ to (piece-of P s m)
             by (inr none) = absurd (omega (arith, c .0, none .1))
             by (inl (some, (w, d, f, size))) = is-piece layers′ to w
                 (gap-to (m .rows) In P (λ t. t ∈ starts) (λ t. t ∈ ends) (λ t. t ∈ alone) s alone-s s-alone (λ t. t ∈ others) but other leaves (found (to .start) w) f (longer w size on-lies)) d
 
         -- it does not, and the leg on from s is laid once more
-        pub gap-from-down : ¬ ComesFirst to on → (new : List ℕ) (r : Leg) → OneOrMore (Ahead back force P) alone ends s new r → Down highs lows n back force new r (piece-of P s m)
+        pub gap-from-down : ¬ ComesFirst to on → (new : List ℕ) (r : Leg) → OneOrMore (Ahead back force P) alone ends s new r → Down words n back force new r (piece-of P s m)
         unfolding Descends
         gap-from-down c new r again = by on-lies to-lies (one-lies held framed alone ends new r exits-free s again)
           where
@@ -198,7 +198,7 @@ module _ {m : Machine} {g back : Graph} {highs lows : List ℕ} {n k : ℕ} (hel
                       omega arith,
                 )
 
-            by : Laid held framed alone ends s layers on → Laid held framed others alone s layers′ to → Laid held framed alone ends s new r → Down highs lows n back force new r (piece-of P s m)
+            by : Laid held framed alone ends s layers on → Laid held framed others alone s layers′ to → Laid held framed alone ends s new r → Down words n back force new r (piece-of P s m)
             by a b (inl (some, (u, d, f, size))) = is-piece new r u
                 (gap-from (m .rows) In P (λ t. t ∈ starts) (λ t. t ∈ ends) (λ t. t ∈ alone) s alone-s s-alone (λ t. t ∈ others) but other enters (found (r .start) u) f (longer u f a b)) d
             by (inl a) b (inr none) = absurd (none .2 (found (on .start) (a .1 .0)) (a .1 .2 .is))

@@ -14,9 +14,9 @@ use Rattle.search.specs.declared.Claims.{Claims}
 use Rattle.search.specs.Graph.{Graph}
 use Rattle.walks.specs.declared.Choice.{Choice}
 use Rattle.walks.specs.declared.Choice.the-variants.{Taken, Nothing}
-use Rattle.walks.specs.Choices.{named, Way, InOrder, Chooses}
+use Rattle.walks.specs.Choices.{named, Way, BySource, SetsRise, Chooses}
 use Rattle.walks.specs.Walks.{Descends}
-use Rattle.walks.proofs.Standing.{in-order}
+use Rattle.walks.proofs.Standing.{sets-rise-in}
 use Rattle.walks.proofs.Descending.{descends-step, descends-no-step}
 use Rattle.tours.specs.declared.Frame.{Frame}
 use Rattle.tours.specs.declared.Cursor.{Cursor}
@@ -25,31 +25,30 @@ use Rattle.tours.specs.Parts.{Part, part-of, leg-parts, parts-of, separa
 use Rattle.tours.specs.Cursors.{legs-left, Chosen, ShowsPart, LowChoice}
 use Rattle.tours.proofs.Standing.{parts-none}
 
--- the rows and the sets stand in order
-held-order : (m : Machine) (g : Graph) (highs lows : List ℕ) (n : ℕ) (back : Graph) (k : ℕ) (f : Frame) → Held m g highs lows n back k → FramedBy m g k f
-    → InOrder highs lows n back (f .force)
-held-order m g highs lows n back k f held framed =
-    in-order (held .turned) (record { masked = held .masked; forced = framed .forced }) (held .count) (held .keyed) (held .formed .table) (framed .inner)
+-- the sets stand in order
+held-order : {m : Machine} {g : Graph} {words heads links : List ℕ} {n : ℕ} {back : Graph} {k : ℕ} (f : Frame) → Held m g words heads links n back k → FramedBy m g k f
+    → SetsRise back (f .force)
+held-order f held framed = sets-rise-in (held .turned) (record { masked = held .masked; forced = framed .forced }) (held .count) (held .letters) (framed .inner)
 
 -- a chosen step leads to a state of the layer, and a letter is a byte of a key
-pub chosen-low : (Ordered : Type 0) (layer : ℕ) (highs : List ℕ) (n : ℕ) (back : Graph) (force : Claims) (a : ℕ) (r : Choice) → Chooses layer (Way highs n back force a) Ordered r
+pub chosen-low : (Ordered : Type 0) (layer : ℕ) (words : List ℕ) (n : ℕ) (back : Graph) (force : Claims) (a : ℕ) (r : Choice) → Chooses layer (Way words n back force a) Ordered r
     → LowChoice r
-chosen-low Ordered layer highs n back force a Nothing c = tt
-chosen-low Ordered layer highs n back force a (Taken kind value to) c = (
+chosen-low Ordered layer words n back force a Nothing c = tt
+chosen-low Ordered layer words n back force a (Taken kind value to) c = (
   member-lt to layer (c .1),
-  λ e. let w = subst (λ (k : ℕ). Way highs n back force a (named k value) to) e (c .0) in letter-bytes (getD highs (w .0) 0) (w .2) .0,
+  λ e. let w = subst (λ (k : ℕ). Way words n back force a (named k value) to) e (c .0) in letter-bytes (getD words (w .0) 0) (w .2) .0,
 )
 
 -- the first of two lists of parts that are one
 same-first : (p q : Part) (l v : List Part) → p ∷ l ≡ q ∷ v → p ≡ q
 same-first p q l v e = cc
 
-module _ (highs lows : List ℕ) (n : ℕ) (back : Graph) (f : Frame) (layers : List ℕ) (c : Cursor) where
+module _ (words heads links : List ℕ) (back : Graph) (f : Frame) (layers : List ℕ) (c : Cursor) where
   abbrev Ordered : Type 0
-  Ordered = InOrder highs lows n back (f .force)
+  Ordered = SetsRise back (f .force)
 
-  abbrev Ways : ℕ → Label → ℕ → Type 0
-  Ways = Way highs n back (f .force)
+  abbrev Ways : ℕ → ℕ → Label → ℕ → Type 0
+  Ways n = Way words n back (f .force)
 
   -- a cursor whose leg begins with a part stands at that part
   at-part : (m : Machine) (p : Part) (l : List Part) (w : Walk) (o : Option Step) (v : List Part) (r : Choice)
@@ -60,20 +59,21 @@ module _ (highs lows : List ℕ) (n : ℕ) (back : Graph) (f : Frame) (layers : 
       let is = same-first p (part-of (c .before) o) l (v ++ tail) (e ∙ ap (λ (x : List Part). x ++ tail) parts) in
       (ap (λ (x : Part). x .before) is, subst (λ (x : Part). Chosen (c .state) (x .step) r) (sym is) chosen)
 
-  pub shows-none : c .steps ≡ 0 → ShowsPart highs lows n back f layers c Nothing
-  shows-none e m g k held framed p l alive s = let w = s .live alive in
-      at-part m p l (w .0) none _ Nothing (w .2) (parts-none Ways Ordered layers (c .before) (c .state) (c .steps) (w .0) e (w .1)) tt
+  pub shows-none : c .steps ≡ 0 → ShowsPart words heads links back f layers c Nothing
+  shows-none e m g n k held framed p l alive s = let w = s .live alive in
+      at-part m p l (w .0) none _ Nothing (w .2) (parts-none (Ways n) Ordered layers (c .before) (c .state) (c .steps) (w .0) e (w .1)) tt
 
   -- the step that is chosen is the first of what is left of the leg
-  step-is : (k : ℕ) (w : Walk) (r : Choice) → Ordered → Chooses (getD layers k 0) (Ways (c .state)) Ordered r → Descends Ways Ordered layers (c .state) (suc k) w
+  step-is : (n k : ℕ) (w : Walk) (r : Choice) → Ordered → Chooses (getD layers k 0) (Ways n (c .state)) Ordered r → Descends (Ways n) Ordered layers (c .state) (suc k) w
       → (t : Step) × (v : Walk) × (w ≡ t ∷ v) × Chosen (c .state) (some t) r
-  step-is k w Nothing o chooses d = absurd (descends-no-step Ways Ordered o layers (c .state) k w chooses d)
-  step-is k w (Taken kind value to) o chooses d = let s = descends-step Ways Ordered o layers (c .state) k kind value to w chooses d in
+  step-is n k w Nothing o chooses d = absurd (descends-no-step (Ways n) Ordered o layers (c .state) k w chooses d)
+  step-is n k w (Taken kind value to) o chooses d = let s = descends-step (Ways n) Ordered o layers (c .state) k kind value to w chooses d in
       (step (c .state) (named kind value) to, s .0, s .1, refl)
 
-  pub shows-step : (r : Choice) → 0 < c .steps → Chooses (getD layers (c .steps - 1) 0) (Ways (c .state)) Ordered r → ShowsPart highs lows n back f layers c r
-  shows-step r h chooses m g k held framed p l alive s =
+  pub shows-step : (r : Choice) → 0 < c .steps → ((n : ℕ) → BySource heads links words n → Chooses (getD layers (c .steps - 1) 0) (Ways n (c .state)) Ordered r)
+      → ShowsPart words heads links back f layers c r
+  shows-step r h chooses m g n k held framed p l alive s =
       let w = s .live alive in
       let e : c .steps ≡ suc (c .steps - 1) = omega arith in
-      let t = step-is (c .steps - 1) (w .0) r (held-order m g highs lows n back k f held framed) chooses (subst (λ (x : ℕ). Descends Ways Ordered layers (c .state) x (w .0)) e (w .1)) in
+      let t = step-is n (c .steps - 1) (w .0) r (held-order f held framed) (chooses n (held .chained)) (subst (λ (x : ℕ). Descends (Ways n) Ordered layers (c .state) x (w .0)) e (w .1)) in
       at-part m p l (w .0) (some (t .0)) _ r (w .2) (ap (leg-parts (c .before)) (t .2)) (t .3)

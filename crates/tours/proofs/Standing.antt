@@ -8,7 +8,7 @@ use native.Mathlib.Omega.{arith}
 use Rattle.orderings.specs.Steps.{Label, Step, members, Walk}
 use Rattle.machine.specs.Machine.{Machine}
 use Rattle.search.specs.Graph.{Graph}
-use Rattle.walks.specs.Choices.{Way, InOrder}
+use Rattle.walks.specs.Choices.{Way, SetsRise}
 use Rattle.walks.specs.Walks.{Descends}
 use Rattle.walks.proofs.Descending.{descends-end}
 use Rattle.tours.specs.declared.Shape.{Shape}
@@ -62,8 +62,8 @@ next-left m Whole P c to = refl
 next-left m (Tour q) P c to = refl
 next-left m Pieces P c to = refl
 
-module _ (m : Machine) (highs lows : List ℕ) (n : ℕ) (back : Graph) (f : Frame) (layers : List ℕ) (c : Cursor) (p : Part) (l : List Part)
-    (s : Stands m highs lows n back f layers c (p ∷ l)) where
+module _ (m : Machine) (words : List ℕ) (n : ℕ) (back : Graph) (f : Frame) (layers : List ℕ) (c : Cursor) (p : Part) (l : List Part)
+    (s : Stands m words n back f layers c (p ∷ l)) where
   stands-live : c .live ≡ true
   stands-live = go (c .live) refl
     where
@@ -72,10 +72,10 @@ module _ (m : Machine) (highs lows : List ℕ) (n : ℕ) (back : Graph) (f : Fra
       go false e = let z = s .ended e in let o : _≡_ {A = ℕ} 0 1 = cc in absurd (omega arith)
 
   abbrev W : ℕ → Label → ℕ → Type 0
-  W = Way highs n back (f .force)
+  W = Way words n back (f .force)
 
   abbrev Ordered : Type 0
-  Ordered = InOrder highs lows n back (f .force)
+  Ordered = SetsRise back (f .force)
 
   abbrev sep : ℕ
   sep = separator (f .shape)
@@ -92,12 +92,12 @@ module _ (m : Machine) (highs lows : List ℕ) (n : ℕ) (back : Graph) (f : Fra
       let e = w .2 ∙ ap (λ (x : List Part). x ++ tail) (o .1) in cc
 
   stands-last : (r : Cursor) (after : List ℕ) → c .steps ≤ 1
-      → Stands m highs lows n back f after r (parts-of sep sep (legs-from m (f .shape) (f .set) (c .stop) (members (c .rest) ++ members (c .later))))
-      → Stands m highs lows n back f after r l
-  stands-last r after h t = subst (Stands m highs lows n back f after r)
+      → Stands m words n back f after r (parts-of sep sep (legs-from m (f .shape) (f .set) (c .stop) (members (c .rest) ++ members (c .later))))
+      → Stands m words n back f after r l
+  stands-last r after h t = subst (Stands m words n back f after r)
       (sym (last-part h ∙ ap (parts-of sep sep) (left-is m (f .shape) (f .set) c (s .within stands-live)))) t
 
-  stands-more : (to : ℕ) → 1 < c .steps → LeadsTo to (p .step) → Stands m highs lows n back f layers (next c to) l
+  stands-more : (to : ℕ) → 1 < c .steps → LeadsTo to (p .step) → Stands m words n back f layers (next c to) l
   stands-more to h leads =
       let w = s .live stands-live in
       let two : c .steps ≡ suc (suc (c .steps - 2)) = omega arith in
@@ -125,11 +125,11 @@ module _ (m : Machine) (highs lows : List ℕ) (n : ℕ) (back : Graph) (f : Fra
 
 module _ (back : Graph) (f : Frame) (layers : List ℕ) (c : Cursor) (to : ℕ) where
   pub advances-more : 1 < c .steps → Advances back f layers c to layers (next c to)
-  advances-more h m g highs lows n k held framed p l s leads = stands-more m highs lows n back f layers c p l s to h leads
+  advances-more h m g words heads links n k held framed p l s leads = stands-more m words n back f layers c p l s to h leads
 
   pub advances-last : (after : List ℕ) (r : Cursor) (sep : ℕ) → c .steps ≤ 1 → sep ≡ separator (f .shape) → Comes back f sep (c .stop) (c .rest) (c .later) after r
       → Advances back f layers c to after r
-  advances-last after r sep h e comes m g highs lows n k held framed p l s leads =
-      stands-last m highs lows n back f layers c p l s r after h
-      (subst (λ (x : ℕ). Stands m highs lows n back f after r (parts-of x (separator (f .shape)) (legs-from m (f .shape) (f .set) (c .stop) (members (c .rest) ++ members (c .later))))) e
-      (comes m g highs lows n k held framed (left-coming (f .shape) (f .set) c (s .within (stands-live m highs lows n back f layers c p l s)))))
+  advances-last after r sep h e comes m g words heads links n k held framed p l s leads =
+      stands-last m words n back f layers c p l s r after h
+      (subst (λ (x : ℕ). Stands m words n back f after r (parts-of x (separator (f .shape)) (legs-from m (f .shape) (f .set) (c .stop) (members (c .rest) ++ members (c .later))))) e
+      (comes m g words heads links n k held framed (left-coming (f .shape) (f .set) c (s .within (stands-live m words n back f layers c p l s)))))

@@ -8,7 +8,7 @@ use Rattle.machine.specs.Machine.{Machine, open-claims}
 use Rattle.machine.specs.Search.{shortest}
 use Rattle.machine.specs.Expression.{walk-in}
 use Rattle.search.specs.Graph.{Graph}
-use Rattle.walks.specs.Choices.{Way, InOrder}
+use Rattle.walks.specs.Choices.{Way, SetsRise}
 use Rattle.walks.specs.Walks.{Descends}
 use Rattle.tours.specs.declared.Shape.{Shape}
 use Rattle.tours.specs.declared.Shape.the-variants.{Whole, Tour, Pieces}
@@ -33,8 +33,8 @@ LegWithin Pieces P a s = s ∈ P
 
 -- down the layers the leg is that of s
 abbrev pub LaysLegOf : Graph → Frame → ℕ → ℕ → List ℕ → Leg → Type 0
-LaysLegOf back f a s layers r = OfEach back f (λ m highs lows n. LegWithin (f .shape) (f .set) a s
-    → Descends (Way highs n back (f .force)) (InOrder highs lows n back (f .force)) layers (r .start) (r .steps) (leg-of m (f .shape) (f .set) a s))
+LaysLegOf back f a s layers r = OfEach back f (λ m words n. LegWithin (f .shape) (f .set) a s
+    → Descends (Way words n back (f .force)) (SetsRise back (f .force)) layers (r .start) (r .steps) (leg-of m (f .shape) (f .set) a s))
 
 -- the legs of states, one after another, from a on
 abbrev pub legs-from : Machine → Shape → ℕ → ℕ → List ℕ → List Walk
@@ -50,5 +50,5 @@ Coming Pieces P a rest later = (rest ⊆ P) × (later ⊆ P)
 
 -- at the first part of the legs of the states of rest, and then of later
 abbrev pub Comes : Graph → Frame → ℕ → ℕ → ℕ → ℕ → List ℕ → Cursor → Type 0
-Comes back f c a rest later layers r = OfEach back f (λ m highs lows n. Coming (f .shape) (f .set) a rest later
-    → Stands m highs lows n back f layers r (parts-of c (separator (f .shape)) (legs-from m (f .shape) (f .set) a (members rest ++ members later))))
+Comes back f c a rest later layers r = OfEach back f (λ m words n. Coming (f .shape) (f .set) a rest later
+    → Stands m words n back f layers r (parts-of c (separator (f .shape)) (legs-from m (f .shape) (f .set) a (members rest ++ members later))))

@@ -11,7 +11,7 @@ use Rattle.machine.specs.Machine.{Machine}
 use Rattle.search.specs.Graph.{Graph}
 use Rattle.walks.specs.declared.Choice.{Choice}
 use Rattle.walks.specs.declared.Choice.the-variants.{Taken, Nothing}
-use Rattle.walks.specs.Choices.{named, Way, InOrder}
+use Rattle.walks.specs.Choices.{named, Way, SetsRise}
 use Rattle.walks.specs.Walks.{Descends}
 use Rattle.tours.specs.declared.Shape.{Shape}
 use Rattle.tours.specs.declared.Shape.the-variants.{Whole, Tour, Pieces}
@@ -43,19 +43,19 @@ legs-left m (Tour q) P c = hops (λ a b. neighbour P a b m) (c .stop ∷ (member
 legs-left m Pieces P c = map (λ s. piece-of P s m) (members (c .rest) ++ members (c .later))
 
 -- the cursor stands before the parts l: the rest of a leg, down the layers, and the legs to come
-pub record Stands (m : Machine) (highs lows : List ℕ) (n : ℕ) (back : Graph) (f : Frame) (layers : List ℕ) (c : Cursor) (l : List Part) : Type 0 where
+pub record Stands (m : Machine) (words : List ℕ) (n : ℕ) (back : Graph) (f : Frame) (layers : List ℕ) (c : Cursor) (l : List Part) : Type 0 where
   pub ended : c .live ≡ false → l ≡ []
   pub within : c .live ≡ true → Within (f .shape) (f .set) c
-  pub live : c .live ≡ true → (w : Walk) × Descends (Way highs n back (f .force)) (InOrder highs lows n back (f .force)) layers (c .state) (c .steps) w
+  pub live : c .live ≡ true → (w : Walk) × Descends (Way words n back (f .force)) (SetsRise back (f .force)) layers (c .state) (c .steps) w
       × (l ≡ leg-parts (c .before) w ++ parts-of (separator (f .shape)) (separator (f .shape)) (legs-left m (f .shape) (f .set) c))
 
 -- of every machine that the arrays hold and that the frame is about
-abbrev pub OfEach : Graph → Frame → (Machine → List ℕ → List ℕ → ℕ → Type 0) → Type 0
-OfEach back f T = (m : Machine) (g : Graph) (highs lows : List ℕ) (n k : ℕ) → Held m g highs lows n back k → FramedBy m g k f → T m highs lows n
+abbrev pub OfEach : Graph → Frame → (Machine → List ℕ → ℕ → Type 0) → Type 0
+OfEach back f T = (m : Machine) (g : Graph) (words heads links : List ℕ) (n k : ℕ) → Held m g words heads links n back k → FramedBy m g k f → T m words n
 
 -- at the first part
 abbrev pub Begins : Graph → Frame → List ℕ → Cursor → Type 0
-Begins back f layers r = OfEach back f (λ m highs lows n. Stands m highs lows n back f layers r (parts m f))
+Begins back f layers r = OfEach back f (λ m words n. Stands m words n back f layers r (parts m f))
 
 -- the part leads to a state, if it has a step
 abbrev pub LeadsTo : ℕ → Option Step → Type 0
@@ -64,8 +64,8 @@ LeadsTo to (some t) = t .to ≡ to
 
 -- from a part that leads to a state, to the next
 abbrev pub Advances : Graph → Frame → List ℕ → Cursor → ℕ → List ℕ → Cursor → Type 0
-Advances back f before c to after r = OfEach back f (λ m highs lows n. (p : Part) (l : List Part) → Stands m highs lows n back f before c (p ∷ l)
-    → LeadsTo to (p .step) → Stands m highs lows n back f after r l)
+Advances back f before c to after r = OfEach back f (λ m words n. (p : Part) (l : List Part) → Stands m words n back f before c (p ∷ l)
+    → LeadsTo to (p .step) → Stands m words n back f after r l)
 
 -- the choice is the step of a part at a state
 abbrev pub Chosen : ℕ → Option Step → Choice → Type 0
@@ -75,9 +75,9 @@ Chosen a (some t) Nothing = ⊥
 Chosen a (some t) (Taken kind value to) = t ≡ step a (named kind value) to
 
 -- the part at the cursor: what stands before it, and its step
-abbrev pub ShowsPart : List ℕ → List ℕ → ℕ → Graph → Frame → List ℕ → Cursor → Choice → Type 0
-ShowsPart highs lows n back f layers c r = (m : Machine) (g : Graph) (k : ℕ) → Held m g highs lows n back k → FramedBy m g k f
-    → (p : Part) (l : List Part) → c .live ≡ true → Stands m highs lows n back f layers c (p ∷ l) → (p .before ≡ c .before) × Chosen (c .state) (p .step) r
+abbrev pub ShowsPart : List ℕ → List ℕ → List ℕ → Graph → Frame → List ℕ → Cursor → Choice → Type 0
+ShowsPart words heads links back f layers c r = (m : Machine) (g : Graph) (n k : ℕ) → Held m g words heads links n back k → FramedBy m g k f
+    → (p : Part) (l : List Part) → c .live ≡ true → Stands m words n back f layers c (p ∷ l) → (p .before ≡ c .before) × Chosen (c .state) (p .step) r
 
 -- a step that is chosen leads to a state, and its letter is a byte
 abbrev pub LowChoice : Choice → Type 0

@@ -20,18 +20,19 @@ use Rattle.search.specs.declared.Claims.{Claims}
 use Rattle.search.specs.Graph.{Graph, TurnedGraph}
 use Rattle.search.specs.Hops.{InnerClaims, all-mask}
 use Rattle.search.specs.Masked.{Masked, Forced, Initials, Finals}
-use Rattle.row_table.specs.Arrays.{Keyed}
-use Rattle.walks.specs.Choices.{Way, InOrder}
+use Rattle.row_table.specs.Letters.{LettersIn}
+use Rattle.walks.specs.Choices.{Way, BySource, SetsRise}
 use Rattle.walks.specs.Walks.{Descends}
 use Rattle.tours.specs.declared.Shape.{Shape}
 use Rattle.tours.specs.declared.Shape.the-variants.{Whole, Tour, Pieces}
 use Rattle.tours.specs.declared.Frame.{Frame}
 use Rattle.tours.specs.declared.legs.Leg.{Leg}
 
--- the arrays hold the machine: the keys of its rows, and its graph, turned round
-pub record Held (m : Machine) (g : Graph) (highs lows : List ℕ) (n : ℕ) (back : Graph) (k : ℕ) : Type 0 where
+-- the arrays hold the machine: the words of its letter rows, chained by the states that they start from, and its graph, turned round
+pub record Held (m : Machine) (g : Graph) (words heads links : List ℕ) (n : ℕ) (back : Graph) (k : ℕ) : Type 0 where
   pub formed : WellFormed m
-  pub keyed : Keyed (m .rows) highs lows n
+  pub letters : LettersIn (m .rows) words n
+  pub chained : BySource heads links words n
   pub turned : TurnedGraph g back
   pub masked : Masked (m .rows) g k
   pub count : length (standing-sets (m .rows)) ≡ k
@@ -90,6 +91,6 @@ pub record LowLeg (r : Leg) : Type 0 where
 
 -- down the layers the leg is the walk of every machine that the arrays hold
 abbrev pub LaysLeg : Graph → Shape → ℕ → ℕ → ℕ → Claims → (Machine → Walk) → List ℕ → Leg → Type 0
-LaysLeg back shape P starts ends force walk layers r = (m : Machine) (g : Graph) (highs lows : List ℕ) (n k : ℕ)
-    → Held m g highs lows n back k → Framed m g k shape P starts ends force
-    → Descends (Way highs n back force) (InOrder highs lows n back force) layers (r .start) (r .steps) (walk m)
+LaysLeg back shape P starts ends force walk layers r = (m : Machine) (g : Graph) (words heads links : List ℕ) (n k : ℕ)
+    → Held m g words heads links n back k → Framed m g k shape P starts ends force
+    → Descends (Way words n back force) (SetsRise back force) layers (r .start) (r .steps) (walk m)

@@ -4,6 +4,7 @@ pub mod legs;
 use crate::legs::LAYERS;
 use crate::legs::Leg;
 use machine::MOST_ROWS;
+use masks::STATES;
 use masks::Set;
 use masks::take_lowest;
 use search::Claims;
@@ -15,6 +16,7 @@ ghost use Prim.Native.Nat.{ℕ, _+_, _*_, _≤_, _<_};
 ghost use mathlib.Core.Logic.{_↔_};
 ghost use Rattle.masks.specs.Mask.{_∈_};
 ghost use Rattle.search.specs.Graph.{graph-of, Indexed};
+ghost use Rattle.walks.specs.Choices.{Chained};
 ghost use Rattle.tours.specs.Frames.{LowShape, LowLeg};
 ghost use Rattle.tours.specs.Parts.{separator};
 ghost use Rattle.tours.specs.Cursors.{Low, size-of, Begins, Advances, ShowsPart, LowChoice};
@@ -228,29 +230,30 @@ pub fn advance(
     )
 }
 
-// The step at the cursor: the first one into the next layer. There is none where the leg has no steps.
+// The step at the cursor: the first one into the next layer. There is none where the leg has no steps. The letter rows are chained by the
+// states that they start from.
 pub fn step_at(
-    high: &[u64; MOST_ROWS],
-    low: &[u64; MOST_ROWS],
-    row_count: usize,
+    words: &[u64; MOST_ROWS],
+    first: &[u16; STATES],
+    next: &[u16; MOST_ROWS],
     back: &Masks,
     frame: Frame,
     cursor: Cursor,
     layers: &[Set; LAYERS],
 ) -> Choice
-    requires { ⌜ («row_count» ≤ 256) × Low cursor ⌝ }
+    requires { ⌜ Low cursor × Chained (now first) (now next) (now words) ⌝ }
     ensures low { λ r. ⌜ LowChoice r ⌝ }
-    ensures shows { λ r. ⌜ ShowsPart (now (high .entry)) (now (low .entry)) «row_count» (graph-of (now (back .entry)))
-        frame (now (layers .entry)) cursor r ⌝ }
+    ensures shows { λ r. ⌜ ShowsPart (now (words .entry)) (now (first .entry)) (now (next .entry))
+        (graph-of (now (back .entry))) frame (now (layers .entry)) cursor r ⌝ }
 {
     let k = cursor.steps;
     if k == 0 {
         return Choice::Nothing;
     }
     walks::first_step(
-        high,
-        low,
-        row_count,
+        words,
+        first,
+        next,
         back,
         frame.force,
         cursor.state,

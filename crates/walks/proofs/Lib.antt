@@ -1,6 +1,5 @@
 -- The laws that the proofs of `walks` share.
 pub mod Layers
-pub mod Letters
 pub mod Choices
 pub mod Following
 pub mod Descending

@@ -1,4 +1,4 @@
--- Arrays that stand for rows and claims: their order (`sets-rise-in`, `in-order`), keys as words of letter rows (`keyed-letters`), and the steps
+-- Arrays that stand for rows and claims: their order (`sets-rise-in`), keys as words of letter rows (`keyed-letters`), and the steps
 -- inside a set that they have (`way-can`, `can-way`, `can-ahead`, `ahead-can`).
 use Prim.Native.Nat.{ℕ, _<_}
 use mathlib.Core.Path.{_≡_, refl, sym, subst, _∙_}
@@ -29,9 +29,9 @@ use Rattle.search.proofs.Hops.{hop-back, hop-turn}
 use Rattle.search.proofs.Steps.{mix-rows, set-in, and-in, hop-step, step-hop}
 use Rattle.row_table.specs.Arrays.{Keyed}
 use Rattle.row_table.specs.Letters.{LetterAt, LettersIn}
-use Rattle.row_table.proofs.Keys.{none, ascending, row-at}
+use Rattle.row_table.proofs.Keys.{none, row-at}
 use Rattle.walks.specs.Layers.{Ahead}
-use Rattle.walks.specs.Choices.{Way, SetsRise, InOrder}
+use Rattle.walks.specs.Choices.{Way, SetsRise}
 
 -- a step of the rows inside p, with the claims in force
 abbrev pub Can : List Row → List Claim → ℕ → ℕ → Label → ℕ → Type 0
@@ -135,8 +135,3 @@ module _ {g b : Graph} (turned : TurnedGraph g b) {all force : Claims} {rows : L
 
   pub ahead-can : (s t : ℕ) → Ahead b force p s t → (l : Label) × Can rows claims p s l t
   ahead-can s t h = let r = hop-step (is .masked) (is .forced) p inner s t (hop-back turned t s h) in (r .0, (r .1, r .2, r .3))
-
--- the rows stand in order, and so do the sets
-pub in-order : {g b : Graph} → TurnedGraph g b → {all force : Claims} {rows : List Row} {claims : List Claim} {k : ℕ} → Stands g all rows claims k → length (standing-sets rows) ≡ k
-    → {highs lows : List ℕ} {n : ℕ} → Keyed rows highs lows n → Table rows → {p : ℕ} → InnerClaims g all p force → InOrder highs lows n b force
-in-order turned {rows = rows} is count {highs} {lows} {n} keyed table inner = (ascending rows highs lows n keyed table, sets-rise-in turned is count (keyed-letters keyed table) inner)

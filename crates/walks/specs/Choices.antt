@@ -7,7 +7,6 @@ use lib.ListN.{getD}
 use Rattle.lists.specs.Order.{_≺_}
 use Rattle.chains.specs.Chains.{Chains}
 use Rattle.masks.specs.Mask.{_∈_}
-use Rattle.sorted_keys.specs.Keys.{Ascending}
 use Rattle.rows.specs.declared.Row.{Row}
 use Rattle.rows.specs.declared.Row.the-variants.{Initial, Final, Successor, LeftLimit, RightLimit, Strike}
 use Rattle.rows.specs.Keys.{row-from}
@@ -78,12 +77,6 @@ pub record Better (a layer best word r : ℕ) : Type 0 where
   pub keeps : best ≢ 0 → (r ≢ 0) × (r ≤ best)
   pub gains : Into a layer word → (r ≢ 0) × (r ≤ word)
 
--- where the keys stand in order, those before the place r have high words less than h, and the others have not
-pub record RowsFrom (high low : List ℕ) (n h r : ℕ) : Type 0 where
-  pub within : r ≤ n
-  pub before : Ascending high low n → (j : ℕ) → j < r → getD high j 0 < h
-  pub behind : Ascending high low n → (j : ℕ) → r ≤ j → j < n → h ≤ getD high j 0
-
 -- of two places the higher has the greater set
 abbrev pub RisingAt : List ℕ → ℕ → Type 0
 RisingAt layers places = (i j : ℕ) → i ∈ places → j ∈ places → i < j → getD layers i 0 < getD layers j 0
@@ -110,10 +103,6 @@ PickedPass l here there places a layer kind r =
 -- the sets of the claims in force stand in order
 abbrev pub SetsRise : Graph → Claims → Type 0
 SetsRise b force = RisingAt (b .sets) (force .loops) × RisingAt (b .sets) (force .mixes)
-
--- the rows stand in order, and so do the sets
-abbrev pub InOrder : List ℕ → List ℕ → ℕ → Graph → Claims → Type 0
-InOrder high low n b force = Ascending high low n × SetsRise b force
 
 -- what is chosen is a step into the layer, and by kind, letter or set, and target none comes before it; or there is none
 abbrev pub Chooses : ℕ → (Label → ℕ → Type 0) → Type 0 → Choice → Type 0

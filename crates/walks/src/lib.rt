@@ -20,11 +20,10 @@ ghost use Prim.Native.Nat.{ℕ, _≤_, _<_};
 ghost use lib.ListN.{length, replicate};
 ghost use Rattle.rows.specs.Keys.{row-from};
 ghost use Rattle.masks.specs.Mask.{member, _∈_};
-ghost use Rattle.sorted_keys.specs.Keys.{Ascending};
 ghost use Rattle.search.specs.Graph.{graph-of, Indexed};
 ghost use Rattle.walks.specs.Layers.{Ahead, Lays};
 ghost use Rattle.walks.specs.Choices.{Way, ClaimWay, source, BySource, Chained, Better, as-step};
-ghost use Rattle.walks.specs.Choices.{RowsFrom, Picked, PickedPass, SetsRise, InOrder, Chooses};
+ghost use Rattle.walks.specs.Choices.{Picked, PickedPass, SetsRise, Chooses};
 ghost use Rattle.row_table.specs.Letters.{LetterAt};
 ghost use Rattle.walks.specs.Walks.{Bounded, Follows, FirstWalk};
 use masks::difference;
@@ -34,10 +33,7 @@ use masks::lowest;
 use masks::take_lowest;
 use masks::union;
 use rows::Row;
-use rows::high_of;
 use rows::row_of;
-use sorted_keys::Place;
-use sorted_keys::find_key;
 
 // Where the shortest walk of one or more steps starts, the lowest such state, and how many steps it has; or that there is none.
 pub enum Course {
@@ -92,47 +88,6 @@ fn in_layer(layer: Set, t: u8) -> bool
     ensures { λ r. ⌜ r ≡ member t layer ⌝ }
 {
     if t < NO_STATE { has(layer, t) } else { false }
-}
-
-// The place of the first row whose key is no less than `h`, where the keys stand in order.
-fn rows_from(high: &[u64; MOST_ROWS], low: &[u64; MOST_ROWS], row_count: usize, h: u64) -> usize
-    requires { ⌜ «row_count» ≤ 256 ⌝ }
-    ensures { λ r. ⌜ RowsFrom (now (high .entry)) (now (low .entry)) «row_count» h r ⌝ }
-{
-    match find_key(high, low, row_count, h, 0) {
-        Place::At(i) => i,
-        Place::Gap(i) => i,
-    }
-}
-
-// The first letter step from `a` into `layer`: the rows of `a` stand together, by letter and then by target.
-fn first_letter(
-    high: &[u64; MOST_ROWS],
-    low: &[u64; MOST_ROWS],
-    row_count: usize,
-    a: u8,
-    layer: Set,
-) -> Choice
-    requires { ⌜ («row_count» ≤ 256) × (a < 64) ⌝ }
-    ensures { λ r. ⌜ Picked layer (LetterAt (now (high .entry)) «row_count» a) 0
-        (Ascending (now (high .entry)) (now (low .entry)) «row_count») r ⌝ }
-{
-    let least = high_of(Row::Successor(a, 0, 0));
-    let mut i = rows_from(high, low, row_count, least);
-    while i < row_count {
-        // The second word of a letter row's key says nothing.
-        let Row::Successor(from, letter, to) = row_of(high[i], 0) else {
-            return Choice::Nothing;
-        };
-        if from != a {
-            return Choice::Nothing;
-        }
-        if in_layer(layer, to) {
-            return Choice::Taken(0, letter as u64, to);
-        }
-        i += 1;
-    }
-    Choice::Nothing
 }
 
 // The states of `there` and `layer` where `here` has `a`, else none.
@@ -190,27 +145,6 @@ fn first_claim(back: &Masks, force: Claims, a: u8, layer: Set) -> Choice
     first_pass(back, LEFTS, RIGHTS, force.mixes, a, layer, 3)
 }
 
-// The first step from `a` into `layer`: by kind, then by letter or set, then by target.
-pub fn first_step(
-    high: &[u64; MOST_ROWS],
-    low: &[u64; MOST_ROWS],
-    row_count: usize,
-    back: &Masks,
-    force: Claims,
-    a: u8,
-    layer: Set,
-) -> Choice
-    requires { ⌜ («row_count» ≤ 256) × (a < 64) ⌝ }
-    ensures { λ r. ⌜ Chooses layer (Way (now (high .entry)) «row_count» (graph-of (now (back .entry))) force a)
-        (InOrder (now (high .entry)) (now (low .entry)) «row_count» (graph-of (now (back .entry))) force) r ⌝ }
-{
-    let letter = first_letter(high, low, row_count, a, layer);
-    let Choice::Nothing = letter else {
-        return letter;
-    };
-    first_claim(back, force, a, layer)
-}
-
 // The state that a letter row starts from; 0 for a row of another kind.
 fn source(row: Row) -> u8
     ensures is { λ r. ⌜ r ≡ source row ⌝ }
@@ -226,8 +160,8 @@ fn source(row: Row) -> u8
     }
 }
 
-// Chains the first `n` words by the states that they start from.
-fn by_source(
+// Chains the first `count` words by the states that they start from.
+pub fn by_source(
     words: &[u64; MOST_ROWS],
     count: usize,
     first: &mut [u16; STATES],
@@ -298,8 +232,9 @@ fn first_chained(
     letter_of(row_of(best, 0))
 }
 
-// The first step from `a` into `layer`, where the letter rows are chained by the states that they start from.
-fn step_from(
+// The first step from `a` into `layer`, by kind, then by letter or set, then by target. The letter rows are chained by the states that they
+// start from.
+pub fn first_step(
     words: &[u64; MOST_ROWS],
     first: &[u16; STATES],
     next: &[u16; MOST_ROWS],
@@ -368,7 +303,7 @@ fn follow(
     let mut i = 0;
     while i < d {
         let layer = layers[d - 1 - i];
-        let step = step_from(words, &first, &next, back, force, a, layer);
+        let step = first_step(words, &first, &next, back, force, a, layer);
         let Choice::Taken(kind, value, target) = step else {
             break;
         };

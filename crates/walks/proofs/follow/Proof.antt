@@ -33,8 +33,8 @@ loop-holds c = (
   },
 )
 
-step-from-requires : tie.Need-step-from-requires Inv-loop μ-loop
-step-from-requires c κs = let at = c .before .before .before .before in (at .loop .inv .1 .low, (at .before .before .before .before .args .count, at .loop .inv .0))
+first-step-requires : tie.Need-first-step-requires Inv-loop μ-loop
+first-step-requires c κs = let at = c .before .before .before .before in (at .loop .inv .1 .low, (at .before .before .before .before .args .count, at .loop .inv .0))
 
 loop-again : tie.Need-loop-again Inv-loop μ-loop
 loop-again c =
@@ -48,7 +48,7 @@ loop-again c =
       at .inv .0,
       take-more (Way (now (a .words)) (a .count) (graph-of (now (a .back))) (a .force)) (SetsRise (graph-of (now (a .back))) (a .force)) (now (a .layers)) (a .start) (a .d)
           (at .kinds) (at .values) (at .targets) (at .a) (at .i) (x .0 .0) (x .0 .1 .0) (x .0 .1 .1 .0) (turn .loop-test .taken) (s .pre .2) (at .inv .1)
-          (rw (x .1) at (step .step-from .ensures (a .count) (at .inv .0))),
+          (rw (x .1) at (step .first-step .ensures (a .count) (at .inv .0))),
     )
 
 returns : tie.Need-returns Inv-loop μ-loop
@@ -67,7 +67,7 @@ returns-2 c =
       begins = refl;
       within = at .inv .1 .within;
       chosen = at .inv .1 .chosen;
-      stopped = inr (turn .loop-test .taken, rw (sym (at .inv .1 .state)) (rw (c .enum-told .given .1) at (step .step-from .ensures (p .before .before .before .before .args .count) (at .inv .0))));
+      stopped = inr (turn .loop-test .taken, rw (sym (at .inv .1 .state)) (rw (c .enum-told .given .1) at (step .first-step .ensures (p .before .before .before .before .args .count) (at .inv .0))));
     }
 
 pub follow-spec : {M : Type 1} → statement M
@@ -82,7 +82,7 @@ follow-spec =
     (λ c. search needs)
     (λ c. search needs)
     (λ c. search needs)
-    step-from-requires
+    first-step-requires
     (λ c. search needs)
     (λ c. search needs)
     (λ c. search needs)

@@ -11,15 +11,15 @@ use Rattle.expression.proofs.lengths.note_round.Statement.{statement}
 use Rattle.expression.proofs.lengths.note_round.Tie as tie
 
 abbrev Inv-loop : tie.InvT-loop
-Inv-loop bytes₀ high low row-count back opened set-count round most slot₀ bytes slot =
-    (slot ≤ 128) × (length bytes ≡ 128) × NotesBelow high low row-count (graph-of back) set-count opened round most bytes₀ slot bytes
+Inv-loop bytes₀ words first next back opened set-count round most slot₀ bytes slot =
+    (slot ≤ 128) × (length bytes ≡ 128) × NotesBelow words first next (graph-of back) set-count opened round most bytes₀ slot bytes
 
 abbrev μ-loop : tie.MeasureT-loop
-μ-loop bytes₀ high low row-count back opened set-count round most slot₀ bytes slot = 128 - slot
+μ-loop bytes₀ words first next back opened set-count round most slot₀ bytes slot = 128 - slot
 
 loop-holds : tie.Need-loop-holds Inv-loop μ-loop
 loop-holds c = let a = c .args in
-    (omega arith, c .pre .3, note-start (a .high .now) (a .low .now) (a .row-count) (graph-of (a .back .now)) (a .set-count) (a .opened .now) (a .round) (a .most) (a .bytes .now))
+    (omega arith, c .pre .3, note-start (a .words .now) (a .first .now) (a .next .now) (graph-of (a .back .now)) (a .set-count) (a .opened .now) (a .round) (a .most) (a .bytes .now))
 
 of-frame-requires : tie.Need-of-frame-requires Inv-loop μ-loop
 of-frame-requires c κs = let place = c .before in let p = place .before .before .before .before .before .pre in (p .0, p .1, place .of-place .ensures .0, p .4)
@@ -38,13 +38,13 @@ loop-again c =
     (λ w. (
       omega (arith, enter .loop-test .taken),
       rw (w .5) (length-set bytes slot (w .4 .result) ∙ inv .1),
-      rw (w .5) (note-more (a .high .now) (a .low .now) (a .row-count) b (a .set-count) (a .opened .now) (a .round) (a .most) (a .bytes .now) slot bytes (w .1 .result) (w .3 .result) (w .4 .result)
+      rw (w .5) (note-more (a .words .now) (a .first .now) (a .next .now) b (a .set-count) (a .opened .now) (a .round) (a .most) (a .bytes .now) slot bytes (w .1 .result) (w .3 .result) (w .4 .result)
           (inv .2) (inv .1) (enter .loop-test .taken) (start .pre .2) (w .0 .taken) (w .1 .ensures .1) (w .3 .ensures) (w .4 .ensures)),
     ))
     (λ w. (
       omega (arith, enter .loop-test .taken),
       rw (w .1) (inv .1),
-      rw (w .1) (note-past (a .high .now) (a .low .now) (a .row-count) b (a .set-count) (a .opened .now) (a .round) (a .most) (a .bytes .now) slot bytes (inv .2) (w .0 .left)),
+      rw (w .1) (note-past (a .words .now) (a .first .now) (a .next .now) b (a .set-count) (a .opened .now) (a .round) (a .most) (a .bytes .now) slot bytes (inv .2) (w .0 .left)),
     ))
     (c .if1 .came)
 
@@ -54,7 +54,7 @@ returns c =
     let a = at .before .args in
     let inv = at .loop .inv in (
       inv .1,
-      note-end (a .high .now) (a .low .now) (a .row-count) (graph-of (a .back .now)) (a .set-count) (a .opened .now) (a .round) (a .most) (a .bytes .now) (at .loop .slot) (at .loop .bytes) (inv .2) (c .loop-test .left),
+      note-end (a .words .now) (a .first .now) (a .next .now) (graph-of (a .back .now)) (a .set-count) (a .opened .now) (a .round) (a .most) (a .bytes .now) (at .loop .slot) (at .loop .bytes) (inv .2) (c .loop-test .left),
     )
 
 pub note-round-spec : {M : Type 1} → statement M

@@ -8,21 +8,21 @@ use Rattle.expression.proofs.lengths.of_frame.Statement.{statement}
 use Rattle.expression.proofs.lengths.of_frame.Tie as tie
 
 abbrev Inv-loop : tie.InvT-loop
-Inv-loop high low row-count back set-count bytes frame most layers₀ cursor₀ length₀ layers cursor length =
-    Low cursor × Sums high low row-count (graph-of back) set-count bytes frame most layers cursor length
+Inv-loop words first next back set-count bytes frame most layers₀ cursor₀ length₀ layers cursor length =
+    Low cursor × Sums words first next (graph-of back) set-count bytes frame most layers cursor length
 
 abbrev μ-loop : tie.MeasureT-loop
-μ-loop high low row-count back set-count bytes frame most layers₀ cursor₀ length₀ layers cursor length = size-of cursor
+μ-loop words first next back set-count bytes frame most layers₀ cursor₀ length₀ layers cursor length = size-of cursor
 
 loop-holds : tie.Need-loop-holds Inv-loop μ-loop
 loop-holds c =
     let a = c .before .before .args in (
       c .begin .ensures .0,
-      sum-start (a .high .now) (a .low .now) (a .row-count) (graph-of (a .back .now)) (a .set-count) (a .bytes .now) (a .frame) (a .most) _ (c .begin .result) (c .begin .ensures .1),
+      sum-start (a .words .now) (a .first .now) (a .next .now) (graph-of (a .back .now)) (a .set-count) (a .bytes .now) (a .frame) (a .most) _ (c .begin .result) (c .begin .ensures .1),
     )
 
 step-at-requires : tie.Need-step-at-requires Inv-loop μ-loop
-step-at-requires c κs = let at = c .before .before in (at .before .before .before .pre .0, at .loop .inv .0)
+step-at-requires c κs = let at = c .before .before in (at .loop .inv .0, at .before .before .before .pre .0)
 
 plus-step-requires : tie.Need-plus-step-requires Inv-loop μ-loop
 plus-step-requires c κs = c .before .before .before .before .before .before .before .pre .1
@@ -46,7 +46,7 @@ loop-again c =
     let at = enter .before in
     let a = at .before .before .before .args in (
       c .advance .ensures .0,
-      sum-more (a .high .now) (a .low .now) (a .row-count) (graph-of (a .back .now)) (a .set-count) (a .bytes .now) (a .frame) (a .most) (at .loop .layers) (at .loop .cursor) (at .loop .length)
+      sum-more (a .words .now) (a .first .now) (a .next .now) (graph-of (a .back .now)) (a .set-count) (a .bytes .now) (a .frame) (a .most) (at .loop .layers) (at .loop .cursor) (at .loop .length)
           (before .plus-before .result) (step .plus-step .result) (choice .step-at .result) (target .target .result) _ (c .advance .result) (enter .loop-test .taken) (at .loop .inv .1)
           (choice .step-at .ensures .1) (before .plus-before .ensures) (step .plus-step .ensures) (target .target .ensures .1) (c .advance .ensures .1 .1),
     )
@@ -55,7 +55,7 @@ returns : tie.Need-returns Inv-loop μ-loop
 returns c =
     let at = c .before in
     let a = at .before .before .before .args in
-    sum-end (a .high .now) (a .low .now) (a .row-count) (graph-of (a .back .now)) (a .set-count) (a .bytes .now) (a .frame) (a .most) (at .loop .layers) (at .loop .cursor) (at .loop .length) (c .loop-test .left) (at .loop .inv .1)
+    sum-end (a .words .now) (a .first .now) (a .next .now) (graph-of (a .back .now)) (a .set-count) (a .bytes .now) (a .frame) (a .most) (at .loop .layers) (at .loop .cursor) (at .loop .length) (c .loop-test .left) (at .loop .inv .1)
 
 pub of-frame-spec : {M : Type 1} → statement M
 of-frame-spec =

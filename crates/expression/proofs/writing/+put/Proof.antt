@@ -26,14 +26,14 @@ use Rattle.tours.proofs.step_at.Reads as step-at-reads
 use Rattle.expression.proofs.writing.+put.{statement}
 use Rattle.expression.proofs.writing.+put.Tie.{close}
 
-abbrev μ-put : Measures 5 put-kinds.ps ℕ
+abbrev μ-put : Measures 6 put-kinds.ps ℕ
 μ-put κs a = a .1 .1 .1 .1 .1 .1 .1 .0 .round
 
-abbrev put-at : ℕ → In 5 put-kinds.ps
-put-at t = and 5 put-kinds.ps (is 5 put-kinds.ps μ-put t) put.Pre
+abbrev put-at : ℕ → In 6 put-kinds.ps
+put-at t = and 6 put-kinds.ps (is 6 put-kinds.ps μ-put t) put.Pre
 
-abbrev put-below : ℕ → In 5 put-kinds.ps
-put-below t = and 5 put-kinds.ps (falls 5 put-kinds.ps _<_ μ-put t) put.Pre
+abbrev put-below : ℕ → In 6 put-kinds.ps
+put-below t = and 6 put-kinds.ps (falls 6 put-kinds.ps _<_ μ-put t) put.Pre
 
 -- what is asked and learnt of the functions that are called
 abbrev calls : ℕ → put-lts.Claims
@@ -59,11 +59,11 @@ calls t = (
 )
 
 abbrev put-Inv-loop : put-lts.InvT-loop
-put-Inv-loop buf₀ high low row-count back opened set-count frame layers₀ cursor₀ at₀ buf layers cursor at =
-    (at ≤ length buf) × (length buf ≡ length buf₀) × Low cursor × Going high low row-count (graph-of back) set-count opened frame buf₀ layers cursor buf at
+put-Inv-loop buf₀ words first next back opened set-count frame layers₀ cursor₀ at₀ buf layers cursor at =
+    (at ≤ length buf) × (length buf ≡ length buf₀) × Low cursor × Going words first next (graph-of back) set-count opened frame buf₀ layers cursor buf at
 
 abbrev put-μ-loop : put-lts.MeasureT-loop
-put-μ-loop buf₀ high low row-count back opened set-count frame layers₀ cursor₀ at₀ buf layers cursor at = size-of cursor
+put-μ-loop buf₀ words first next back opened set-count frame layers₀ cursor₀ at₀ buf layers cursor at = size-of cursor
 
 put-begin-requires : (t : ℕ) → put-lts.Need-begin-requires (calls t) (put-at t) put.Post put-Inv-loop put-μ-loop
 put-begin-requires t c κs = let p = c .before .before .pre .1 in (p .2, p .3)
@@ -71,10 +71,10 @@ put-begin-requires t c κs = let p = c .before .before .pre .1 in (p .2, p .3)
 put-loop-holds : (t : ℕ) → put-lts.Need-loop-holds (calls t) (put-at t) put.Post put-Inv-loop put-μ-loop
 put-loop-holds t c =
     let a = c .before .before .before .args in
-    (omega arith, refl, c .begin .ensures .0, going-start (a .high .now) (a .low .now) (a .row-count) (graph-of (a .back .now)) (a .set-count) (a .opened .now) (a .frame) (a .buf .now) (c .begin .last .1 .1 .0) (c .begin .result) (c .begin .ensures .1))
+    (omega arith, refl, c .begin .ensures .0, going-start (a .words .now) (a .first .now) (a .next .now) (graph-of (a .back .now)) (a .set-count) (a .opened .now) (a .frame) (a .buf .now) (c .begin .last .1 .1 .0) (c .begin .result) (c .begin .ensures .1))
 
 put-step-at-requires : (t : ℕ) → put-lts.Need-step-at-requires (calls t) (put-at t) put.Post put-Inv-loop put-μ-loop
-put-step-at-requires t c κs = (c .before .before .before .before .before .before .pre .1 .0, c .before .before .loop .inv .2)
+put-step-at-requires t c κs = (c .before .before .loop .inv .2, c .before .before .before .before .before .before .pre .1 .0)
 
 put-open-at-requires : (t : ℕ) → put-lts.Need-open-at-requires (calls t) (put-at t) put.Post put-Inv-loop put-μ-loop
 put-open-at-requires t c κs = tt
@@ -122,7 +122,7 @@ put-loop-less t c = c .advance .ensures .1 .0 (c .before .before .before .before
 -- what the frame's claim has written within the part
 inner : (t : ℕ) (c : put-lts.Joined1 (calls t) (put-at t) put.Post put-Inv-loop put-μ-loop)
     → let p = c .before .before .before .before .before in let a = p .before .before .before .before .before .before .before .before .before .args in
-    InnerPut (a .high .now) (a .low .now) (a .row-count) (graph-of (a .back .now)) (a .set-count) (a .opened .now) (a .frame) (c .before .before .of-step .result) (p .open-at .last .0) (c .if1 .buf) (p .open-at .result) (c .if1 .at)
+    InnerPut (a .words .now) (a .first .now) (a .next .now) (graph-of (a .back .now)) (a .set-count) (a .opened .now) (a .frame) (c .before .before .of-step .result) (p .open-at .last .0) (c .if1 .buf) (p .open-at .result) (c .if1 .at)
 inner t c =
     let p = c .before .before .before .before .before in
     let h = p .before .before .before .before .before in
@@ -130,9 +130,9 @@ inner t c =
     let r = c .before .before .of-step .result in
     let e = c .before .is-earlier .ensures in
     ⊎-elim
-    (λ v. rw (v .5, v .6) (inner-put (a .high .now) (a .low .now) (a .row-count) (graph-of (a .back .now)) (a .set-count) (a .opened .now) (a .frame) r (p .open-at .last .0) (p .open-at .result) (v .2 .last .0) (v .2 .result)
+    (λ v. rw (v .5, v .6) (inner-put (a .words .now) (a .first .now) (a .next .now) (graph-of (a .back .now)) (a .set-count) (a .opened .now) (a .frame) r (p .open-at .last .0) (p .open-at .result) (v .2 .last .0) (v .2 .result)
     (p .open-at .ensures .within (h .loop .inv .0)) (e .to (v .0 .taken) .0) (v .2 .ensures .0) (v .2 .ensures .1 .0) (v .2 .ensures .1 .1)))
-    (λ v. rw (v .1, v .2) (inner-skip (a .high .now) (a .low .now) (a .row-count) (graph-of (a .back .now)) (a .set-count) (a .opened .now) (a .frame) r (p .open-at .last .0) (p .open-at .result) (no· (rw (v .0 .left) at e))))
+    (λ v. rw (v .1, v .2) (inner-skip (a .words .now) (a .first .now) (a .next .now) (graph-of (a .back .now)) (a .set-count) (a .opened .now) (a .frame) r (p .open-at .last .0) (p .open-at .result) (no· (rw (v .0 .left) at e))))
     (c .if1 .came)
 
 put-loop-again : (t : ℕ) → put-lts.Need-loop-again (calls t) (put-at t) put.Post put-Inv-loop put-μ-loop
@@ -148,7 +148,7 @@ put-loop-again t c =
       d .ensures .within (i .within (o .open-at .ensures .within (l .inv .0))),
       d .ensures .length-is ∙ (i .length-is ∙ (o .open-at .ensures .length-is ∙ l .inv .1)),
       c .advance .ensures .0,
-      going-more (a .high .now) (a .low .now) (a .row-count) (graph-of (a .back .now)) (a .set-count) (a .opened .now) (a .frame) (a .buf .now) (l .layers) (l .cursor) (l .buf) (l .at) (l .inv .3) (l .inv .1) (q .before .before .loop-test .taken)
+      going-more (a .words .now) (a .first .now) (a .next .now) (graph-of (a .back .now)) (a .set-count) (a .opened .now) (a .frame) (a .buf .now) (l .layers) (l .cursor) (l .buf) (l .at) (l .inv .3) (l .inv .1) (q .before .before .loop-test .taken)
           (q .step-at .result) (q .step-at .ensures .1) (o .open-at .last .0) (o .open-at .result) (o .open-at .ensures)
           (j .before .before .of-step .result) (j .before .before .of-step .ensures .1) (j .if1 .buf) (j .if1 .at) i (d .last .0) (d .result) (d .ensures)
           (c .before .before .target .result) (c .before .before .target .ensures .1) (c .advance .last .1 .1 .1 .1 .0) (c .advance .result) (c .advance .ensures .1 .1),
@@ -161,7 +161,7 @@ put-returns : (t : ℕ) → put-lts.Need-returns (calls t) (put-at t) put.Post p
 put-returns t c =
     let l = c .before .loop in
     let a = c .before .before .before .before .before .args in
-    (l .inv .1, (l .inv .0, going-end (a .high .now) (a .low .now) (a .row-count) (graph-of (a .back .now)) (a .set-count) (a .opened .now) (a .frame) (a .buf .now) (l .layers) (l .cursor) (l .buf) (l .at) (l .inv .3) (c .loop-test .left)))
+    (l .inv .1, (l .inv .0, going-end (a .words .now) (a .first .now) (a .next .now) (graph-of (a .back .now)) (a .set-count) (a .opened .now) (a .frame) (a .buf .now) (l .layers) (l .cursor) (l .buf) (l .at) (l .inv .3) (c .loop-test .left)))
 
 pub +put-spec : {M : Type 1} → statement M
 +put-spec = close μ-put λ t. put-lts.spec (calls t)

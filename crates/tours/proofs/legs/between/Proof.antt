@@ -18,7 +18,7 @@ returns c =
     let r = c .one-or-more .result in
     let o = c .one-or-more .ensures .1 in (
       small-low r (one-small (Ahead (graph-of (now (a .back))) (a .force) (a .p)) from to _ r (a .a) (d .before .pre .0) o),
-      λ q starts ends ha hb m g highs lows n k held framed. between-down held framed (a .a) (a .b) ha hb from to (d .with .ensures) (e .with2 .ensures) (a .a) _ r o,
+      λ q starts ends ha hb m g words heads links n k held framed. between-down held framed (a .a) (a .b) ha hb from to (d .with .ensures) (e .with2 .ensures) (a .a) _ r o,
     )
 
 pub between-spec : {M : Type 1} → statement M

@@ -37,7 +37,7 @@ returns c =
     let r = to d .one-or-more2 .result in
     let t = to d .one-or-more2 .ensures .1 in (
       small-low r (one-small (Ahead (graph-of (now (a .back))) (a .force) (a .p)) (others d .difference .result) (alone d .with .result) _ r (a .s) (low s) t),
-      λ here m g highs lows n k held framed. gap-to-down held framed (a .s) here (alone d .with .result) (alone d .with .ensures) (s .pre .0) (s .pre .1) (others d .difference .result) (others d .difference .ensures)
+      λ here m g words heads links n k held framed. gap-to-down held framed (a .s) here (alone d .with .result) (alone d .with .ensures) (s .pre .0) (s .pre .1) (others d .difference .result) (others d .difference .ensures)
           _ _ (on d .one-or-more .result) r (on d .one-or-more .ensures .1) t (d .comes-first .ensures .to (c .if1 .taken)),
     )
 
@@ -50,7 +50,7 @@ returns-2 c =
     let r = c .one-or-more3 .result in
     let again = c .one-or-more3 .ensures .1 in (
       small-low r (one-small (Ahead (graph-of (now (a .back))) (a .force) (a .p)) (alone d .with .result) (a .ends) _ r (a .s) (low s) again),
-      λ here m g highs lows n k held framed. gap-from-down held framed (a .s) here (alone d .with .result) (alone d .with .ensures) (s .pre .0) (s .pre .1) (others d .difference .result) (others d .difference .ensures)
+      λ here m g words heads links n k held framed. gap-from-down held framed (a .s) here (alone d .with .result) (alone d .with .ensures) (s .pre .0) (s .pre .1) (others d .difference .result) (others d .difference .ensures)
           _ _ (on d .one-or-more .result) (to d .one-or-more2 .result) (on d .one-or-more .ensures .1) (to d .one-or-more2 .ensures .1)
           (λ h. not-both (d .comes-first .ensures .of h) (e .if1 .left)) _ r again,
     )

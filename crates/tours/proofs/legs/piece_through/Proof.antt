@@ -31,7 +31,7 @@ returns c =
     let d = o .before .before in
     let a = d .before .args in (
       record { low = to-small t .0; few = omega (arith, on-small o .1, to-small t .1) },
-      λ here m g highs lows n k held framed. through-down held framed (a .s) here (d .with .result) (d .with .ensures) (d .before .pre .1) _ _
+      λ here m g words heads links n k held framed. through-down held framed (a .s) here (d .with .result) (d .with .ensures) (d .before .pre .1) _ _
           (o .zero-or-more .result) (t .zero-or-more2 .result) (o .zero-or-more .ensures .1) (t .zero-or-more2 .ensures .0) (t .zero-or-more2 .ensures .1),
     )
 

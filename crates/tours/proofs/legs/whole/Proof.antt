@@ -10,7 +10,7 @@ use Rattle.tours.proofs.legs.whole.Tie as tie
 returns : tie.Need-returns
 returns c = let a = c .before .before .args in let r = c .zero-or-more .result in let o = c .zero-or-more .ensures .1 in (
   small-low r (zero-small (Ahead (graph-of (now (a .back))) (a .force) (a .p)) (a .starts) (a .ends) _ r o),
-  λ m g highs lows n k held framed. whole-down held framed _ r o,
+  λ m g words heads links n k held framed. whole-down held framed _ r o,
 )
 
 pub whole-spec : {M : Type 1} → statement M
