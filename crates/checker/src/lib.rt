@@ -6,11 +6,16 @@ use machine::LONGEST_SHEET;
 use machine::MOST_ROWS;
 use machine::Phase;
 use machine::Verdict;
+use rounds::Progress;
 use search::graphs;
 use search::graphs::MASKS;
 use search::graphs::Masks;
+ghost use mathlib.Core.Path.{_≡_};
+ghost use lib.ListN.{length};
 ghost use Rattle.lists.specs.Writing.{Wrote};
 ghost use Rattle.machine.specs.Program.{program};
+ghost use Rattle.search.specs.Graph.{graph-of, BothWays};
+ghost use Rattle.rounds.specs.Promises.{Settles};
 ghost use Rattle.checker.specs.Promise.{Ready, Finishes, Expresses, GivesAsked, AnswersAsked};
 ghost use Rattle.checker.specs.Promise.{Checks, GivesVerdict, GivesExpression, Roomy, Told};
 
@@ -27,6 +32,18 @@ enum Asked {
     Verdict,
 }
 
+// Closes the automaton of a table and does rounds until it is settled. The graph turned round goes into `back`.
+fn settle(graph: &Masks, loaded: LoadedGraph, back: &mut Masks) -> Progress
+    requires { ⌜ Ready (now graph) loaded × (length (now back) ≡ 448) ⌝ }
+    ensures turned { λ _. ⌜ BothWays (now (graph .entry)) (now (back .exit)) ⌝ }
+    ensures settles { λ r. ⌜ Settles (graph-of (now (graph .entry))) (loaded .initials) (loaded .finals)
+        (loaded .«set_count») r ⌝ }
+{
+    graphs::turn_indexed(graph, back);
+    let k = loaded.set_count;
+    rounds::settle(graph, back, loaded.initials, loaded.finals, k)
+}
+
 // Closes the automaton of a table, settles it and prints its sheet.
 fn finish(
     graph: &Masks,
@@ -39,9 +56,7 @@ fn finish(
         (now (buffer .entry)) (now (buffer .exit)) r ⌝ }
 {
     let mut back = [0u64; MASKS];
-    graphs::turn_indexed(graph, &mut back);
-    let k = loaded.set_count;
-    let done = rounds::settle(graph, &back, loaded.initials, loaded.finals, k);
+    let done = settle(graph, loaded, &mut back);
     let phase = done.phase;
     match phase {
         Phase::Open => Answer::Refused(9, 0),
@@ -51,7 +66,7 @@ fn finish(
             v,
             letters,
             loaded.letter_count,
-            k,
+            loaded.set_count,
             graph,
             &back,
             loaded.initials,
@@ -73,9 +88,7 @@ fn express(
         (now (buffer .entry)) (now (buffer .exit)) r ⌝ }
 {
     let mut back = [0u64; MASKS];
-    graphs::turn_indexed(graph, &mut back);
-    let k = loaded.set_count;
-    let done = rounds::settle(graph, &back, loaded.initials, loaded.finals, k);
+    let done = settle(graph, loaded, &mut back);
     let phase = done.phase;
     match phase {
         Phase::Open => Answer::Refused(9, 0),
@@ -86,7 +99,7 @@ fn express(
                 buffer,
                 letters,
                 loaded.letter_count,
-                k,
+                loaded.set_count,
                 graph,
                 &back,
                 loaded.initials,

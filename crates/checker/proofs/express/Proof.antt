@@ -16,35 +16,31 @@ use Rattle.checker.proofs.express.Tie as tie
 abbrev made : tie.Start → Automaton
 made s = let a = s .args in automaton-of (a .graph .now) (a .loaded .initials) (a .loaded .finals)
 
-settle-requires : tie.Need-settle-requires
-settle-requires c κs = let s = c .before .before .before .before in (s .pre .few-sets, c .before .turn-indexed .ensures refl (s .pre .indexed))
-
 express-requires : tie.Need-express-requires
-express-requires c κs = let d = c .before .before .before .before .before .before .before in let s = d .before .before .before .before .before in
-    (s .pre .few, s .pre .few-sets, d .before .before .turn-indexed .ensures refl (s .pre .indexed))
+express-requires c κs = let d = c .before .before .before .before .before .before .before in let s = d .before .before .before in (s .pre .few, s .pre .few-sets, d .settle .ensures .0)
 
 returns : tie.Need-returns
 returns c rows t h =
     let d = c .before .before in
-    let s = d .before .before .before .before .before in
+    let s = d .before .before .before in
     let size = length (s .args .buffer .now) in
-    not-settled rows t (s .args .loaded .«set_count») (made s) (given-of t h) (d .settle .result) (d .settle .ensures) Open 9 (expression size) (s .args .buffer .now) (c .enum-told .given .1)
+    not-settled rows t (s .args .loaded .«set_count») (made s) (given-of t h) (d .settle .result) (d .settle .ensures .1) Open 9 (expression size) (s .args .buffer .now) (c .enum-told .given .1)
     (open-refuses (expressing size))
 
 returns-2 : tie.Need-returns-2
 returns-2 c rows t h =
     let d = c .before .before in
-    let s = d .before .before .before .before .before in
+    let s = d .before .before .before in
     let size = length (s .args .buffer .now) in
-    not-settled rows t (s .args .loaded .«set_count») (made s) (given-of t h) (d .settle .result) (d .settle .ensures) Running 11 (expression size) (s .args .buffer .now) (c .enum-told2 .given .1)
+    not-settled rows t (s .args .loaded .«set_count») (made s) (given-of t h) (d .settle .result) (d .settle .ensures .1) Running 11 (expression size) (s .args .buffer .now) (c .enum-told2 .given .1)
     (running-refuses (to-express size))
 
 returns-3 : tie.Need-returns-3
 returns-3 c rows t h =
     let v = c .before .before .before in
     let d = v .before .before in
-    let s = d .before .before .before .before .before in
-    none-expressed rows t (s .args .loaded .«set_count») (made s) (given-of t h) (d .settle .result) (d .settle .ensures) (v .phase .given .0 .0) (v .phase .given .1) (c .enum-told3 .given .1) (s .args .buffer .now)
+    let s = d .before .before .before in
+    none-expressed rows t (s .args .loaded .«set_count») (made s) (given-of t h) (d .settle .result) (d .settle .ensures .1) (v .phase .given .0 .0) (v .phase .given .1) (c .enum-told3 .given .1) (s .args .buffer .now)
 
 returns-4 : tie.Need-returns-4
 returns-4 c rows t h =
@@ -52,9 +48,9 @@ returns-4 c rows t h =
     let e = x .before .before .before in
     let v = e .before .before .before in
     let d = v .before .before in
-    let s = d .before .before .before .before .before in
+    let s = d .before .before .before in
     let a = s .args in
-    is-expressed rows t (a .loaded .«set_count») (made s) (given-of t h) (d .settle .result) (d .settle .ensures) (v .phase .given .0 .0) (v .phase .given .1) (e .enum-told4 .given .1)
+    is-expressed rows t (a .loaded .«set_count») (made s) (given-of t h) (d .settle .result) (d .settle .ensures .1) (v .phase .given .0 .0) (v .phase .given .1) (e .enum-told4 .given .1)
     (a .letters .now) (a .loaded .«letter_count») (h .letters-in) (a .buffer .now) (x .express .last .0) (x .express .result) (x .express .ensures .1)
 
 pub express-spec : {M : Type 1} → statement M
@@ -62,7 +58,6 @@ express-spec =
     tie.close
     (tie.spec
     (λ c κs. search needs)
-    settle-requires
     (λ c. search needs)
     (λ c. search needs)
     (λ c. search needs)

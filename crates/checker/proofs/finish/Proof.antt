@@ -16,26 +16,23 @@ use Rattle.checker.proofs.finish.Tie as tie
 abbrev made : tie.Start → Automaton
 made s = let a = s .args in automaton-of (a .graph .now) (a .loaded .initials) (a .loaded .finals)
 
-settle-requires : tie.Need-settle-requires
-settle-requires c κs = let s = c .before .before .before .before in (s .pre .few-sets, c .before .turn-indexed .ensures refl (s .pre .indexed))
-
 print-requires : tie.Need-print-requires
-print-requires c κs = let s = c .before .before .before .before .before .before .before .before .before .before in (s .pre .few, s .pre .few-sets, c .before .before .before .before .before .before .before .turn-indexed .ensures refl (s .pre .indexed))
+print-requires c κs = let d = c .before .before .before .before .before in let s = d .before .before .before in (s .pre .few, s .pre .few-sets, d .settle .ensures .0)
 
 returns : tie.Need-returns
 returns c rows t h =
     let d = c .before .before in
-    let s = d .before .before .before .before .before in
+    let s = d .before .before .before in
     let size = length (s .args .buffer .now) in
-    not-settled rows t (s .args .loaded .«set_count») (made s) (given-of t h) (d .settle .result) (d .settle .ensures) Open 9 (print size) (s .args .buffer .now) (c .enum-told .given .1)
+    not-settled rows t (s .args .loaded .«set_count») (made s) (given-of t h) (d .settle .result) (d .settle .ensures .1) Open 9 (print size) (s .args .buffer .now) (c .enum-told .given .1)
     (open-refuses (printing size))
 
 returns-2 : tie.Need-returns-2
 returns-2 c rows t h =
     let d = c .before .before in
-    let s = d .before .before .before .before .before in
+    let s = d .before .before .before in
     let size = length (s .args .buffer .now) in
-    not-settled rows t (s .args .loaded .«set_count») (made s) (given-of t h) (d .settle .result) (d .settle .ensures) Running 11 (print size) (s .args .buffer .now) (c .enum-told2 .given .1)
+    not-settled rows t (s .args .loaded .«set_count») (made s) (given-of t h) (d .settle .result) (d .settle .ensures .1) Running 11 (print size) (s .args .buffer .now) (c .enum-told2 .given .1)
     (running-refuses (to-print size))
 
 returns-3 : tie.Need-returns-3
@@ -43,9 +40,9 @@ returns-3 c rows t h =
     let p = c .before .before in
     let v = p .before .before .before .before in
     let d = v .before .before in
-    let s = d .before .before .before .before .before in
+    let s = d .before .before .before in
     let a = s .args in
-    is-printed rows t (a .loaded .«set_count») (made s) (given-of t h) (d .settle .result) (d .settle .ensures) (v .phase .given .0 .0) (v .phase .given .1)
+    is-printed rows t (a .loaded .«set_count») (made s) (given-of t h) (d .settle .result) (d .settle .ensures .1) (v .phase .given .0 .0) (v .phase .given .1)
     (a .letters .now) (a .loaded .«letter_count») (h .letters-in) (a .buffer .now) (p .print .last .0) (p .print .result) (p .print .ensures)
 
 pub finish-spec : {M : Type 1} → statement M
@@ -53,7 +50,6 @@ finish-spec =
     tie.close
     (tie.spec
     (λ c κs. search needs)
-    settle-requires
     (λ c. search needs)
     (λ c. search needs)
     (λ c. search needs)
