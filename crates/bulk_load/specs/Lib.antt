@@ -1,0 +1,2 @@
+-- What writing the keys of rows out of masks promises.
+pub mod Writing
