@@ -16,7 +16,7 @@ use Rattle.loader.specs.declared.Took.the-variants.{Row, Stopped}
 
 -- the chain of a letter row's word, and that of a set; the factors are primes of 32 bits, which spread them
 unfoldable pub letter-chain : ℕ → ℕ
-letter-chain w = w / 4294967296 % 16777216 * 3032491095 / 2097152 % 256
+letter-chain w = w / 4294967296 % 16777216 * 3032491095 / 2097152 % 1024
 
 unfoldable pub set-chain : ℕ → ℕ
 set-chain P = (P % 4294967296 * 2654435761 / 4194304 % 128 + P / 4294967296 * 3266489917 / 4194304 % 128) % 128
@@ -32,7 +32,7 @@ sets-met counts = getD counts 2 0
 
 -- the lengths of the arrays of letter rows, and of those of sets
 abbrev pub LetterSizes : List ℕ → List ℕ → List ℕ → Type 0
-LetterSizes letters next heads = (length letters ≡ 256) × (length next ≡ 256) × (length heads ≡ 256)
+LetterSizes letters next heads = (length letters ≡ 256) × (length next ≡ 256) × (length heads ≡ 1024)
 
 abbrev pub SetSizes : List ℕ → List ℕ → List ℕ → Type 0
 SetSizes graph next heads = (length graph ≡ 448) × (length next ≡ 64) × (length heads ≡ 128)
