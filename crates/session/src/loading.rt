@@ -59,7 +59,7 @@ impl Session {
         let mut sets = self.sets;
         let n = self.row_count;
         let k = self.set_count;
-        let loaded = row_table::load_rows(&mut high, &mut low, &mut sets, n, k, batch);
+        let loaded = bulk_load::load_rows(&mut high, &mut low, &mut sets, n, k, batch);
         let answer = loaded.answer;
         self.take_table(&high, &low, sets, loaded.rows, loaded.sets, answer)
     }
