@@ -1,3 +1,3 @@
--- The laws that the proofs of `ffi` share, and the codes computed.
+-- The laws that the proofs of `ffi` share, and the lendings computed.
 pub mod Calling
 pub mod Pins

@@ -1,17 +1,7 @@
--- The codes of answers, in the words of the header: 1 non-empty, 0 empty, a refusal 2^32 times its number; only a refusal writes its place. And
--- of a buffer for an expression, all up to 2^32 - 1 bytes is lent.
-use Prim.Native.Nat.{_*_, _^_, _-_}
+-- Of a buffer for an expression, all up to 2^32 - 1 bytes is lent.
+use Prim.Native.Nat.{_^_, _-_}
 use mathlib.Core.Path.{_≡_, refl}
-use mathlib.Core.List.{[], _∷_}
-use Rattle.machine.specs.declared.Verdict.the-variants.{NonEmpty, Empty}
-use Rattle.machine.specs.Calls.{wrote, decided, refused}
-use Rattle.ffi.specs.Promise.{code-of, place-after, lent}
-
-pub codes : (code-of (decided NonEmpty) ≡ 1) × (code-of (decided Empty) ≡ 0) × (code-of (refused 7 20) ≡ 7 * 2 ^ 32) × (code-of (wrote (98 ∷ 99 ∷ [])) ≡ 2)
-codes = (refl, refl, refl, refl)
-
-pub places : (place-after (refused 7 20) 5 ≡ 20) × (place-after (decided NonEmpty) 5 ≡ 5) × (place-after (wrote []) 5 ≡ 5)
-places = (refl, refl, refl)
+use Rattle.ffi.specs.Promise.{lent}
 
 pub lendings : (lent 0 ≡ 0) × (lent 6400 ≡ 6400) × (lent (2 ^ 32 - 1) ≡ 2 ^ 32 - 1) × (lent (2 ^ 32) ≡ 2 ^ 32 - 1) × (lent (2 ^ 64 - 1) ≡ 2 ^ 32 - 1)
 lendings = (refl, refl, refl, refl, refl)

@@ -1,30 +1,11 @@
 // The checker for callers in C and Rust, as a static library.
-use machine::Answer;
-use machine::Verdict;
+use codes::code;
 ghost use Prim.Native.Nat.{_≤_};
 ghost use mathlib.Core.Path.{_≡_};
-ghost use Rattle.ffi.specs.Promise.{Codes, Called, CalledVerdict, lent, CalledExpression, CalledHoa};
+ghost use Rattle.ffi.specs.Promise.{Called, CalledVerdict, lent, CalledExpression, CalledHoa};
 
 // The most bytes of a buffer that are lent for an expression: values of 2^32 and above are refusals, so a longer text could not be told from one.
 const MOST_LENT: usize = 4294967295;
-
-// An answer as a number: the length of a text, a verdict, or 2^32 times the number of the refusal, whose place is written to `place`.
-fn code(answer: Answer, place: &mut u64) -> u64
-    ensures { λ r. ⌜ Codes answer (now (place .entry)) (now (place .exit)) r ⌝ }
-{
-    match answer {
-        Answer::Done => 0,
-        Answer::Wrote(n) => n as u64,
-        Answer::Decided(verdict) => match verdict {
-            Verdict::NonEmpty => 1,
-            Verdict::Empty => 0,
-        },
-        Answer::Refused(number, at) => {
-            *place = at as u64;
-            number as u64 * 4294967296
-        }
-    }
-}
 
 // Checks one batch. Returns the length of its sheet, which it writes; or 2^32 times the number of the refusal, whose place it
 // writes to `place`, and leaves the buffer as it was.

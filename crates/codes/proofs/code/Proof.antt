@@ -2,10 +2,10 @@
 use mathlib.Core.Path.{_∙_, ap}
 use Rattle.machine.specs.declared.Answer.the-variants.{Decided}
 use Rattle.machine.specs.declared.Verdict.the-variants.{NonEmpty, Empty}
-use Rattle.ffi.proofs.Calling.{codes-done, codes-wrote, codes-decided, codes-refused}
+use Rattle.codes.proofs.Coding.{codes-done, codes-wrote, codes-decided, codes-refused}
 use borrow.Author.Needs.{needs}
-use Rattle.ffi.proofs.code.Statement.{statement}
-use Rattle.ffi.proofs.code.Tie as tie
+use Rattle.codes.proofs.code.Statement.{statement}
+use Rattle.codes.proofs.code.Tie as tie
 
 returns-3 : tie.Need-returns-3
 returns-3 c = let v = c .before .before .before in codes-decided _ _ NonEmpty (v .answer2 .given .1 ∙ ap Decided (c .enum-told2 .given .1))

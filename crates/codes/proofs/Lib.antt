@@ -1,0 +1,3 @@
+-- The laws of codes, and the codes computed.
+pub mod Coding
+pub mod Pins

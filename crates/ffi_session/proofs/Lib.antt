@@ -1,0 +1,2 @@
+-- The laws that the proofs of `ffi_session` share.
+pub mod Calling
