@@ -40,7 +40,7 @@ fn answer(call: Call, batch: &[u8], buffer: &[u8], place: u64) -> Answer {
 }
 
 /// The value that both return, if all that they leave behind is equal.
-fn same(plain: Call, engine: Call, batch: &[u8], buffer: &[u8], place: u64) -> u64 {
+pub fn same(plain: Call, engine: Call, batch: &[u8], buffer: &[u8], place: u64) -> u64 {
     let plain = answer(plain, batch, buffer, place);
     let engine = answer(engine, batch, buffer, place);
     if plain != engine {

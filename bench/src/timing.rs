@@ -51,7 +51,7 @@ fn times<const N: usize>(plain: Call, engine: [Call; N], batches: &[Vec<u8>], ro
 }
 
 /// The rounds of a batch, by its sheet; none if it is refused.
-fn rounds(batch: &[u8]) -> Option<u32> {
+pub fn rounds(batch: &[u8]) -> Option<u32> {
     let mut text = [0; plain::LONGEST_SHEET];
     let length = plain::plain_sheet(batch, &mut text).ok()?;
     let line = std::str::from_utf8(&text[..length]).ok()?.lines().next()?;
@@ -75,7 +75,7 @@ fn lengths(call: Call, batches: &[Vec<u8>], room: usize) -> String {
 }
 
 /// Random automata that take two rounds or more.
-fn worked(random: &mut Random, count: usize, states: u64, rows: usize) -> Vec<Vec<u8>> {
+pub fn worked(random: &mut Random, count: usize, states: u64, rows: usize) -> Vec<Vec<u8>> {
     let mut family = vec![];
     while family.len() < count {
         let batch = automaton(random, states, rows, 4).concat();
@@ -159,12 +159,15 @@ fn family(name: &str, batches: Vec<Vec<u8>>) -> Family {
     Family { name: name.to_string(), batches }
 }
 
+/// The vectors that are timed alone.
+pub const SINGLE: [&str; 4] = ["rounds66_empty", "rounds64_nonempty", "sheet_K1", "walk63_letters"];
+
 /// The cases and the vectors.
 fn small() -> Vec<Family> {
     let mut all = vec![family("small: cases A to K", cases::cases().into_iter().map(|case| case.1.concat()).collect())];
     let vectors = cases::vectors();
     for vector in &vectors {
-        if ["rounds66_empty", "rounds64_nonempty", "sheet_K1", "walk63_letters"].contains(&vector.name.as_str()) {
+        if SINGLE.contains(&vector.name.as_str()) {
             all.push(family(&vector.name, vec![vector.batch.clone()]));
         }
     }
