@@ -1,5 +1,6 @@
 -- What the tests at one place find: with an entrance and an exit (`finds-neither`, `finds-mix`), and without (`finds-loop`); a set that loops inside
--- another (`joined-part`), and with more claims in force (`loops-more`), its own mix among them (`mixes-loop`).
+-- another (`joined-part`), and with more claims in force (`loops-more`), its own mix among them (`mixes-loop`); a step leads to and from each of its states (`loops-led`,
+-- `loops-led-back`).
 use Prim.Native.Nat.{ℕ, _<_}
 use mathlib.Core.Path.{_≡_, sym, subst, _∙_}
 use mathlib.Core.Bool.{Bool, true, _&&_, _||_}
@@ -10,13 +11,13 @@ use Rattle.lists.specs.Tests.{Decides}
 use Rattle.masks.specs.Mask.{member, _∈_, _⊆_}
 use Rattle.masks.proofs.Member.{with-same, with-none, union-left, union-right, intersection-left, intersection-right, intersection-both}
 use Rattle.search.specs.declared.Claims.{Claims}
-use Rattle.search.specs.Graph.{Graph}
+use Rattle.search.specs.Graph.{Graph, TurnedGraph}
 use Rattle.search.specs.Hops.{Hop, InnerClaims, Joined, JoinedPart, Covered, WithNew}
-use Rattle.search.proofs.Chains.{chain-map, covered-map}
-use Rattle.search.proofs.Hops.{hop-inner}
+use Rattle.search.proofs.Chains.{chain-map, chain-first, chain-last, covered-map}
+use Rattle.search.proofs.Hops.{hop-inner, hop-turn, inner-back}
 use Rattle.search.proofs.Joining.{joined-covers, covered-joins}
 use Rattle.search.proofs.Opening.{marks-iff, marks-none}
-use Rattle.lacks.specs.Lacks.{Pieced}
+use Rattle.lacks.specs.Lacks.{Pieced, LedAt}
 use Rattle.candidates.specs.Promises.{LoopsAt, InSet, MixesAt}
 use Rattle.candidates.proofs.Holding.{some-inner}
 
@@ -95,6 +96,16 @@ hop-more {g} {old} {new} {force} {x} {y} p is =
 pub loops-more : {g : Graph} {old new force : Claims} {i : ℕ} → WithNew old new force → LoopsAt g old i → LoopsAt g force i
 loops-more {g} {force = force} {i} is h = let P = getD (g .sets) i 0 in let x = some-inner g force P in
     record { inner = x .0; is-inner = x .1; joined = λ a b ha hb. chain-map (hop-more P is (h .is-inner) (x .1)) (h .joined a b ha hb) }
+
+-- inside a set that loops a step leads to each state
+pub loops-led : {g : Graph} {force : Claims} {i : ℕ} → LoopsAt g force i → LedAt g force i
+loops-led h q k = (h .inner, h .is-inner, chain-last (h .joined q q k k))
+
+-- and from each
+pub loops-led-back : {g back : Graph} → TurnedGraph g back → {force : Claims} {i : ℕ} → LoopsAt g force i → LedAt back force i
+loops-led-back {g} {back} turned {force} {i} h q k = let P = getD (g .sets) i 0 in
+    subst (λ (p : ℕ). q ∈ p → (inner : Claims) × InnerClaims back force p inner × ((a : ℕ) × Hop back inner p a q)) (sym (turned .sets-are i))
+    (λ m. let e = chain-first (h .joined q q m m) in (h .inner, inner-back turned (h .is-inner), (e .0, hop-turn turned q (e .0) (e .1)))) k
 
 -- a set that mixes loops once its mix is in force too, by its own mix step
 pub mixes-loop : {g : Graph} {old new force : Claims} {i : ℕ} → WithNew old new force → MixesAt g old i → i ∈ new .mixes → LoopsAt g force i

@@ -34,11 +34,17 @@ pub record ByLetters (g : Graph) (pieces : ℕ) (before after : List ℕ) : Type
   pub length-is : length after ≡ length before
   pub lacks : before ≡ replicate 64 0 → (places : ℕ) → LacksIn g no-claims pieces places after
 
--- new claims supplied: where the masks were so with old claims, they are so with the new ones too, at the places live
-pub record Supplies (g : Graph) (new : Claims) (live : ℕ) (before after : List ℕ) : Type 0 where
+-- to each state of the set at place i a step leads inside the set, with the claims in force
+abbrev pub LedAt : Graph → Claims → ℕ → Type 0
+LedAt g force i = (q : ℕ) → q ∈ getD (g .sets) i 0
+    → (inner : Claims) × InnerClaims g force (getD (g .sets) i 0) inner × ((a : ℕ) × Hop g inner (getD (g .sets) i 0) a q)
+
+-- new claims supplied: where the masks were so with old claims, they are so with the new ones too, at the places live; so far as to each state of
+-- the sets at the places led a step leads with the old claims
+pub record Supplies (g : Graph) (new : Claims) (led live : ℕ) (before after : List ℕ) : Type 0 where
   pub length-is : length after ≡ length before
   pub lacks : length before ≡ 64 → (old force : Claims) (pieces places : ℕ) → WithNew old new force → live ⊆ places
-      → LacksIn g old pieces places before → LacksIn g force pieces live after
+      → ((j : ℕ) → j ∈ led → LedAt g old j) → LacksIn g old pieces places before → LacksIn g force pieces live after
 
 -- r has the places live whose sets have a part that a new claim is about
 abbrev pub AboveNew : Graph → Claims → ℕ → ℕ → Type 0
@@ -80,19 +86,20 @@ pub record Leads (sets : List ℕ) (p left right up : ℕ) (looping : Bool) (bef
   pub back-step : length before ≡ 64 → looping ≡ true → (q i a : ℕ) → i ∈ up → i ∈ getD after q 0 → a ∈ right → a ∈ getD sets i 0 → ¬ (q ∈ p)
   pub mix-step : length before ≡ 64 → (q i a : ℕ) → i ∈ up → i ∈ getD after q 0 → a ∈ right → a ∈ getD sets i 0 → ¬ (q ∈ left)
 
--- a step from a to b by the new claims about the set at place j
-abbrev pub ClaimStep : Graph → Claims → ℕ → ℕ → ℕ → Type 0
-ClaimStep g new j a b =
-    ((j ∈ new .loops) × (((a ∈ getD (g .sets) j 0) × (b ∈ getD (g .lefts) j 0)) ⊎ ((a ∈ getD (g .rights) j 0) × (b ∈ getD (g .sets) j 0))))
+-- a step from a to b by the new claims about the set at place j; back to a state of the set only where the place is not among led
+abbrev pub ClaimStep : Graph → Claims → ℕ → ℕ → ℕ → ℕ → Type 0
+ClaimStep g new led j a b =
+    ((j ∈ new .loops)
+    × (((a ∈ getD (g .sets) j 0) × (b ∈ getD (g .lefts) j 0)) ⊎ ((¬ (j ∈ led)) × (a ∈ getD (g .rights) j 0) × (b ∈ getD (g .sets) j 0))))
     ⊎ ((j ∈ new .mixes) × (a ∈ getD (g .rights) j 0) × (b ∈ getD (g .lefts) j 0))
 
 -- of the places live whose sets have the set at place j as a part, no mask of a state has one inside whose set such a step leads to the state
-abbrev pub Freed : Graph → Claims → ℕ → List ℕ → ℕ → Type 0
-Freed g new live lack j =
-    (i q a : ℕ) → i ∈ live → getD (g .sets) j 0 ⊆ getD (g .sets) i 0 → i ∈ getD lack q 0 → a ∈ getD (g .sets) i 0 → ¬ ClaimStep g new j a q
+abbrev pub Freed : Graph → Claims → ℕ → ℕ → List ℕ → ℕ → Type 0
+Freed g new led live lack j =
+    (i q a : ℕ) → i ∈ live → getD (g .sets) j 0 ⊆ getD (g .sets) i 0 → i ∈ getD lack q 0 → a ∈ getD (g .sets) i 0 → ¬ ClaimStep g new led j a q
 
 -- no mask gains a place, and the new claims about the set at place j are supplied
-pub record SuppliesClaim (g : Graph) (new : Claims) (live j : ℕ) (before after : List ℕ) : Type 0 where
+pub record SuppliesClaim (g : Graph) (new : Claims) (led live j : ℕ) (before after : List ℕ) : Type 0 where
   pub length-is : length after ≡ length before
   pub fewer : length before ≡ 64 → (q i : ℕ) → i ∈ getD after q 0 → i ∈ getD before q 0
-  pub freed : length before ≡ 64 → Freed g new live after j
+  pub freed : length before ≡ 64 → Freed g new led live after j

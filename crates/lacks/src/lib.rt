@@ -186,20 +186,22 @@ fn lead(
     take_out(lack, left, met);
 }
 
-// Supplies the new claims about the set at place `i`, forward and backward; answers the places `live` whose sets have that set as a part.
+// Supplies the new claims about the set at place `i`, forward and backward; answers the places `live` whose sets have that set as a part. A set
+// among `led` has a step to and from each of its states already: only the limits are new.
 fn supply_claim(
     to: &mut [Places; STATES],
     from: &mut [Places; STATES],
     graph: &Masks,
     new: Claims,
+    led: Places,
     i: u8,
     live: Places,
 ) -> Places
     requires { ⌜ Indexed (now graph) × (i < 64) ⌝ }
-    ensures forward { λ _. ⌜ SuppliesClaim (graph-of (now (graph .entry))) new live i (now (to .entry))
+    ensures forward { λ _. ⌜ SuppliesClaim (graph-of (now (graph .entry))) new led live i (now (to .entry))
         (now (to .exit)) ⌝ }
     ensures backward { λ _. ⌜ ((back : Graph) → TurnedGraph (graph-of (now (graph .entry))) back
-        → SuppliesClaim back new live i (now (from .entry)) (now (from .exit))) ⌝ }
+        → SuppliesClaim back new led live i (now (from .entry)) (now (from .exit))) ⌝ }
     ensures above { λ r. ⌜ Above (graph-of (now (graph .entry)) .sets) live
         (getD (graph-of (now (graph .entry)) .sets) i 0) r ⌝ }
 {
@@ -211,31 +213,38 @@ fn supply_claim(
     }
     let left = lefts_at(graph, at);
     let right = rights_at(graph, at);
+    if has(led, i) {
+        take_out(to, left, up);
+        take_out(from, right, up);
+        return up;
+    }
     let looping = has(new.loops, i);
     lead(to, graph, p, left, right, up, looping);
     lead(from, graph, p, right, left, up, looping);
     up
 }
 
-// Takes out what new claims supply, forward and backward; answers the places `live` whose sets have a part that a new claim is about.
+// Takes out what new claims supply, forward and backward; answers the places `live` whose sets have a part that a new claim is about. To and from
+// each state of the sets at the places `led` a step leads without the new claims.
 pub fn supply(
     to: &mut [Places; STATES],
     from: &mut [Places; STATES],
     graph: &Masks,
     new: Claims,
+    led: Places,
     live: Places,
 ) -> Places
     requires { ⌜ Indexed (now graph) ⌝ }
-    ensures forward { λ _. ⌜ Supplies (graph-of (now (graph .entry))) new live (now (to .entry)) (now (to .exit)) ⌝ }
+    ensures forward { λ _. ⌜ Supplies (graph-of (now (graph .entry))) new led live (now (to .entry)) (now (to .exit)) ⌝ }
     ensures backward { λ _. ⌜ ((back : Graph) → TurnedGraph (graph-of (now (graph .entry))) back
-        → Supplies back new live (now (from .entry)) (now (from .exit))) ⌝ }
+        → Supplies back new led live (now (from .entry)) (now (from .exit))) ⌝ }
     ensures above { λ r. ⌜ AboveNew (graph-of (now (graph .entry))) new live r ⌝ }
 {
     let mut r: Places = 0;
     let mut rest = union(new.loops, new.mixes);
     while rest != 0 {
         let next = take_lowest(rest);
-        r = union(r, supply_claim(to, from, graph, new, next.low, live));
+        r = union(r, supply_claim(to, from, graph, new, led, next.low, live));
         rest = next.rest;
     }
     r

@@ -23,14 +23,14 @@ use Rattle.machine.proofs.History.{work-runs}
 use Rattle.machine.proofs.Grounded.{grounded, open-by}
 use Rattle.machine.proofs.Tours.{round-iff}
 use Rattle.search.specs.declared.Claims.{Claims}
-use Rattle.search.specs.Graph.{Graph}
+use Rattle.search.specs.Graph.{Graph, TurnedGraph}
 use Rattle.search.specs.Hops.{WithNew, no-claims}
 use Rattle.search.specs.Masked.{Forced}
 use Rattle.search.specs.Promises.{AcceptsRight, OpensBelow}
 use Rattle.lacks.specs.Lacks.{LacksIn, ByLetters, Supplies, AboveNew}
-use Rattle.candidates.specs.Promises.{LiveBelow, Paired, LoopingAt, OpensAwaited}
+use Rattle.candidates.specs.Promises.{LoopsAt, LiveBelow, Paired, LoopingAt, OpensAwaited}
 use Rattle.candidates.proofs.Awaiting.{live-fewer}
-use Rattle.candidates.proofs.Finding.{loops-more}
+use Rattle.candidates.proofs.Finding.{loops-more, loops-led, loops-led-back}
 use Rattle.candidates.proofs.Holding.{paired-by}
 use Rattle.row_table.specs.Arrays.{SetsIn}
 use Rattle.row_table.proofs.Sets.{sets-in-held}
@@ -130,17 +130,20 @@ module _ {g back : Graph} {n pieces : ℕ} {old : Claims} {fresh places : ℕ} {
   pub tracked-low : (i : ℕ) → i ∈ places → i < n
   tracked-low i h = now .live-is i .0 (now .within i h) .0
 
-  pub tracked-more : {new force : Claims} {to′ from′ : List ℕ} (fresh′ live places′ : ℕ) → WithNew old new force → OpensAwaited g old n places new → ((t : ℕ) → member t fresh′ ≡ (member t (new .loops) && not (member t (old .mixes))))
-      → LiveBelow force n live → length to ≡ 64 → length from ≡ 64 → Supplies g new live to to′ → Supplies back new live from from′ → AboveNew g new live places′
+  pub tracked-more : {new force : Claims} {to′ from′ : List ℕ} (fresh′ live places′ : ℕ) → TurnedGraph g back → WithNew old new force → OpensAwaited g old n places new → ((t : ℕ) → member t fresh′ ≡ (member t (new .loops) && not (member t (old .mixes))))
+      → LiveBelow force n live → length to ≡ 64 → length from ≡ 64 → Supplies g new fresh′ live to to′ → Supplies back new fresh′ live from from′ → AboveNew g new live places′
       → Tracked g back n pieces force fresh′ places′ to′ from′
-  tracked-more {new} {force} fresh′ live places′ is opens is-fresh is-live e f t b above = let fewer = live-fewer (now .live) live is (now .live-is) is-live in record {
-    looping = λ i h. loops-more is (opens .tested i (difference-left (new .loops) (old .mixes) fresh′ is-fresh i h) (difference-not (new .loops) (old .mixes) fresh′ is-fresh i h));
+  tracked-more {new} {force} fresh′ live places′ turned is opens is-fresh is-live e f t b above = let fewer = live-fewer (now .live) live is (now .live-is) is-live in record {
+    looping = λ i h. loops-more is (looped i h);
     live = live;
     live-is = is-live;
     within = λ i h. above i .0 h .0;
-    to-lacks = t .lacks e old force pieces (now .live) is fewer (now .to-lacks);
-    from-lacks = b .lacks f old force pieces (now .live) is fewer (now .from-lacks);
+    to-lacks = t .lacks e old force pieces (now .live) is fewer (λ i h. loops-led (looped i h)) (now .to-lacks);
+    from-lacks = b .lacks f old force pieces (now .live) is fewer (λ i h. loops-led-back turned (looped i h)) (now .from-lacks);
   }
+    where
+      looped : (i : ℕ) → i ∈ fresh′ → LoopsAt g old i
+      looped i h = opens .tested i (difference-left (new .loops) (old .mixes) fresh′ is-fresh i h) (difference-not (new .loops) (old .mixes) fresh′ is-fresh i h)
 
 module _ (rows : List Row) {g : Graph} {initials finals n : ℕ} (given : Given rows g initials finals n) where
   pub stage-start : (b : Bool) → AcceptsRight g no-claims initials finals b → Stage rows g n no-claims (replicate 64 0) (replicate 64 0) (judged b false) 0

@@ -129,7 +129,7 @@ fn opened(graph: &Masks, force: Claims, set_count: usize) -> Claims
     let mut from = [0u64; STATES];
     lacks::both_by_letters(&mut to, &mut from, graph, &back, pieces, set_count);
     let live = candidates::live(force, set_count);
-    lacks::supply(&mut to, &mut from, graph, force, live);
+    lacks::supply(&mut to, &mut from, graph, force, 0, live);
     candidates::open_next(graph, &back, force, 0, pieces, live, &to, &from)
 }
 
@@ -199,7 +199,7 @@ fn run_rounds(
         fresh = masks::difference(new.loops, force.mixes);
         force = openings::with_new(force, new);
         let live = candidates::live(force, set_count);
-        places = lacks::supply(&mut to, &mut from, graph, new, live);
+        places = lacks::supply(&mut to, &mut from, graph, new, fresh, live);
         seen = searches::reached_more(graph, force, new, initials, seen);
         phase = judge(
             searches::accepted(initials, seen, finals),

@@ -10,18 +10,18 @@ use Rattle.lacks.proofs.supply.Statement.{statement}
 use Rattle.lacks.proofs.supply.Tie as tie
 
 abbrev Inv-loop : tie.InvT-loop
-Inv-loop to₀ from₀ graph new live r₀ rest₀ to from r rest =
-    Supplying (graph-of graph) new live rest₀ rest to₀ to
-    × ((back : Graph) → TurnedGraph (graph-of graph) back → Supplying back new live rest₀ rest from₀ from)
+Inv-loop to₀ from₀ graph new led live r₀ rest₀ to from r rest =
+    Supplying (graph-of graph) new led live rest₀ rest to₀ to
+    × ((back : Graph) → TurnedGraph (graph-of graph) back → Supplying back new led live rest₀ rest from₀ from)
     × Gathered (λ j i. (i ∈ live) × (getD (graph-of graph .sets) j 0 ⊆ getD (graph-of graph .sets) i 0)) rest₀ rest r
 
 abbrev μ-loop : tie.MeasureT-loop
-μ-loop to₀ from₀ graph new live r₀ rest₀ to from r rest = ones rest
+μ-loop to₀ from₀ graph new led live r₀ rest₀ to from r rest = ones rest
 
 loop-holds : tie.Need-loop-holds Inv-loop μ-loop
 loop-holds c = let a = c .before .args in (
-  supplying-start (graph-of (a .graph .now)) (a .new) (a .live) (c .union .result) (a .to .now),
-  (λ back turned. supplying-start back (a .new) (a .live) (c .union .result) (a .from .now)),
+  supplying-start (graph-of (a .graph .now)) (a .new) (a .led) (a .live) (c .union .result) (a .to .now),
+  (λ back turned. supplying-start back (a .new) (a .led) (a .live) (c .union .result) (a .from .now)),
   gather-start,
 )
 
@@ -39,8 +39,8 @@ loop-again c =
     let a = at .before .before .args in
     let k = low .take-lowest .ensures in
     let inv = at .loop .inv in (
-      supplying-more (graph-of (a .graph .now)) (a .new) (a .live) k (inv .0) (claim .ensures .0),
-      (λ back turned. supplying-more back (a .new) (a .live) k (inv .1 back turned) (claim .ensures .1 .0 back turned)),
+      supplying-more (graph-of (a .graph .now)) (a .new) (a .led) (a .live) k (inv .0) (claim .ensures .0),
+      (λ back turned. supplying-more back (a .new) (a .led) (a .live) k (inv .1 back turned) (claim .ensures .1 .0 back turned)),
       gather-more (at .loop .r) (claim .result) (c .union2 .result) k (inv .2) (claim .ensures .1 .1) (c .union2 .ensures),
     )
 
@@ -51,10 +51,10 @@ returns c =
     let g = graph-of (a .graph .now) in
     let inv = c .before .loop .inv in
     let none = c .loop-test .left in (
-      supplying-end g (a .new) (a .live) (all .ensures) (inv .0) none,
+      supplying-end g (a .new) (a .led) (a .live) (all .ensures) (inv .0) none,
       (
-        (λ back turned. supplying-end back (a .new) (a .live) (all .ensures) (inv .1 back turned) none),
-        above-new g (a .new) (a .live) (all .result) (c .before .loop .r) (all .ensures) (gather-end (inv .2) none),
+        (λ back turned. supplying-end back (a .new) (a .led) (a .live) (all .ensures) (inv .1 back turned) none),
+        above-new g (a .new) (a .led) (a .live) (all .result) (c .before .loop .r) (all .ensures) (gather-end (inv .2) none),
       ),
     )
 

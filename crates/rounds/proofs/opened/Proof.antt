@@ -30,8 +30,8 @@ open-next-requires c κs =
     record {
       ways = ways;
       looping = λ i h. absurd (in-none i h);
-      to-lacks = supplied .supply .ensures .0 .lacks (first .0 .length-is) no-claims force (pieces .pieced .result) places (all-new force) (λ i h. h) (first .0 .lacks refl places);
-      from-lacks = supplied .supply .ensures .1 .0 _ (ways .turned) .lacks (first .1 .length-is) no-claims force (pieces .pieced .result) places (all-new force) (λ i h. h) (first .1 .lacks refl places);
+      to-lacks = supplied .supply .ensures .0 .lacks (first .0 .length-is) no-claims force (pieces .pieced .result) places (all-new force) (λ i h. h) (λ j h. absurd (in-none j h)) (first .0 .lacks refl places);
+      from-lacks = supplied .supply .ensures .1 .0 _ (ways .turned) .lacks (first .1 .length-is) no-claims force (pieces .pieced .result) places (all-new force) (λ i h. h) (λ j h. absurd (in-none j h)) (first .1 .lacks refl places);
     }
 
 returns : tie.Need-returns

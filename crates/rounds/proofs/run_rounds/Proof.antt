@@ -107,7 +107,7 @@ loop-again c =
       backward .length-is ∙ inv .2,
       inv .3,
       inv .4,
-      tracked-more now (fresh .difference .result) (live .live2 .result) (supplied .supply .result) with-new opens (fresh .difference .ensures) is-live (inv .1) (inv .2) forward backward above,
+      tracked-more now (fresh .difference .result) (live .live2 .result) (supplied .supply .result) (inv .3 .turned) with-new opens (fresh .difference .ensures) is-live (inv .1) (inv .2) forward backward above,
       seen .reached-more .ensures,
       λ rows g.
           let stage = inv .7 rows g in
