@@ -1,4 +1,5 @@
--- With all rows passed and what is struck taken out, the graph is the one that the promise gives (`passed-all`).
+-- With all rows passed and what is struck taken out, the graph is the one that the promise gives (`passed-all`), of letters alone
+-- too (`letters-all`).
 use Prim.Native.Nat.{ℕ, _+_, _<_, _≤_}
 use mathlib.Core.Path.{_≡_, refl, ap, sym, _∙_, subst}
 use mathlib.Core.Bool.{not, _&&_}
@@ -22,7 +23,7 @@ use Rattle.search.specs.Masked.{Masked}
 use Rattle.search.proofs.Parts.{past-part, letters-at, sets-at, lefts-at, rights-at}
 use Rattle.row_table.specs.Arrays.{SetsIn}
 use Rattle.automaton.specs.declared.Automaton.{Automaton}
-use Rattle.automaton.specs.Promise.{Gives, automaton-of}
+use Rattle.automaton.specs.Promise.{Gives, GivesLetters, automaton-of}
 use Rattle.automaton.specs.Passed.{Some, Passed}
 use Rattle.automaton.specs.Striking.{Strikes, Finishes}
 use Rattle.automaton.proofs.Adding.{past-padded}
@@ -32,13 +33,13 @@ use Rattle.automaton.proofs.Passing.{struck-unindexed}
 abbrev pub Without : ℕ → ℕ → ℕ → Type 0
 Without m struck r = (t : ℕ) → member t r ≡ (member t m && not (member t struck))
 
-module _ (rows : List Row) (fit : AllFit rows) (sets : List ℕ) (k : ℕ) (count : k ≡ length (Rows.standing-sets rows)) (are : take k sets ≡ Rows.standing-sets rows) (few : k ≤ 64) where
+module _ (rows : List Row) (fit : AllFit rows) (sets : List ℕ) (k : ℕ) (few : k ≤ 64) where
   -- a row whose state is below 64 where it stands
   one-row : (x : Row) (t : ℕ) → (x among rows → t < 64) → {X : Type 0} → X ↔ Some (λ y. (y ≡ x) × (t < 64)) rows → X ↔ x among rows
   one-row x t f h = ((λ i. let s = h .0 i in Memᴰ·cast (sym (s .2 .0)) (s .1)), λ m. h .1 (x, m, (refl, f m)))
 
   -- the masks before anything was struck, and those of the automaton
-  module _ (old : List ℕ) (initials finals struck : ℕ) (bare : Unindexed old k) {Order : Type 0} (o : Order) (h : Passed Order sets k rows old initials finals struck) (a : Automaton)
+  module _ (old : List ℕ) (initials finals struck : ℕ) {Order : Type 0} (h : Passed Order sets k rows old initials finals struck) (a : Automaton)
       (out : Strikes k struck old (a .graph)) (ini : Without initials struck (a .initials)) (fin : Without finals struck (a .finals)) where
     struck-iff : (s : ℕ) → (s ∈ struck) ↔ Struck rows s
     struck-iff s = one-row (Strike s) s (fit (Strike s)) (h .marks .takes s)
@@ -98,26 +99,34 @@ module _ (rows : List Row) (fit : AllFit rows) (sets : List ℕ) (k : ℕ) (coun
       λ w. ⊎-elim (λ g. absurd (w .1 (struck-iff t .0 g))) (λ i. i) (difference-cases m struck r out t (one-row x t f is .1 (w .0))),
     )
 
+    -- letters alone, and the states that walks start from and end at
+    pub letters-all : GivesLetters rows a
+    letters-all = record {
+      letters = λ p q. letter-iff p q (dec· (ltb· p 64));
+      initial-iff = λ t. state-iff (Initial t) t (fit (Initial t)) initials (a .initials) (h .marks .starts t) ini;
+      final-iff = λ t. state-iff (Final t) t (fit (Final t)) finals (a .finals) (h .marks .ends t) fin;
+    }
+
     sized : SetsIn rows sets k → length sets ≡ 64
     sized w = ap length (w .sets-are) ∙ simp (length-append, length-replicate) (omega (arith, few, w .count))
 
     -- no set stands behind the first k
-    alike : SetsIn rows sets k → (i : ℕ) → i < 64 → getD (graph-of (a .graph) .sets) i 0 ≡ getD sets i 0
-    alike w i l = ⊎-elim (set-is i)
+    alike : Unindexed old k → SetsIn rows sets k → (i : ℕ) → i < 64 → getD (graph-of (a .graph) .sets) i 0 ≡ getD sets i 0
+    alike bare w i l = ⊎-elim (set-is i)
         (λ g. sets-at (a .graph) i l ∙ out .others (64 + i) (inl (omega arith, omega arith)) ∙ bare .no-sets i g l
         ∙ sym (ap (λ (s : List ℕ). getD s i 0) (w .sets-are) ∙ past-padded 64 (Rows.standing-sets rows) i (omega (arith, w .count))))
         (lt-or-le i k)
 
     -- the graph of all the rows
-    pub passed-all : Gives rows sets k a
-    passed-all = record {
+    pub passed-all : k ≡ length (Rows.standing-sets rows) → take k sets ≡ Rows.standing-sets rows → Unindexed old k → Order → Gives rows sets k a
+    passed-all count are bare o = record {
       masked = record {
         few = few;
         sets-are = ext-getD 0 (take k (graph-of (a .graph) .sets)) (take k sets)
             (omega (arith, length-take k (graph-of (a .graph) .sets), sets-length, ap length are, count))
             (λ i l. let g : i < k = omega (arith, length-take k (graph-of (a .graph) .sets)) in
             getD-take k (graph-of (a .graph) .sets) i 0 g ∙ set-is i g ∙ sym (getD-take k sets i 0 g)) ∙ are;
-        letter-iff = λ p q. letter-iff p q (dec· (ltb· p 64));
+        letter-iff = letters-all .letters;
         left-iff = λ i r l. rw (lefts-at (a .graph) i (omega arith), set-is i l)
             (let x = LeftLimit (getD sets i 0) r in limit-iff x i r l (λ m. fit x m .2) _ _ (h .enters o i r l) (out .lefts (h .size) i l r));
         right-iff = λ i r l. rw (rights-at (a .graph) i (omega arith), set-is i l)
@@ -125,10 +134,10 @@ module _ (rows : List Row) (fit : AllFit rows) (sets : List ℕ) (k : ℕ) (coun
       };
       sets-in = λ w. record {
         count = w .count;
-        sets-are = ext-getD 0 (graph-of (a .graph) .sets) sets (sets-length ∙ sym (sized w)) (λ i l. alike w i (omega (arith, sets-length))) ∙ w .sets-are;
+        sets-are = ext-getD 0 (graph-of (a .graph) .sets) sets (sets-length ∙ sym (sized w)) (λ i l. alike bare w i (omega (arith, sets-length))) ∙ w .sets-are;
       };
-      initial-iff = λ t. state-iff (Initial t) t (fit (Initial t)) initials (a .initials) (h .marks .starts t) ini;
-      final-iff = λ t. state-iff (Final t) t (fit (Final t)) finals (a .finals) (h .marks .ends t) fin;
+      initial-iff = letters-all .initial-iff;
+      final-iff = letters-all .final-iff;
     }
 
 -- the same of another array with the same graph
@@ -146,7 +155,7 @@ pub finished : {rows : List Row} → AllFit rows → {sets : List ℕ} {k : ℕ}
     → {old : List ℕ} {initials finals struck : ℕ} → Unindexed old k → {Order : Type 0} → Order → Passed Order sets k rows old initials finals struck
     → {new : List ℕ} {i f : ℕ} → Finishes k struck old new → Without initials struck i → Without finals struck f → Gives rows sets k (automaton-of new i f)
 finished {rows} fit {sets} {k} count are few {old} {initials} {finals} {struck} bare o h {new} {i} {f} out ini fin =
-    gives-as (out .left) new i f (out .indexes .graph-stays) (passed-all rows fit sets k count are few old initials finals struck bare o h (automaton-of (out .left) i f) (out .strikes) ini fin)
+    gives-as (out .left) new i f (out .indexes .graph-stays) (passed-all rows fit sets k few old initials finals struck h (automaton-of (out .left) i f) (out .strikes) ini fin count are bare o)
 
 pub finished-indexed : {k struck : ℕ} {old new : List ℕ} → k ≤ 64 → Unindexed old k → Finishes k struck old new → Indexed new
 finished-indexed few bare out = out .indexes .indexed (struck-unindexed few (out .strikes) bare)

@@ -1,11 +1,11 @@
--- The graph of the rows that were passed (`none-passed`, `pass-initial` to `pass-right`), and that nothing says yet which sets a state touches
+-- The graph of the rows that were passed (`none-passed`, `pass-initial` to `pass-right`; of letters alone `letters-start`, `over-left`, `over-right`), and that nothing says yet which sets a state touches
 -- (`none-unindexed` to `struck-unindexed`).
 use Prim.Native.Nat.{ℕ, _+_, _<_, _≤_}
 use mathlib.Core.Path.{_≡_, refl, ap, ap₂, sym, _∙_, subst}
 use mathlib.Core.Bool.{not}
 use mathlib.Core.Logic.{_⊎_, inl, inr, ⊎-elim, _↔_, _≢_}
 use mathlib.Core.List.{List, [], _∷_, _++_, List·Memᴰ·head, List·Memᴰ·not-nil, List·Memᴰ·append-cases, List·Memᴰ·eq-of-singleton, Memᴰ·append-left, Memᴰ·append-right}
-use lib.ListN.{length, getD}
+use lib.ListN.{length, getD, replicate}
 use native.Mathlib.Omega.{arith}
 use Rattle.lists.specs.Tests.{_among_}
 use Rattle.masks.specs.Mask.{_∈_}
@@ -13,10 +13,11 @@ use Rattle.masks.proofs.Member.{lt-or-le, in-none}
 use Rattle.rows.specs.declared.Row.{Row}
 use Rattle.rows.specs.declared.Row.the-variants.{Initial, Final, Successor, LeftLimit, RightLimit, Strike}
 use Rattle.search.specs.Graph.{Unindexed}
-use Rattle.automaton.specs.Passed.{Some, Starts, Ends, Takes, Leads, Enters, Leaves, Marked, Passed}
+use Rattle.automaton.specs.declared.Seen.{Seen}
+use Rattle.automaton.specs.Passed.{Some, Starts, Ends, Takes, Leads, Enters, Leaves, Marked, Passed, LettersPassed}
 use Rattle.automaton.specs.Promise.{Adds, AddsAt, HasSets}
 use Rattle.automaton.specs.Striking.{Strikes}
-use Rattle.automaton.proofs.Adding.{put-iff}
+use Rattle.automaton.proofs.Adding.{put-iff, no-sets}
 
 -- ---- nothing passed
 
@@ -171,6 +172,30 @@ module _ (Order : Type 0) (sets : List ℕ) (n : ℕ) (few : n ≤ 64) {l : List
     enters = λ o i t k. stays is (128 + i) (λ a b. omega arith) t (other (Enters (getD sets i 0) t) g (λ p. never (cc (p .0))) (h .enters o i t k));
     leaves = λ o i t k. own (Leaves (getD sets i 0) t) g (limit-own (λ P q. RightLimit q P) (λ a b c d i. (cc, cc)) Order sets n 192 few graph new P q at e there (h .size) is o i t k) (h .leaves o i t k);
   }
+
+-- ---- letters alone
+
+pub letters-start : LettersPassed [] (replicate 448 0) (record { initials = 0; finals = 0; struck = 0 })
+letters-start = none-passed (Unit {0}) [] 0 (replicate 448 0) (omega arith) (no-sets [])
+
+-- a limit row is passed over
+pub pass-over : {l : List Row} {graph : List ℕ} {seen : Seen} → LettersPassed l graph seen → {x : Row} {l′ : List Row} → Grown l x l′
+    → ((t : ℕ) → ¬ Starts t x) → ((t : ℕ) → ¬ Ends t x) → ((t : ℕ) → ¬ Takes t x) → ((p q : ℕ) → ¬ Leads p q x) → LettersPassed l′ graph seen
+pass-over h g no-start no-end no-strike no-step = record {
+  size = h .size;
+  kept = h .kept;
+  marks = marks-stay (Unit {0}) [] 0 (omega arith) h g no-start no-end no-strike;
+  leads = λ p q j. other (Leads p q) g (no-step p q) (h .leads p q j);
+  enters = λ o i t k. absurd (omega arith);
+  leaves = λ o i t k. absurd (omega arith);
+}
+
+module _ {l : List Row} {graph : List ℕ} {seen : Seen} (h : LettersPassed l graph seen) {x : Row} {P q : ℕ} where
+  pub over-left : x ≡ LeftLimit P q → LettersPassed (l ++ (x ∷ [])) graph seen
+  over-left e = pass-over h (grown-last l x) (λ t p. never (cc (p .0))) (λ t p. never (cc (p .0))) (λ t p. never (cc (p .0))) (λ p q w. never (cc (w .1)))
+
+  pub over-right : x ≡ RightLimit q P → LettersPassed (l ++ (x ∷ [])) graph seen
+  over-right e = pass-over h (grown-last l x) (λ t p. never (cc (p .0))) (λ t p. never (cc (p .0))) (λ t p. never (cc (p .0))) (λ p q w. never (cc (w .1)))
 
 -- ---- other sets
 

@@ -2,11 +2,14 @@
 use Prim.Native.Nat.{ℕ, _+_, _<_}
 use mathlib.Core.Path.{_≡_}
 use mathlib.Core.Logic.{_↔_}
-use mathlib.Core.List.{List}
+use mathlib.Core.List.{List, [], _∷_, _++_}
 use lib.ListN.{length, getD}
 use Rattle.lists.specs.Tests.{_among_}
 use Rattle.masks.specs.Mask.{_∈_}
 use Rattle.rows.specs.declared.Row.{Row}
+use Rattle.rows.specs.Rows.{AllFit}
+use Rattle.automaton.specs.declared.Seen.{Seen}
+use Rattle.automaton.specs.Promise.{GivesLetters, automaton-of}
 use Rattle.rows.specs.declared.Row.the-variants.{Initial, Final, Successor, LeftLimit, RightLimit, Strike}
 
 -- some row of the list has P
@@ -46,3 +49,16 @@ pub record Passed (Order : Type 0) (sets : List ℕ) (n : ℕ) (l : List Row) (g
   pub leads : (p q : ℕ) → p < 64 → (q ∈ getD graph p 0) ↔ Some (Leads p q) l
   pub enters : Order → (i t : ℕ) → i < n → (t ∈ getD graph (128 + i) 0) ↔ Some (Enters (getD sets i 0) t) l
   pub leaves : Order → (i t : ℕ) → i < n → (t ∈ getD graph (192 + i) 0) ↔ Some (Leaves (getD sets i 0) t) l
+
+-- ---- letters alone: a graph without sets
+
+abbrev pub LettersPassed : List Row → List ℕ → Seen → Type 0
+LettersPassed l graph seen = Passed (Unit {0}) [] 0 l graph (seen .initials) (seen .finals) (seen .struck)
+
+-- one row more
+abbrev pub TakesLetter : List ℕ → Seen → Row → List ℕ → Seen → Type 0
+TakesLetter old before x new r = (l : List Row) → LettersPassed l old before → LettersPassed (l ++ (x ∷ [])) new r
+
+-- with all rows passed, what is struck goes
+abbrev pub FinishesLetters : List ℕ → Seen → List ℕ → ℕ → ℕ → Type 0
+FinishesLetters old seen new initials finals = (rows : List Row) → AllFit rows → LettersPassed rows old seen → GivesLetters rows (automaton-of new initials finals)

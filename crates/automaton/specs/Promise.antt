@@ -10,7 +10,7 @@ use Rattle.rows.specs.declared.Row.{Row}
 use Rattle.rows.specs.Rows.{AllFit}
 use Rattle.rows.specs.Rows as Rows
 use Rattle.search.specs.Graph.{graph-of}
-use Rattle.search.specs.Masked.{Masked, Initials, Finals}
+use Rattle.search.specs.Masked.{Masked, HasLetters, Initials, Finals}
 use Rattle.row_table.specs.Arrays.{SetsIn, Keyed}
 use Rattle.automaton.specs.declared.Automaton.{Automaton}
 
@@ -42,6 +42,12 @@ automaton-of graph initials finals = record { graph = graph; initials = initials
 pub record Gives (rows : List Row) (sets : List ℕ) (k : ℕ) (r : Automaton) : Type 0 where
   pub masked : Masked rows (graph-of (r .graph)) k
   pub sets-in : SetsIn rows sets k → SetsIn rows (graph-of (r .graph) .sets) k
+  pub initial-iff : Initials rows (r .initials)
+  pub final-iff : Finals rows (r .finals)
+
+-- of letters alone: the letter steps of the rows, their initial and their final states
+pub record GivesLetters (rows : List Row) (r : Automaton) : Type 0 where
+  pub letters : HasLetters rows (graph-of (r .graph))
   pub initial-iff : Initials rows (r .initials)
   pub final-iff : Finals rows (r .finals)
 

@@ -19,6 +19,7 @@ ghost use Prim.Native.Nat.{_≤_, _<_};
 ghost use lib.ListN.{replicate};
 ghost use Rattle.search.specs.Graph.{Indexed};
 ghost use Rattle.automaton.specs.Promise.{Adds, AddsAt, HasSets, PlaceOf, GivesKeyed, automaton-of};
+ghost use Rattle.automaton.specs.Passed.{TakesLetter, FinishesLetters};
 ghost use Rattle.automaton.specs.Striking.{Remains, StruckSets, LeavesOut, Strikes, Finishes};
 
 // The graph of some rows as one array of masks; their initial and their final states.
@@ -32,6 +33,13 @@ pub struct Automaton {
 pub struct Endpoints {
     pub initials: Set,
     pub finals: Set,
+}
+
+// The states that rows of one state name, by kind: initial, final and struck ones.
+pub struct Seen {
+    pub initials: Set,
+    pub finals: Set,
+    pub struck: Set,
 }
 
 // The states of `m`, and `s`, if that is a state.
@@ -202,5 +210,42 @@ pub fn of_keys(
         graph,
         initials: points.initials,
         finals: points.finals,
+    }
+}
+
+// One row into a graph without sets: without a claim limits lead nowhere.
+pub fn take_letter(graph: &mut Masks, before: Seen, row: Row) -> Seen
+    ensures { λ r. ⌜ TakesLetter (now (graph .entry)) before row (now (graph .exit)) r ⌝ }
+{
+    match row {
+        Row::Initial(s) => Seen {
+            initials: add(before.initials, s),
+            ..before
+        },
+        Row::Final(s) => Seen {
+            finals: add(before.finals, s),
+            ..before
+        },
+        Row::Successor(p, _, q) => {
+            put(graph, 0, p as usize, q);
+            before
+        }
+        Row::LeftLimit(_, _) => before,
+        Row::RightLimit(_, _) => before,
+        Row::Strike(s) => Seen {
+            struck: add(before.struck, s),
+            ..before
+        },
+    }
+}
+
+// The letter steps of all rows are in such a graph: those at struck states go.
+pub fn finish_letters(graph: &mut Masks, seen: Seen) -> Endpoints
+    ensures { λ r. ⌜ FinishesLetters (now (graph .entry)) seen (now (graph .exit)) (r .initials) (r .finals) ⌝ }
+{
+    strike(graph, 0, seen.struck);
+    Endpoints {
+        initials: masks::difference(seen.initials, seen.struck),
+        finals: masks::difference(seen.finals, seen.struck),
     }
 }

@@ -1,4 +1,4 @@
--- The rounds in arrays are the machine's, from closed (`closed-kept`) through each round (`stage-start`, `stage-more`, `round-kept`) to the end
+-- The rounds in arrays are the machine's, from closed (`closed-kept`, `closed-letters`) through each round (`stage-start`, `stage-more`, `round-kept`) to the end
 -- of its rounds (`stage-end`, `closed-end`); its claims are paired (`stage-paired`, `round-paired`), and what is lacking inside sets is kept
 -- from round to round (`tracked-start`, `tracked-more`).
 use Prim.Native.Nat.{ℕ, suc, _+_, _<_, _≤_}
@@ -11,7 +11,11 @@ use native.Mathlib.Omega.{arith}
 use Rattle.lists.specs.Tests.{Decides, _among_}
 use Rattle.masks.specs.Mask.{member, _∈_, _⊆_}
 use Rattle.masks.proofs.Member.{in-none, difference-left, difference-not}
+use Rattle.lists.proofs.Deciding.{alike}
 use Rattle.rows.specs.declared.Row.{Row}
+use Rattle.rows.specs.Rows.{standing-sets}
+use Rattle.orderings.specs.Decide.{accepts?}
+use Rattle.orderings.proofs.Deciding.{accepts·}
 use Rattle.orderings.specs.Steps.{Claim, loops, mixes}
 use Rattle.machine.specs.declared.Phase.{Phase}
 use Rattle.machine.specs.declared.Phase.the-variants.{Running}
@@ -26,7 +30,7 @@ use Rattle.search.specs.declared.Claims.{Claims}
 use Rattle.search.specs.Graph.{Graph, TurnedGraph}
 use Rattle.search.specs.Hops.{WithNew, no-claims}
 use Rattle.search.specs.Masked.{Forced}
-use Rattle.search.specs.Promises.{AcceptsRight, OpensBelow}
+use Rattle.search.specs.Promises.{AcceptsRight, AcceptsLetters, OpensBelow}
 use Rattle.lacks.specs.Lacks.{LacksIn, ByLetters, Supplies, AboveNew}
 use Rattle.candidates.specs.Promises.{LoopsAt, LiveBelow, Paired, LoopingAt, OpensAwaited}
 use Rattle.candidates.proofs.Awaiting.{live-fewer}
@@ -35,7 +39,7 @@ use Rattle.candidates.proofs.Holding.{paired-by}
 use Rattle.row_table.specs.Arrays.{SetsIn}
 use Rattle.row_table.proofs.Sets.{sets-in-held}
 use Rattle.rounds.specs.Arrays.{rounds-of, OpenPlaces, Notes}
-use Rattle.rounds.specs.Promises.{Given, Mirrors}
+use Rattle.rounds.specs.Promises.{Given, LettersGiven, Mirrors}
 use Rattle.rounds.proofs.OpenClaims.{forced-by, no-rounds}
 use Rattle.rounds.proofs.Turn.{none-forced, walk-test, Turn, turn-kept, turn-forced}
 
@@ -43,16 +47,26 @@ use Rattle.rounds.proofs.Turn.{none-forced, walk-test, Turn, turn-kept,
 pub not-running : (p q : Phase) → p ≡ q → ¬ (q ≡ Running) → Decides false (p ≡ Running)
 not-running p q e h = record { to = λ f. let z : _≡_ {A = ℕ} 0 1 = cc in absurd (omega arith); of = λ f. absurd (h (sym e ∙ f)) }
 
--- closed, with no claims in force
-pub closed-kept : (m : Machine) {g : Graph} {initials finals n : ℕ} → Given (m .rows) g initials finals n → (b : Bool) → AcceptsRight g no-claims initials finals b
-    → Mirrors (closed m) (replicate 64 0) (replicate 64 0) (judged b false) 0
+-- closed, with a test of the walks that need no claim
+closed-tested : (m : Machine) → length (standing-sets (m .rows)) ≤ 64 → (b : Bool) → b ≡ accepts? (m .rows) [] → Mirrors (closed m) (replicate 64 0) (replicate 64 0) (judged b false) 0
 unfolding closed
-closed-kept m {g} {n = n} given b r = record {
-  loops-are = sym (no-rounds (m .rows) loops (given .table .few-sets));
-  mixes-are = sym (no-rounds (m .rows) mixes (given .table .few-sets));
-  phase-is = ap (λ (x : Bool). judged x false) (walk-test (m .rows) given [] b (none-forced g n) r);
+closed-tested m few b e = record {
+  loops-are = sym (no-rounds (m .rows) loops few);
+  mixes-are = sym (no-rounds (m .rows) mixes few);
+  phase-is = ap (λ (x : Bool). judged x false) e;
   count-is = refl;
 }
+
+-- with no claims in force
+pub closed-kept : (m : Machine) {g : Graph} {initials finals n : ℕ} → Given (m .rows) g initials finals n → (b : Bool) → AcceptsRight g no-claims initials finals b
+    → Mirrors (closed m) (replicate 64 0) (replicate 64 0) (judged b false) 0
+closed-kept m {g} {n = n} given b r = closed-tested m (given .table .few-sets) b (walk-test (m .rows) given [] b (none-forced g n) r)
+
+-- by letters alone
+pub closed-letters : (m : Machine) {g : Graph} {initials finals : ℕ} → LettersGiven (m .rows) g initials finals → (b : Bool) → AcceptsLetters g initials finals b
+    → Mirrors (closed m) (replicate 64 0) (replicate 64 0) (judged b false) 0
+closed-letters m given b r = closed-tested m (given .table .few-sets) b
+    (alike (r (m .rows) (given .letters) (given .table .fit) (given .initial-iff) (given .final-iff)) (accepts· (m .rows) []) (λ x. x) (λ x. x))
 
 -- ---- one round
 

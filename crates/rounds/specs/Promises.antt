@@ -12,7 +12,7 @@ use Rattle.machine.specs.Calls.{close, round, run}
 use Rattle.machine.specs.WellFormed.{Table, WellFormed}
 use Rattle.search.specs.Graph.{Graph}
 use Rattle.search.specs.Hops.{Reached, no-claims}
-use Rattle.search.specs.Masked.{Masked, Initials, Finals}
+use Rattle.search.specs.Masked.{Masked, HasLetters, Initials, Finals}
 use Rattle.search.specs.Promises.{AcceptsRight}
 use Rattle.row_table.specs.Arrays.{SetsIn}
 use Rattle.rounds.specs.declared.Progress.{Progress}
@@ -37,9 +37,16 @@ pub record Mirrors (m : Machine) (loop-rounds mix-rounds : List ℕ) (phase : Ph
 abbrev pub closed-as : Bool → Progress
 closed-as accepted = record { «loop_rounds» = replicate 64 0; «mix_rounds» = replicate 64 0; phase = judged accepted false; rounds = 0 }
 
+-- the letter steps of a table of rows, its initial and its final states; the graph may have nothing else
+pub record LettersGiven (rows : List Row) (g : Graph) (initials finals : ℕ) : Type 0 where
+  pub table : Table rows
+  pub letters : HasLetters rows g
+  pub initial-iff : Initials rows initials
+  pub final-iff : Finals rows finals
+
 -- they are those of the machine, closed
 abbrev pub Closes : Graph → ℕ → ℕ → Progress → Type 0
-Closes g initials finals r = (m : Machine) (n : ℕ) → Given (m .rows) g initials finals n
+Closes g initials finals r = (m : Machine) → LettersGiven (m .rows) g initials finals
     → Mirrors (closed m) (r .«loop_rounds») (r .«mix_rounds») (r .phase) (r .rounds)
 
 -- where they were those of a machine, they are those of the machine after one round more

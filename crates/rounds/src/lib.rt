@@ -106,13 +106,11 @@ fn without_rounds(accepted: bool) -> Progress
     }
 }
 
-// Close: letters alone may lead from an initial to a final state.
+// Close: letters alone may lead from an initial to a final state. Nothing else of the graph is read.
 pub fn close(graph: &Masks, initials: Set, finals: Set) -> Progress
-    requires { ⌜ Indexed (now graph) ⌝ }
     ensures { λ r. ⌜ Closes (graph-of (now (graph .entry))) initials finals r ⌝ }
 {
-    let force = Claims { loops: 0, mixes: 0 };
-    let accepted = searches::accepts(graph, force, initials, finals);
+    let accepted = searches::accepts_by_letters(graph, initials, finals);
     without_rounds(accepted)
 }
 

@@ -44,7 +44,7 @@ module _ {rows : List Row} (fit : AllFit rows) where
   and-all x l h f s m = ⊎-elim (λ e. subst (λ (y : ℕ). y ∈ all-mask) (sym e) (has-all x h)) (f s) (List·Memᴰ·cases-cons m)
 
   -- every step whose rows stand is inside it
-  step-all : (a : ℕ) (l : Label) (b : ℕ) → HasRows rows a l b → (s : ℕ) → s among content a l b → s ∈ all-mask
+  pub step-all : (a : ℕ) (l : Label) (b : ℕ) → HasRows rows a l b → (s : ℕ) → s among content a l b → s ∈ all-mask
   step-all a (letter x) b h =
       let f = fit (Successor a x b) h in and-all a (b ∷ []) (f .0) (and-all b [] (f .2) (λ s m. absurd (List·Memᴰ·not-nil m)))
   step-all a (ω Q) b h = and-all b (members Q) (fit (LeftLimit Q b) (h .0) .2) (in-members Q)

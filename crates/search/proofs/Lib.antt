@@ -11,5 +11,6 @@ pub mod Passing
 pub mod Pulling
 pub mod Adding
 pub mod Accepting
+pub mod Lettering
 pub mod Reaching
 pub mod Opening

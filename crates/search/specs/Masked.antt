@@ -30,6 +30,10 @@ pub record Masked (rows : List Row) (g : Graph) (n : ℕ) : Type 0 where
   pub left-iff : (i r : ℕ) → i < n → (r ∈ getD (g .lefts) i 0) ↔ LeftRow rows (getD (g .sets) i 0) r
   pub right-iff : (i r : ℕ) → i < n → (r ∈ getD (g .rights) i 0) ↔ RightRow rows r (getD (g .sets) i 0)
 
+-- the letter steps of the graph are those of the rows, whatever else it has
+abbrev pub HasLetters : List Row → Graph → Type 0
+HasLetters rows g = (p q : ℕ) → (q ∈ getD (g .letters) p 0) ↔ ((a : ℕ) × Possible rows p (letter a) q)
+
 -- the mask of the initial states, and that of the final ones
 abbrev pub Initials : List Row → ℕ → Type 0
 Initials rows m = (s : ℕ) → (s ∈ m) ↔ IsInitial rows s

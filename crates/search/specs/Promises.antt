@@ -3,7 +3,7 @@ use Prim.Native.Nat.{ℕ, _<_}
 use mathlib.Core.Path.{_≡_}
 use mathlib.Core.Bool.{Bool}
 use mathlib.Core.Logic.{_↔_}
-use mathlib.Core.List.{List}
+use mathlib.Core.List.{List, []}
 use lib.ListN.{length, getD}
 use Rattle.lists.specs.Tests.{Decides, _among_}
 use Rattle.masks.specs.Mask.{_∈_}
@@ -14,7 +14,7 @@ use Rattle.orderings.specs.Systems.{Allowed, Holds}
 use Rattle.orderings.specs.Timelines.{timelines, Accepting}
 use Rattle.search.specs.declared.Claims.{Claims}
 use Rattle.search.specs.Graph.{Graph}
-use Rattle.search.specs.Masked.{Masked, Initials, Finals, Forced}
+use Rattle.search.specs.Masked.{Masked, HasLetters, Initials, Finals, Forced}
 use Rattle.search.specs.Hops.{Reached, WithNew}
 
 -- the graph is that of the rows, and the places are those of the claims in force
@@ -31,6 +31,11 @@ AcceptsRight g force initials finals r = (rows : List Row) (claims : List Claim)
 -- the same of whatever graph and claims lead from the initial states, in one step or more, to the states seen
 abbrev pub AcceptsSeen : ℕ → ℕ → ℕ → Bool → Type 0
 AcceptsSeen initials seen finals r = (g : Graph) (force : Claims) → Reached g force initials seen → AcceptsRight g force initials finals r
+
+-- r says whether letters alone lead from an initial to a final state, in zero or more steps
+abbrev pub AcceptsLetters : Graph → ℕ → ℕ → Bool → Type 0
+AcceptsLetters g initials finals r = (rows : List Row) → HasLetters rows g → AllFit rows → Initials rows initials → Finals rows finals
+    → Decides r ((w : Walk) × Accepting rows w × Allowed (timelines rows) (λ c. c among []) w)
 
 -- the claims in force are old ones, with which the states seen are reached, and new ones
 pub record SeenBefore (g : Graph) (force new : Claims) (initials seen : ℕ) : Type 0 where

@@ -19,9 +19,9 @@ use masks::union;
 use masks::with;
 ghost use mathlib.Core.Path.{_≡_};
 ghost use Rattle.search.specs.Graph.{graph-of, Indexed, BothWays};
-ghost use Rattle.search.specs.Hops.{Hop, Chain, Onward, all-mask, Reached, Joined};
+ghost use Rattle.search.specs.Hops.{Lettered, Hop, Chain, Onward, all-mask, Reached, Joined};
 ghost use Rattle.search.specs.Passes.{NewTargets, Unentered, Adding, Explores, FoundByPasses};
-ghost use Rattle.search.specs.Promises.{AcceptsRight, AcceptsSeen, SeenBefore};
+ghost use Rattle.search.specs.Promises.{AcceptsRight, AcceptsSeen, SeenBefore, AcceptsLetters};
 
 // So many states not found are looked at one by one.
 const FEW: usize = 8;
@@ -181,4 +181,28 @@ pub fn accepts(graph: &Masks, force: Claims, initials: Set, finals: Set) -> bool
 {
     let seen = reached(graph, force, initials);
     accepted(initials, seen, finals)
+}
+
+// The states to which a walk of one or more letter steps leads from the states `m`: each pass follows the states that the last one added.
+fn reached_by_letters(graph: &Masks, m: Set) -> Set
+    ensures { λ r. ⌜ Onward (Chain (Lettered (graph-of (now (graph .entry))))) m r ⌝ }
+{
+    let mut states: Set = 0;
+    let mut front = m;
+    loop {
+        let next = difference(lettered(graph, front), states);
+        if next == 0 {
+            return states;
+        }
+        states = union(states, next);
+        front = next;
+    }
+}
+
+// Does a walk of zero or more letter steps lead from an initial to a final state? Of the graph only the letters are read.
+pub fn accepts_by_letters(graph: &Masks, initials: Set, finals: Set) -> bool
+    ensures { λ r. ⌜ AcceptsLetters (graph-of (now (graph .entry))) initials finals r ⌝ }
+{
+    let seen = reached_by_letters(graph, initials);
+    meets(union(initials, seen), finals)
 }

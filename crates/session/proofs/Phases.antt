@@ -1,7 +1,7 @@
 -- Close, round, reopen and verdict: what the machine does, and what the session does.
-use Prim.Native.Nat.{_≤_, _<_}
+use Prim.Native.Nat.{ℕ, _≤_, _<_}
 use mathlib.Core.Path.{_≡_, refl}
-use mathlib.Core.List.{[]}
+use mathlib.Core.List.{List, []}
 use lib.ListN.{replicate}
 use native.Mathlib.Omega.{arith}
 use Rattle.machine.specs.declared.Answer.the-variants.{Done, Decided}
@@ -25,14 +25,15 @@ use Rattle.session.specs.declared.Session.{Session}
 use Rattle.session.specs.declared.Reply.{Reply}
 use Rattle.session.specs.declared.State.the-variants.{Open as IsOpen, Running as IsRunning}
 use Rattle.session.specs.Promise.{Ranged, Promised, HasState}
-use Rattle.session.specs.Standing.{reply, rounds-in, with-rounds, Reads}
+use Rattle.session.specs.Standing.{reply, rounds-in, with-rounds, Reads, LettersOfFirst}
 use Rattle.session.proofs.Gate.{does-as, promised, done-in}
 use Rattle.session.proofs.Rounded.{given-of, closed-record, reopened-record, round-record}
 
-module _ (s : Session) (a : Automaton) (reads : Reads s a) (now : Progress) {r : Reply} (made : r ≡ reply (with-rounds s now) Done) where
-  pub close-done : HasState s IsOpen → Closes (graph-of (a .graph)) (a .initials) (a .finals) now → Promised s (on close) [] [] r
-  close-done state c = done-in s closed state open-closes (λ x p. closed-record x s p a now reads c) made
+pub close-done : (s : Session) (graph : List ℕ) (initials finals : ℕ) → LettersOfFirst (s .rows) (s .«row_count») graph initials finals → (now : Progress) {r : Reply} → r ≡ reply (with-rounds s now) Done
+    → HasState s IsOpen → Closes (graph-of graph) initials finals now → Promised s (on close) [] [] r
+close-done s graph initials finals h now made state c = done-in s closed state open-closes (λ x p. closed-record x s p graph initials finals now h c) made
 
+module _ (s : Session) (a : Automaton) (reads : Reads s a) (now : Progress) {r : Reply} (made : r ≡ reply (with-rounds s now) Done) where
   pub round-done : HasState s IsRunning → (before : Progress) → before ≡ rounds-in s
       → DoesRound (graph-of (a .graph)) (a .initials) (a .finals) (s .«set_count») before now → Promised s (on round) [] [] r
   round-done state before k d =

@@ -1,20 +1,25 @@
 -- What the rounds keep is what the record holds: from the record, and back to it.
-use mathlib.Core.Path.{_≡_, refl, ap, sym, _∙_}
+use Prim.Native.Nat.{ℕ}
+use mathlib.Core.Path.{_≡_, refl, ap, sym, _∙_, subst}
+use mathlib.Core.List.{List}
 use lib.ListN.{replicate}
+use Rattle.rows.specs.declared.Row.{Row}
+use Rattle.rows.specs.Rows.{AllFit}
 use Rattle.orderings.specs.Steps.{loops, mixes}
 use Rattle.machine.specs.declared.Phase.the-variants.{Open}
 use Rattle.machine.specs.Machine.{Machine, closed, next-round, reopened}
 use Rattle.machine.specs.Marks.{Marked}
 use Rattle.search.specs.Graph.{graph-of}
 use Rattle.automaton.specs.declared.Automaton.{Automaton}
+use Rattle.automaton.specs.Promise.{GivesLetters, automaton-of}
 use Rattle.rounds.specs.declared.Progress.{Progress}
 use Rattle.rounds.specs.Promises.{Given, Mirrors, Closes, DoesRound}
 use Rattle.rounds.proofs.OpenClaims.{no-rounds}
 use Rattle.whole_sheet.proofs.Automata.{given-rows}
 use Rattle.session.specs.declared.Session.{Session}
 use Rattle.session.specs.Record.{record-of, Represents}
-use Rattle.session.specs.Standing.{rounds-in, with-rounds, Reads, with-now}
-use Rattle.session.proofs.Whole.{sets-in-of}
+use Rattle.session.specs.Standing.{rounds-in, with-rounds, Reads, LettersOfFirst, with-now}
+use Rattle.session.proofs.Whole.{standing-of, sets-in-of}
 
 module _ (x : Marked) (s : Session) (p : Represents x s) where
   -- the masks of the machine's rows
@@ -36,10 +41,14 @@ module _ (x : Marked) (s : Session) (p : Represents x s) where
   unfolding record-of
   kept-record to now same k = ap (λ (t : Session). with-rounds t now) (p .whole) ∙ rw (k .loops-are, k .mixes-are, k .phase-is, k .count-is, same) refl
 
-  pub closed-record : (a : Automaton) (now : Progress) → Reads s a → Closes (graph-of (a .graph)) (a .initials) (a .finals) now
+  pub closed-record : (graph : List ℕ) (initials finals : ℕ) (now : Progress) → LettersOfFirst (s .rows) (s .«row_count») graph initials finals → Closes (graph-of graph) initials finals now
       → with-rounds s now ≡ record-of (with-now x (closed (x .now)))
   unfolding closed
-  closed-record a now h c = kept-record (closed (x .now)) now refl (c (x .now) (s .«set_count») (given-of a h))
+  closed-record graph initials finals now h c =
+      let t = p .formed .now-formed .table in
+      let g : GivesLetters (x .now .rows) (automaton-of graph initials finals) =
+      subst (λ (l : List Row). GivesLetters l (automaton-of graph initials finals)) (standing-of x s p) (h (subst AllFit (sym (standing-of x s p)) (t .fit))) in
+      kept-record (closed (x .now)) now refl (c (x .now) (record { table = t; letters = g .letters; initial-iff = g .initial-iff; final-iff = g .final-iff }))
 
   pub round-record : (a : Automaton) (now : Progress) → Reads s a
       → DoesRound (graph-of (a .graph)) (a .initials) (a .finals) (s .«set_count») (rounds-in s) now

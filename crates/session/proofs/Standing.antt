@@ -16,7 +16,7 @@ use Rattle.session.specs.Standing.{first-rows}
 
 module _ (l : List Slot) where
   -- one row more
-  row-more : (i : ℕ) → i < length l → first-rows (i + 1) l ≡ first-rows i l ++ (getD l i blank .row ∷ [])
+  pub row-more : (i : ℕ) → i < length l → first-rows (i + 1) l ≡ first-rows i l ++ (getD l i blank .row ∷ [])
   unfolding first-rows
   row-more i h = let e : i + 1 ≡ suc i = omega arith in rw (e, take-suc l i blank h) (map-append (λ (s : Slot). s .row) (take i l) (getD l i blank ∷ []))
 

@@ -3,6 +3,7 @@ use Prim.Native.Nat.{ℕ}
 use mathlib.Core.Path.{_≡_, ap, sym, _∙_, subst}
 use mathlib.Core.List.{List}
 use lib.ListN.{length}
+use Rattle.rows.specs.declared.Row.{Row}
 use Rattle.rows.specs.Rows.{batch-of}
 use Rattle.machine.specs.declared.Answer.{Answer}
 use Rattle.machine.specs.declared.Answer.the-variants.{Refused}
@@ -10,7 +11,7 @@ use Rattle.machine.specs.declared.Verdict.{Verdict}
 use Rattle.machine.specs.declared.Verdict.the-variants.{NonEmpty, Empty}
 use Rattle.machine.specs.declared.Phase.the-variants.{Settled}
 use Rattle.machine.specs.Machine.{Machine}
-use Rattle.machine.specs.WellFormed.{WellFormed}
+use Rattle.machine.specs.WellFormed.{Table, WellFormed}
 use Rattle.machine.specs.Calls.{Call, print, save, expression, Next, write, saved, TellsText}
 use Rattle.machine.specs.Sheet.{sheet}
 use Rattle.machine.specs.Expression.{expression-of}
@@ -20,33 +21,39 @@ use Rattle.machine.proofs.Answers.{tells-as}
 use Rattle.machine.proofs.Phases.{empty-refuses}
 use Rattle.machine.proofs.Tables.{sort-table}
 use Rattle.machine.proofs.Outcomes.{writing}
-use Rattle.row_table.specs.Arrays.{Keyed}
+use Rattle.row_table.specs.Arrays.{Keyed, SetsIn}
 use Rattle.row_table.specs.Letters.{LettersIn}
+use Rattle.row_table.proofs.Sets.{sets-in-held}
 use Rattle.search.specs.Graph.{graph-of}
 use Rattle.automaton.specs.declared.Automaton.{Automaton}
-use Rattle.automaton.specs.Promise.{GivesKeyed}
+use Rattle.automaton.specs.Promise.{Gives, GivesKeyed}
 use Rattle.rounds.specs.declared.Progress.{Progress}
 use Rattle.rounds.specs.Promises.{Given, Mirrors}
 use Rattle.walks.proofs.Standing.{keyed-letters}
 use Rattle.expression.specs.Promise.{ExpressesWalk}
 use Rattle.whole_sheet.specs.Promise.{PrintsSheet}
 use Rattle.whole_sheet.specs.Saving.{row-list}
-use Rattle.whole_sheet.proofs.Automata.{gives-filed, given-rows}
+use Rattle.whole_sheet.proofs.Automata.{given-rows}
 use Rattle.whole_sheet.proofs.Saving.{rows-held}
 use Rattle.session.specs.declared.Session.{Session}
 use Rattle.session.specs.declared.Reply.{Reply}
 use Rattle.session.specs.declared.State.the-variants.{Settled as IsSettled}
 use Rattle.session.specs.Record.{Represents}
 use Rattle.session.specs.Promise.{Ranged, Promised, HasState}
-use Rattle.session.specs.Standing.{standing, reply, rounds-in, Reads}
-use Rattle.session.proofs.Whole.{keyed-of, sets-in-of}
+use Rattle.session.specs.declared.Slot.{Slot}
+use Rattle.session.specs.Standing.{first-rows, standing, reply, rounds-in, Reads, GivesFirst}
+use Rattle.session.proofs.Whole.{standing-of, keyed-of, sets-in-of}
 use Rattle.session.proofs.Gate.{in-phase, does-as, promised, refused-settled}
 use Rattle.session.proofs.Rounded.{mirrors-of}
 
--- the masks of the machine's rows, from the keys of the standing rows
-pub reads-of : (s : Session) (high low : List ℕ) → Keyed (standing s) high low (s .«row_count»)
-    → (a : Automaton) → GivesKeyed high low (s .«row_count») (s .sets) (s .«set_count») a → Reads s a
-reads-of s high low keyed a g x p = gives-filed (p .formed .now-formed .table) (keyed-of x s p high low keyed, sets-in-of x s p) g
+-- the masks of the first rows of an array, from their keys
+pub gives-first : (l : List Slot) (n : ℕ) (sets : List ℕ) (k : ℕ) (high low : List ℕ) → Keyed (first-rows n l) high low n → (a : Automaton) → GivesKeyed high low n sets k a → GivesFirst l n sets k a
+gives-first l n sets k high low keyed a g fit = g (first-rows n l) fit keyed
+
+-- those of the machine's rows
+pub reads-of : (s : Session) (a : Automaton) → GivesFirst (s .rows) (s .«row_count») (s .sets) (s .«set_count») a → Reads s a
+reads-of s a g x p = subst (λ (l : List Row). Table l → SetsIn l (s .sets) (s .«set_count») → Gives l (s .sets) (s .«set_count») a) (standing-of x s p)
+    (λ t w. g (t .fit) (w .count) (sets-in-held (standing s) (s .sets) (s .«set_count») w)) (p .formed .now-formed .table) (sets-in-of x s p)
 
 -- a text that the machine writes for a call, in the session's buffer
 writes : (s : Session) → Ranged s → (old new : List ℕ) → length new ≡ length old → (r : Answer) (c : Call)

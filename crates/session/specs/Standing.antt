@@ -14,7 +14,7 @@ use Rattle.machine.specs.WellFormed.{Table, WellFormed}
 use Rattle.machine.specs.Marks.{Marked, fresh-marked}
 use Rattle.row_table.specs.Arrays.{padded, Keyed}
 use Rattle.automaton.specs.declared.Automaton.{Automaton}
-use Rattle.automaton.specs.Promise.{Gives}
+use Rattle.automaton.specs.Promise.{Gives, GivesLetters, automaton-of}
 use Rattle.rounds.specs.declared.Progress.{Progress}
 use Rattle.session.specs.declared.Slot.{Slot}
 use Rattle.session.specs.declared.Session.{Session}
@@ -82,6 +82,15 @@ TakesTable s Has (Refused n place) r = r ≡ reply s (Refused n place)
 -- the masks of the rows of the machine that the session represents
 abbrev pub Reads : Session → Automaton → Type 0
 Reads s r = (x : Marked) → Represents x s → Gives (x .now .rows) (s .sets) (s .«set_count») r
+
+-- the masks of the first n rows of an array, whose sets are the first k
+abbrev pub GivesFirst : List Slot → ℕ → List ℕ → ℕ → Automaton → Type 0
+GivesFirst l n sets k r = AllFit (first-rows n l) → k ≡ length (standing-sets (first-rows n l)) → take k sets ≡ standing-sets (first-rows n l)
+    → Gives (first-rows n l) sets k r
+
+-- their letter steps, initial and final states
+abbrev pub LettersOfFirst : List Slot → ℕ → List ℕ → ℕ → ℕ → Type 0
+LettersOfFirst l n graph initials finals = AllFit (first-rows n l) → GivesLetters (first-rows n l) (automaton-of graph initials finals)
 
 -- ---- marks
 

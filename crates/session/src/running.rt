@@ -2,11 +2,13 @@
 use crate::Reply;
 use crate::Session;
 use crate::State;
+use crate::tables::put_letters;
 use machine::Answer;
 use machine::FOREIGN_RECORD;
 use machine::MOST_SETS;
 use machine::Phase;
 use rounds::Progress;
+use search::graphs::MASKS;
 ghost use mathlib.Core.Path.{_≡_};
 ghost use mathlib.Core.List.{[]};
 ghost use Rattle.machine.specs.declared.Answer.the-variants.{Done};
@@ -51,14 +53,15 @@ impl Session {
         Reply { session, answer }
     }
 
-    // Close of an open session: no claim is open.
+    // Close of an open session: no claim is open, so letters alone are read.
     fn close_open(self) -> Reply
         requires { ⌜ HasState self State.Open ⌝ }
         ensures { λ r. ⌜ Promised self (on close) [] [] r ⌝ }
     {
-        let a = self.automaton();
-        let graph = a.graph;
-        let now = rounds::close(&graph, a.initials, a.finals);
+        let mut graph = [0u64; MASKS];
+        let rows = self.rows;
+        let points = put_letters(rows, self.row_count, &mut graph);
+        let now = rounds::close(&graph, points.initials, points.finals);
         self.done_with(now)
     }
 

@@ -1,18 +1,24 @@
-// The fresh session; the table of a session as arrays of keys, and its automaton.
+// The fresh session; the table of a session as arrays of keys, its automaton, and what close reads of it. What loops takes the rows alone, not
+// the record: it is copied for a call.
 use crate::Keys;
 use crate::Session;
 use crate::Slot;
 use automaton::Automaton;
+use automaton::Endpoints;
+use automaton::Seen;
 use machine::MOST_ROWS;
 use machine::MOST_SETS;
 use machine::Phase;
 use marks::Marks;
 use rows::Row;
+use search::graphs::Masks;
+ghost use mathlib.Core.Path.{_≡_};
+ghost use lib.ListN.{replicate};
 ghost use Prim.Native.Nat.{_≤_};
 ghost use Rattle.row_table.specs.Arrays.{Keyed};
 ghost use Rattle.search.specs.Graph.{Indexed};
 ghost use Rattle.session.specs.Promise.{Fresh, Ranged};
-ghost use Rattle.session.specs.Standing.{standing, Slotted, Reads};
+ghost use Rattle.session.specs.Standing.{first-rows, standing, Slotted, Reads, GivesFirst, LettersOfFirst};
 
 // The rows of the first `n` keys, and then the filler.
 pub(crate) fn slots(high: &[u64; MOST_ROWS], low: &[u64; MOST_ROWS], n: usize) -> [Slot; MOST_ROWS]
@@ -30,6 +36,57 @@ pub(crate) fn slots(high: &[u64; MOST_ROWS], low: &[u64; MOST_ROWS], n: usize) -
         i += 1;
     }
     rows
+}
+
+// The keys of the first `n` rows.
+fn keys_of(rows: [Slot; MOST_ROWS], n: usize) -> Keys
+    requires { ⌜ n ≤ 256 ⌝ }
+    ensures { λ r. ⌜ Keyed (first-rows n rows) (r .high) (r .low) n ⌝ }
+{
+    let mut high = [0u64; MOST_ROWS];
+    let mut low = [0u64; MOST_ROWS];
+    let mut i = 0;
+    while i < n {
+        let slot = rows[i];
+        let row = slot.row;
+        high[i] = rows::high_of(row);
+        low[i] = rows::low_of(row);
+        i += 1;
+    }
+    Keys { high, low }
+}
+
+// The automaton of the first `n` rows, whose sets are the first `k`.
+fn automaton_of(rows: [Slot; MOST_ROWS], n: usize, sets: [u64; MOST_SETS], k: usize) -> Automaton
+    requires { ⌜ (n ≤ 256) × (k ≤ 64) ⌝ }
+    ensures gives { λ r. ⌜ GivesFirst rows n sets k r ⌝ }
+    ensures indexed { λ r. ⌜ Indexed (r .graph) ⌝ }
+{
+    let keys = keys_of(rows, n);
+    let high = keys.high;
+    let low = keys.low;
+    automaton::of_keys(&high, &low, n, &sets, k)
+}
+
+// The letter steps of the first `n` rows, into a graph that has nothing yet; their initial and their final states.
+pub(crate) fn put_letters(rows: [Slot; MOST_ROWS], n: usize, graph: &mut Masks) -> Endpoints
+    requires { ⌜ n ≤ 256 ⌝ }
+    ensures { λ r. ⌜ (now (graph .entry) ≡ replicate 448 0 →
+        LettersOfFirst rows n (now (graph .exit)) (r .initials) (r .finals)) ⌝ }
+{
+    let mut seen = Seen {
+        initials: 0,
+        finals: 0,
+        struck: 0,
+    };
+    let mut i = 0;
+    while i < n {
+        let slot = rows[i];
+        let row = slot.row;
+        seen = automaton::take_letter(graph, seen, row);
+        i += 1;
+    }
+    automaton::finish_letters(graph, seen)
 }
 
 impl Session {
@@ -63,18 +120,8 @@ impl Session {
         requires { ⌜ Ranged self ⌝ }
         ensures { λ r. ⌜ Keyed (standing self) (r .high) (r .low) (self .«row_count») ⌝ }
     {
-        let n = self.row_count;
-        let mut high = [0u64; MOST_ROWS];
-        let mut low = [0u64; MOST_ROWS];
-        let mut i = 0;
-        while i < n {
-            let slot = self.rows[i];
-            let row = slot.row;
-            high[i] = rows::high_of(row);
-            low[i] = rows::low_of(row);
-            i += 1;
-        }
-        Keys { high, low }
+        let rows = self.rows;
+        keys_of(rows, self.row_count)
     }
 
     // The automaton of the standing rows.
@@ -83,12 +130,8 @@ impl Session {
         ensures reads { λ r. ⌜ Reads self r ⌝ }
         ensures indexed { λ r. ⌜ Indexed (r .graph) ⌝ }
     {
+        let rows = self.rows;
         let sets = self.sets;
-        let n = self.row_count;
-        let k = self.set_count;
-        let keys = self.keys();
-        let high = keys.high;
-        let low = keys.low;
-        automaton::of_keys(&high, &low, n, &sets, k)
+        automaton_of(rows, self.row_count, sets, self.set_count)
     }
 }

@@ -1,4 +1,4 @@
--- `keys` meets its contract. The invariant: the arrays hold the keys of the rows passed.
+-- `keys_of` meets its contract. The invariant: the arrays hold the keys of the rows passed.
 use Prim.Native.Nat.{_-_, _≤_, _<_}
 use mathlib.Core.Path.{_≡_, refl, _∙_}
 use native.Mathlib.Omega.{arith}
@@ -7,28 +7,28 @@ use lib.ListN.{length, length-map, length-set}
 use Rattle.session.specs.Standing.{first-rows}
 use Rattle.row_table.specs.Arrays.{Keyed}
 use Rattle.session.proofs.Standing.{no-key, key-more}
-use Rattle.session.proofs.Session.keys.Statement.{statement}
-use Rattle.session.proofs.Session.keys.Tie as tie
+use Rattle.session.proofs.tables.keys_of.Statement.{statement}
+use Rattle.session.proofs.tables.keys_of.Tie as tie
 
 abbrev Inv-loop : tie.InvT-loop
-Inv-loop self n high₀ low₀ i₀ high low i = (i ≤ n) × (length high ≡ 256) × (length low ≡ 256) × Keyed (first-rows i (self .rows)) high low i
+Inv-loop n rows high₀ low₀ i₀ high low i = (i ≤ n) × (length high ≡ 256) × (length low ≡ 256) × Keyed (first-rows i (rows)) high low i
 
 abbrev μ-loop : tie.MeasureT-loop
-μ-loop self n high₀ low₀ i₀ high low i = n - i
+μ-loop n rows high₀ low₀ i₀ high low i = n - i
 
 -- the array has 256 rows
-long : (c : tie.Start Inv-loop μ-loop) → length (c .args .t1 .rows) ≡ 256
-long c = simp length-map at (c .good .0 .1 .1 .0 .1 .0 .1)
+long : (c : tie.Start Inv-loop μ-loop) → length (c .args .t1) ≡ 256
+long c = c .good .0 .1 .0 .1
 
 loop-holds : tie.Need-loop-holds Inv-loop μ-loop
-loop-holds c = (omega arith, refl, refl, no-key (c .args .t1 .rows) _ _)
+loop-holds c = (omega arith, refl, refl, no-key (c .args .t1) _ _)
 
 loop-again : tie.Need-loop-again Inv-loop μ-loop
 loop-again c =
     let h = c .before .before .before .before in
-    let l = h .before .args .t1 .rows in
+    let l = h .before .args .t1 in
     let i = h .loop .i in
-    let t : i < 256 = omega (arith, h .before .pre .few, c .before .before .before .loop-test .taken) in (
+    let t : i < 256 = omega (arith, h .before .pre, c .before .before .before .loop-test .taken) in (
       omega arith,
       length-set (h .loop .high) i (c .before .high-of .result) ∙ h .loop .inv .1,
       length-set (h .loop .low) i (c .low-of .result) ∙ h .loop .inv .2,
@@ -37,10 +37,10 @@ loop-again c =
     )
 
 returns : tie.Need-returns Inv-loop μ-loop
-returns c = let e : c .before .loop .i ≡ c .before .before .args .t1 .«row_count» = omega arith in rw (← e) (c .before .loop .inv .3)
+returns c = let e : c .before .loop .i ≡ c .before .before .args .n = omega arith in rw (← e) (c .before .loop .inv .3)
 
-pub keys-spec : {M : Type 1} → statement M
-keys-spec =
+pub keys-of-spec : {M : Type 1} → statement M
+keys-of-spec =
     tie.close
     (tie.spec
     Inv-loop
