@@ -55,6 +55,9 @@ pub reads-of : (s : Session) (a : Automaton) → GivesFirst (s .rows) (s .«row_
 reads-of s a g x p = subst (λ (l : List Row). Table l → SetsIn l (s .sets) (s .«set_count») → Gives l (s .sets) (s .«set_count») a) (standing-of x s p)
     (λ t w. g (t .fit) (w .count) (sets-in-held (standing s) (s .sets) (s .«set_count») w)) (p .formed .now-formed .table) (sets-in-of x s p)
 
+pub reads-keyed : (s : Session) (high low : List ℕ) → Keyed (standing s) high low (s .«row_count») → (a : Automaton) → GivesKeyed high low (s .«row_count») (s .sets) (s .«set_count») a → Reads s a
+reads-keyed s high low keyed a g = reads-of s a (gives-first (s .rows) (s .«row_count») (s .sets) (s .«set_count») high low keyed a g)
+
 -- a text that the machine writes for a call, in the session's buffer
 writes : (s : Session) → Ranged s → (old new : List ℕ) → length new ≡ length old → (r : Answer) (c : Call)
     → ((x : Marked) → Represents x s → (text : List ℕ) × Writes (x .now) c text (length old) × TellsText text old new r) → Promised s (on c) old new (reply s r)

@@ -27,6 +27,11 @@ use Rattle.session.specs.Record.{slot, blank, record-of, Represents}
 unfoldable pub first-rows : ℕ → List Slot → List Row
 first-rows n l = map (λ s. s .row) (take n l)
 
+-- the keys of the first n rows of an array, into two arrays of 256 words
+pub record PutsKeys (l : List Slot) (n : ℕ) (high high′ low low′ : List ℕ) : Type 0 where
+  pub length-is : (length high′ ≡ length high) × (length low′ ≡ length low)
+  pub keyed : length high ≡ 256 → length low ≡ 256 → Keyed (first-rows n l) high′ low′ n
+
 -- the rows that stand
 abbrev pub standing : Session → List Row
 standing s = first-rows (s .«row_count») (s .rows)

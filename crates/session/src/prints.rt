@@ -2,7 +2,9 @@
 use crate::Reply;
 use crate::Session;
 use crate::State;
+use crate::tables::put_keys;
 use machine::FOREIGN_RECORD;
+use machine::MOST_ROWS;
 use machine::Verdict;
 use search::graphs;
 use search::graphs::MASKS;
@@ -12,7 +14,7 @@ ghost use Rattle.machine.specs.Marks.{on};
 ghost use Rattle.session.specs.Promise.{HasState, Promised};
 
 impl Session {
-    // The sheet of a settled session.
+    // The sheet of a settled session: the keys are made once, for the graph and for the letters of the walk.
     fn print_settled(self, v: Verdict, buffer: &mut [u8]) -> Reply
         requires { ⌜ HasState self (State.Settled v) ⌝ }
         ensures { λ r. ⌜ Promised self (on (print (length (now (buffer .entry)))))
@@ -20,10 +22,13 @@ impl Session {
     {
         let n = self.row_count;
         let k = self.set_count;
-        let keys = self.keys();
-        let high = keys.high;
-        let a = self.automaton();
-        let graph = a.graph;
+        let rows = self.rows;
+        let sets = self.sets;
+        let mut high = [0u64; MOST_ROWS];
+        let mut low = [0u64; MOST_ROWS];
+        put_keys(rows, n, &mut high, &mut low);
+        let mut graph = [0u64; MASKS];
+        let points = automaton::fill(&mut graph, &high, &low, n, &sets, k);
         let mut back = [0u64; MASKS];
         graphs::turn_indexed(&graph, &mut back);
         let kept = self.progress();
@@ -35,8 +40,8 @@ impl Session {
             k,
             &graph,
             &back,
-            a.initials,
-            a.finals,
+            points.initials,
+            points.finals,
             kept,
         );
         Reply {

@@ -18,7 +18,7 @@ ghost use Prim.Native.Nat.{_≤_};
 ghost use Rattle.row_table.specs.Arrays.{Keyed};
 ghost use Rattle.search.specs.Graph.{Indexed};
 ghost use Rattle.session.specs.Promise.{Fresh, Ranged};
-ghost use Rattle.session.specs.Standing.{first-rows, standing, Slotted, Reads, GivesFirst, LettersOfFirst};
+ghost use Rattle.session.specs.Standing.{PutsKeys, standing, Slotted, Reads, GivesFirst, LettersOfFirst};
 
 // The rows of the first `n` keys, and then the filler.
 pub(crate) fn slots(high: &[u64; MOST_ROWS], low: &[u64; MOST_ROWS], n: usize) -> [Slot; MOST_ROWS]
@@ -38,13 +38,16 @@ pub(crate) fn slots(high: &[u64; MOST_ROWS], low: &[u64; MOST_ROWS], n: usize) -
     rows
 }
 
-// The keys of the first `n` rows.
-fn keys_of(rows: [Slot; MOST_ROWS], n: usize) -> Keys
+// The keys of the first `n` rows, into the front of two arrays.
+pub(crate) fn put_keys(
+    rows: [Slot; MOST_ROWS],
+    n: usize,
+    high: &mut [u64; MOST_ROWS],
+    low: &mut [u64; MOST_ROWS],
+)
     requires { ⌜ n ≤ 256 ⌝ }
-    ensures { λ r. ⌜ Keyed (first-rows n rows) (r .high) (r .low) n ⌝ }
+    ensures { λ _. ⌜ PutsKeys rows n (now (high .entry)) (now (high .exit)) (now (low .entry)) (now (low .exit)) ⌝ }
 {
-    let mut high = [0u64; MOST_ROWS];
-    let mut low = [0u64; MOST_ROWS];
     let mut i = 0;
     while i < n {
         let slot = rows[i];
@@ -53,7 +56,6 @@ fn keys_of(rows: [Slot; MOST_ROWS], n: usize) -> Keys
         low[i] = rows::low_of(row);
         i += 1;
     }
-    Keys { high, low }
 }
 
 // The automaton of the first `n` rows, whose sets are the first `k`.
@@ -62,9 +64,9 @@ fn automaton_of(rows: [Slot; MOST_ROWS], n: usize, sets: [u64; MOST_SETS], k: us
     ensures gives { λ r. ⌜ GivesFirst rows n sets k r ⌝ }
     ensures indexed { λ r. ⌜ Indexed (r .graph) ⌝ }
 {
-    let keys = keys_of(rows, n);
-    let high = keys.high;
-    let low = keys.low;
+    let mut high = [0u64; MOST_ROWS];
+    let mut low = [0u64; MOST_ROWS];
+    put_keys(rows, n, &mut high, &mut low);
     automaton::of_keys(&high, &low, n, &sets, k)
 }
 
@@ -121,7 +123,10 @@ impl Session {
         ensures { λ r. ⌜ Keyed (standing self) (r .high) (r .low) (self .«row_count») ⌝ }
     {
         let rows = self.rows;
-        keys_of(rows, self.row_count)
+        let mut high = [0u64; MOST_ROWS];
+        let mut low = [0u64; MOST_ROWS];
+        put_keys(rows, self.row_count, &mut high, &mut low);
+        Keys { high, low }
     }
 
     // The automaton of the standing rows.
