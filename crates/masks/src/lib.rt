@@ -3,11 +3,12 @@
 ghost use mathlib.Core.Path.{_≡_};
 ghost use mathlib.Core.Bool.{not, _&&_, _||_};
 ghost use mathlib.Core.Logic.{_↔_};
-ghost use Prim.Native.Nat.{ℕ, _≤_, _<_};
+ghost use Prim.Native.Nat.{ℕ, _+_, _*_, _%_, _≤_, _<_};
 ghost use lib.Count.{ones};
 ghost use lib.Dec.{eqb};
 ghost use lib.ListN.{length};
 ghost use Rattle.lists.specs.Tests.{Decides};
+ghost use Rattle.masks.specs.Blocks.{Width, LowerPlaces, LowMask, HighMask, RowsExchanged, BlocksExchanged, FirstMasks};
 ghost use Rattle.masks.specs.Graph.{Targets, SourceAdded, Turned};
 ghost use Rattle.masks.specs.Mask.{member, _∈_, _⊆_, TakesLowest};
 
@@ -161,4 +162,76 @@ pub fn transpose(succ: &[Set]) -> [Set; STATES]
         i += 1;
     }
     back
+}
+
+// The mask `low` with the lower blocks of `high` for its upper ones; `lower` has the places of lower blocks of `b` places.
+fn low_mask(low: Set, high: Set, b: usize, lower: Set) -> Set
+    requires { ⌜ Width b × LowerPlaces b lower ⌝ }
+    ensures { λ r. ⌜ LowMask b low high r ⌝ }
+{
+    (low & lower) | ((high & lower) << b)
+}
+
+// The mask `high` with the upper blocks of `low` for its lower ones.
+fn high_mask(low: Set, high: Set, b: usize, lower: Set) -> Set
+    requires { ⌜ Width b × LowerPlaces b lower ⌝ }
+    ensures { λ r. ⌜ HighMask b low high r ⌝ }
+{
+    ((low >> b) & lower) | (high & !lower)
+}
+
+// Exchanges blocks of `b` places between the `b` masks from `g` on and the next `b`.
+fn exchange_rows(m: &mut [Set; STATES], g: usize, b: usize, lower: Set)
+    requires { ⌜ Width b × LowerPlaces b lower × (g % (2 * b) ≡ 0) × (g + 2 * b ≤ 64) ⌝ }
+    ensures { λ _. ⌜ RowsExchanged b g (now (m .entry)) (now (m .exit)) ⌝ }
+{
+    let mut i = 0;
+    while i < b {
+        let low = m[g + i];
+        let high = m[g + b + i];
+        m[g + i] = low_mask(low, high, b, lower);
+        m[g + b + i] = high_mask(low, high, b, lower);
+        i += 1;
+    }
+}
+
+// Exchanges blocks of `b` places between all masks.
+fn exchange_blocks(m: &mut [Set; STATES], b: usize, lower: Set)
+    requires { ⌜ Width b × LowerPlaces b lower ⌝ }
+    ensures { λ _. ⌜ BlocksExchanged b (now (m .entry)) (now (m .exit)) ⌝ }
+{
+    let mut g = 0;
+    while g < STATES {
+        exchange_rows(m, g, b, lower);
+        g += 2 * b;
+    }
+}
+
+// The first 64 masks.
+fn first_masks(succ: &[Set]) -> [Set; STATES]
+    requires { ⌜ 64 ≤ length (now succ) ⌝ }
+    ensures { λ r. ⌜ FirstMasks (now (succ .entry)) r ⌝ }
+{
+    let mut m = [0u64; STATES];
+    let mut i = 0;
+    while i < STATES {
+        m[i] = succ[i];
+        i += 1;
+    }
+    m
+}
+
+// As `transpose`, in a time that does not depend on how many edges there are: block by block, by halves.
+pub fn transpose_dense(succ: &[Set]) -> [Set; STATES]
+    requires { ⌜ 64 ≤ length (now succ) ⌝ }
+    ensures { λ r. ⌜ Turned (now (succ .entry)) r ⌝ }
+{
+    let mut m = first_masks(succ);
+    exchange_blocks(&mut m, 32, 0x00000000FFFFFFFF);
+    exchange_blocks(&mut m, 16, 0x0000FFFF0000FFFF);
+    exchange_blocks(&mut m, 8, 0x00FF00FF00FF00FF);
+    exchange_blocks(&mut m, 4, 0x0F0F0F0F0F0F0F0F);
+    exchange_blocks(&mut m, 2, 0x3333333333333333);
+    exchange_blocks(&mut m, 1, 0x5555555555555555);
+    m
 }
