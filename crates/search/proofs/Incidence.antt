@@ -1,4 +1,4 @@
--- Which sets a state is in, and which have a limit of it: written part by part (`filling-more`, `indexing-more`, `indexes`), in
+-- Which sets a state is in, and which have a limit of it: written part by part (`filling-more`, `indexing-more`, `turned-into`, `indexes`), in
 -- the graph turned round too (`turns-into`, `turns-indexed`), and the steps by claims that they give (`claims-lead`, `all-touched`).
 use Prim.Native.Nat.{ℕ, _+_, _≤_, _<_}
 use mathlib.Core.Path.{_≡_, refl, ap, sym, subst, _∙_}
@@ -64,15 +64,12 @@ module _ (l b₀ b₁ b₂ b₃ b₄ letters : List ℕ) (f₁ : Fills b₀ 0 (p
   stays₁ : (j : ℕ) → j < 64 → getD b₄ j 0 ≡ getD b₁ j 0
   stays₁ j h = stays₂ j (omega arith) ∙ f₂ .others j (inl h)
 
-  letter : (j : ℕ) → j < 64 → getD (part letters 0) j 0 ≡ getD letters j 0
-  letter j h = let z : 0 + j ≡ j = omega arith in rw z at (at-part letters 0 j h)
-
   pub turns-into : Turned l letters → TurnsInto l b₀ b₄
   unfolding graph-of
   turns-into is = record {
     length-is = f₄ .length-is ∙ f₃ .length-is ∙ f₂ .length-is ∙ f₁ .length-is;
     turned = λ size. record {
-      turned = λ i j hi hj. ap (member i) (at-part b₄ 0 j hj ∙ stays₁ (0 + j) (omega arith) ∙ f₁ .filled size j hj ∙ letter j hj) ∙ is i j hi hj ∙ ap (member j) (sym (letters-at l i hi));
+      turned = λ i j hi hj. ap (member i) (at-part b₄ 0 j hj ∙ stays₁ (0 + j) (omega arith) ∙ f₁ .filled size j hj ∙ letters-at letters j hj) ∙ is i j hi hj ∙ ap (member j) (sym (letters-at l i hi));
       sets-are = as-part l b₄ 64 64 (λ j h. stays₂ (64 + j) (omega arith) ∙ f₂ .filled (f₁ .length-is ∙ size) j h);
       lefts-are = as-part l b₄ 128 192 (λ j h. stays₃ (128 + j) (omega arith) ∙ f₃ .filled (f₂ .length-is ∙ f₁ .length-is ∙ size) j h);
       rights-are = as-part l b₄ 192 128 (f₄ .filled (f₃ .length-is ∙ f₂ .length-is ∙ f₁ .length-is ∙ size));
@@ -142,6 +139,17 @@ module _ (old : List ℕ) (from by : ℕ) (apart : from + 64 ≤ by) where
         (sources-some (part old from) (part new by) n (now .sources e none) (λ a g h. at-part old from a h ∙ ends a g h));
     others = now .others;
   }
+
+-- a part turned round at once, and written over another
+pub turned-into : (old : List ℕ) (from by : ℕ) (turned new : List ℕ) → from + 64 ≤ by → Turned (part old from) turned → Fills old by (part turned 0) new
+    → (n : ℕ) → PartIndexed old from by n new
+unfolding graph-of
+turned-into old from by turned new apart is f n = record {
+  length-is = f .length-is;
+  turned = λ e none ends i j hi hj. ap (member i) (at-part new by j hj ∙ f .filled e j hj ∙ letters-at turned j hj) ∙ is i j hi hj
+      ∙ ap (λ (x : List ℕ). member j (getD x i 0)) (sym (part-stays old new from (f .length-is) (λ k h. f .others (from + k) (inl (omega arith)))));
+  others = f .others;
+}
 
 -- the three parts, one after another
 module _ (n : ℕ) (l b₁ b₂ b₃ : List ℕ) (s : PartIndexed l 64 256 n b₁) (r : PartIndexed b₁ 128 320 n b₂) (t : PartIndexed b₂ 192 384 n b₃) where

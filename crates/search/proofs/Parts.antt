@@ -7,8 +7,8 @@ use lib.ListN.{length, take, drop, getD, set, length-take, length-drop}
 use lib.Seq.{getD-take, length-take-le, take-set-lt, drop-set-add, ext-getD}
 use native.Mathlib.Omega.{arith}
 use Rattle.lists.proofs.Places.{part-at, take-past}
-use Rattle.masks.specs.Graph.{Targets}
-use Rattle.masks.specs.Mask.{_∈_}
+use Rattle.masks.specs.Graph.{Targets, Turned}
+use Rattle.masks.specs.Mask.{member, _∈_}
 use Rattle.masks.proofs.Member.{member-lt}
 use Rattle.masks.proofs.Turning.{turned-back}
 use Rattle.search.specs.Graph.{Graph, part, graph-of, TurnedGraph, BothWays}
@@ -50,6 +50,10 @@ letters-lead l m r is t = (
     here : (s : ℕ) → s ∈ m → getD (graph-of l .letters) s 0 ≡ getD l s 0
     here s h = letters-at l s (member-lt s m h)
 
+-- one part, as it reads in the masks from there on
+from-base : (l : List ℕ) (base : ℕ) → base + 64 ≤ length l → (s : ℕ) → s < 64 → getD (part l base) s 0 ≡ getD (take (length l - base) (drop base l)) s 0
+from-base l base h s k = at-part l base s k ∙ sym (part-at (length l - base) base l s 0 (omega arith))
+
 -- the targets in one part, as the masks from there on give them
 pub targets-part : (l : List ℕ) (base m r : ℕ) → base + 64 ≤ length l → Targets (take (length l - base) (drop base l)) m r → Targets (part l base) m r
 targets-part l base m r h is = record {
@@ -58,7 +62,11 @@ targets-part l base m r h is = record {
 }
   where
     here : (s : ℕ) → s ∈ m → getD (part l base) s 0 ≡ getD (take (length l - base) (drop base l)) s 0
-    here s k = at-part l base s (member-lt s m k) ∙ sym (part-at (length l - base) base l s 0 (omega (arith, member-lt s m k)))
+    here s k = from-base l base h s (member-lt s m k)
+
+-- one part turned round, as the masks from there on are
+pub turned-part : (l : List ℕ) (base : ℕ) (r : List ℕ) → base + 64 ≤ length l → Turned (take (length l - base) (drop base l)) r → Turned (part l base) r
+turned-part l base r h is i j hi hj = is i j hi hj ∙ ap (member j) (sym (from-base l base h i hi))
 
 -- a graph turned round twice
 pub turn-back : {g back : Graph} → TurnedGraph g back → TurnedGraph back g

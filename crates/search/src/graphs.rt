@@ -5,9 +5,9 @@ use masks::Set;
 use masks::take_lowest;
 use masks::with;
 ghost use mathlib.Core.Path.{_≡_};
-ghost use Prim.Native.Nat.{_+_, _≤_, _<_};
+ghost use Prim.Native.Nat.{ℕ, _+_, _≤_, _<_};
 ghost use lib.ListN.{length, getD};
-ghost use Rattle.masks.specs.Graph.{Targets};
+ghost use Rattle.masks.specs.Graph.{Targets, Turned};
 ghost use Rattle.search.specs.Graph.{part, graph-of, Fills, PlaceAdded, PartIndexed, Indexes, TurnsInto, TurnsIndexed};
 
 // Where the parts begin; the letters stand first, a mask for each state, and the others have one for each set.
@@ -25,6 +25,9 @@ pub const BY_LEFTS: usize = BY_SETS + STATES;
 pub const BY_RIGHTS: usize = BY_LEFTS + STATES;
 
 pub const MASKS: usize = BY_RIGHTS + STATES;
+
+// From so many sets on, to turn the square of all sets takes less time than to enter each state of each.
+const MANY_SETS: usize = 16;
 
 pub type Masks = [Set; MASKS];
 
@@ -95,12 +98,41 @@ fn index_part(graph: &mut Masks, from: usize, by: usize, n: usize)
     }
 }
 
+// The part that begins at `base`, turned round.
+fn turned_part(graph: &[Set], base: usize) -> [Set; STATES]
+    requires { ⌜ base + 64 ≤ length (now graph) ⌝ }
+    ensures { λ r. ⌜ Turned (part (now (graph .entry)) base) r ⌝ }
+{
+    masks::transpose_dense(&graph[base..])
+}
+
+// In the part `by`, for each state all places whose masks in the part `from` have it.
+fn turn_part(graph: &mut Masks, from: usize, by: usize)
+    requires { ⌜ (from + 64 ≤ by) × (by ≤ 384) ⌝ }
+    ensures { λ _. ⌜ ((n : ℕ) → PartIndexed (now (graph .entry)) from by n (now (graph .exit))) ⌝ }
+{
+    let turned = turned_part(graph, from);
+    copy(graph, by, &turned, 0);
+}
+
+// Where many sets stand, which have many states together, the whole square is turned: what stands from place `n` on is empty, and stays out.
+fn index_sets(graph: &mut Masks, n: usize)
+    requires { ⌜ n ≤ 64 ⌝ }
+    ensures { λ _. ⌜ PartIndexed (now (graph .entry)) 64 256 n (now (graph .exit)) ⌝ }
+{
+    if n < MANY_SETS {
+        index_part(graph, SETS, BY_SETS, n);
+    } else {
+        turn_part(graph, SETS, BY_SETS);
+    }
+}
+
 // Writes what stands behind the four parts, where no set stands from place `n` on.
 pub fn index(graph: &mut Masks, set_count: usize)
     requires { ⌜ «set_count» ≤ 64 ⌝ }
     ensures { λ _. ⌜ Indexes «set_count» (now (graph .entry)) (now (graph .exit)) ⌝ }
 {
-    index_part(graph, SETS, BY_SETS, set_count);
+    index_sets(graph, set_count);
     index_part(graph, LEFTS, BY_LEFTS, set_count);
     index_part(graph, RIGHTS, BY_RIGHTS, set_count);
 }

@@ -9,8 +9,8 @@ returns c =
     let lefts = c .before .before in
     let sets = lefts .before .before in
     let a = sets .before .before .args in
-    indexes (a .set-count) (a .graph .now) (sets .index-part .last .0) (lefts .index-part2 .last .0) (c .index-part3 .last .0)
-    (sets .index-part .ensures) (lefts .index-part2 .ensures) (c .index-part3 .ensures)
+    indexes (a .set-count) (a .graph .now) (sets .index-sets .last .0) (lefts .index-part .last .0) (c .index-part2 .last .0)
+    (sets .index-sets .ensures) (lefts .index-part .ensures) (c .index-part2 .ensures)
 
 pub index-spec : {M : Type 1} → statement M
 index-spec = tie.close (tie.spec (λ c κs. search needs) (λ c κs. search needs) (λ c κs. search needs) returns)
