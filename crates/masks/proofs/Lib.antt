@@ -9,3 +9,4 @@ pub mod Member
 pub mod Shifting
 pub mod Storing
 pub mod Turning
+pub mod Widths

@@ -4,7 +4,8 @@ use mathlib.Core.Path.{_≡_}
 use native.Mathlib.Nat.{zero-mod}
 use native.Mathlib.Omega.{arith}
 use borrow.Author.Needs.{needs}
-use Rattle.masks.proofs.Blocks.{width-small, even-more, Blocked, blocked-start, blocked-more, blocked-end}
+use Rattle.masks.proofs.Blocks.{Blocked, blocked-start, blocked-more, blocked-end}
+use Rattle.masks.proofs.Widths.{width-small, even-more}
 use Rattle.masks.proofs.exchange_blocks.Statement.{statement}
 use Rattle.masks.proofs.exchange_blocks.Tie as tie
 

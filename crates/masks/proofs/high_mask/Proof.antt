@@ -1,5 +1,6 @@
 -- `masks::high_mask` meets its contract.
-use Rattle.masks.proofs.Blocks.{width-small, high-mask}
+use Rattle.masks.proofs.Blocks.{high-mask}
+use Rattle.masks.proofs.Widths.{width-small}
 use Rattle.masks.proofs.high_mask.Statement.{statement}
 use Rattle.masks.proofs.high_mask.Tie as tie
 

@@ -1,5 +1,6 @@
 -- `masks::low_mask` meets its contract.
-use Rattle.masks.proofs.Blocks.{width-small, low-mask}
+use Rattle.masks.proofs.Blocks.{low-mask}
+use Rattle.masks.proofs.Widths.{width-small}
 use Rattle.masks.proofs.low_mask.Statement.{statement}
 use Rattle.masks.proofs.low_mask.Tie as tie
 

@@ -1,6 +1,7 @@
 -- `masks::transpose_dense` meets its contract: one width after another.
 use borrow.Author.Needs.{needs}
-use Rattle.masks.proofs.Blocks.{blocks-32, blocks-16, blocks-8, blocks-4, blocks-2, blocks-1, turned-by-blocks}
+use Rattle.masks.proofs.Blocks.{turned-by-blocks}
+use Rattle.masks.proofs.Widths.{blocks-32, blocks-16, blocks-8, blocks-4, blocks-2, blocks-1}
 use Rattle.masks.proofs.transpose_dense.Statement.{statement}
 use Rattle.masks.proofs.transpose_dense.Tie as tie
 
