@@ -1,5 +1,5 @@
--- A row's key: it gives the row back (`key-back`, `key-apart`), its second word has two bytes (`low-short`), and it has the order of the row's bytes (`key-order`). The letter rows from
--- one state stand together, by letter and then by target (`letter-least`, `letter-between`, `letter-order`).
+-- A row's key: it gives the row back (`key-back`, `key-apart`), its second word has two bytes (`low-short`), and it has the order of the row's bytes (`key-order`). The words of
+-- letter rows from one state rise by letter and then by target (`letter-order`).
 use Prim.Native.Nat.{ℕ, zero, suc, _-_, _<_, _≤_, _+_, _*_, _/_, _%_, _^_}
 use mathlib.Core.Path.{_≡_, refl, ap, sym, _∙_}
 use mathlib.Core.Logic.{_⊎_, inl, inr}
@@ -172,22 +172,7 @@ pub letter-back : (p x t : ℕ) → Fits (Successor p x t) → row-from (high (S
 unfolding low
 letter-back p x t f = key-back (Successor p x t) f
 
--- the least of the letter rows from a state
-pub letter-least : (h : ℕ) {p x t : ℕ} → row-from h 0 ≡ Successor p x t → high (Successor p 0 0) ≤ h
-unfolding high
-letter-least h e = let w = letter-words h e in omega (arith, w .3)
-
--- they stand together
-pub letter-between : (h h′ : ℕ) {p x t : ℕ} → high (Successor p 0 0) ≤ h → h ≤ h′ → row-from h′ 0 ≡ Successor p x t
-    → (y : ℕ) × (u : ℕ) × (row-from h 0 ≡ Successor p y u)
-unfolding high
-letter-between h h′ {p} g l e =
-    let w = letter-words h′ e in
-    let k : h / 256 ^ 7 ≡ 3 = omega (arith, w .0, w .1, w .2, w .3) in
-    let a : h / 256 ^ 6 % 256 ≡ p = omega (arith, w .0, w .1, w .2, w .3) in
-    (h / 256 ^ 5 % 256, h / 256 ^ 4 % 256, letter-from h k 0 ∙ rw a)
-
--- by letter and then by target
+-- of two letter rows from a state, by letter and then by target
 pub letter-order : (h h′ : ℕ) {p x t x′ t′ : ℕ} → h ≤ h′ → row-from h 0 ≡ Successor p x t → row-from h′ 0 ≡ Successor p x′ t′
     → (x < x′) ⊎ ((x ≡ x′) × (t ≤ t′))
 letter-order h h′ {x = x} {t = t} {x′ = x′} {t′ = t′} l e f =

@@ -187,15 +187,15 @@ pub fn accepts(graph: &Masks, force: Claims, initials: Set, finals: Set) -> bool
 fn reached_by_letters(graph: &Masks, m: Set) -> Set
     ensures { λ r. ⌜ Onward (Chain (Lettered (graph-of (now (graph .entry))))) m r ⌝ }
 {
-    let mut states: Set = 0;
-    let mut front = m;
+    let mut seen: Set = 0;
+    let mut last = m;
     loop {
-        let next = difference(lettered(graph, front), states);
+        let next = difference(lettered(graph, last), seen);
         if next == 0 {
-            return states;
+            return seen;
         }
-        states = union(states, next);
-        front = next;
+        seen = union(seen, next);
+        last = next;
     }
 }
 

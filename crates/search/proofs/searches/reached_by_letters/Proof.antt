@@ -14,18 +14,18 @@ use Rattle.search.proofs.searches.reached_by_letters.Statement.{stateme
 use Rattle.search.proofs.searches.reached_by_letters.Tie as tie
 
 abbrev Inv-loop : tie.InvT-loop
-Inv-loop graph m states₀ front₀ states front = (states < 2 ^ 64) × ((made : ℕ) × Going (Lettered (graph-of graph)) 0 m states front made)
+Inv-loop graph m seen₀ last₀ seen last = (seen < 2 ^ 64) × ((made : ℕ) × Going (Lettered (graph-of graph)) 0 m seen last made)
 
 abbrev μ-loop : tie.MeasureT-loop
-μ-loop graph m states₀ front₀ states front = 64 - ones states
+μ-loop graph m seen₀ last₀ seen last = 64 - ones seen
 
 loop-holds : tie.Need-loop-holds Inv-loop μ-loop
 loop-holds c = (lit< tt, (0, going-start _ 0 (c .args .m)))
 
 -- what a pass adds
 adds : (d : tie.After-difference Inv-loop μ-loop) → let l = d .before .before .loop in
-    NewTargets (Lettered (graph-of (d .before .before .before .args .graph .now))) (l .states) (l .front) (d .difference .result)
-adds d = let l = d .before .before .loop in new-letters (l .states) (l .front) (d .before .lettered .result) (d .difference .result) (d .before .lettered .ensures) (d .difference .ensures)
+    NewTargets (Lettered (graph-of (d .before .before .before .args .graph .now))) (l .seen) (l .last) (d .difference .result)
+adds d = let l = d .before .before .loop in new-letters (l .seen) (l .last) (d .before .lettered .result) (d .difference .result) (d .before .lettered .ensures) (d .difference .ensures)
 
 returns : tie.Need-returns Inv-loop μ-loop
 returns c =
@@ -33,12 +33,12 @@ returns c =
     let l = d .before .before .loop in
     let m = d .before .before .before .args .m in
     passes-onward (λ t h. absurd (in-none t h))
-    (going-end 0 m (l .states) (l .front) (d .difference .result) (l .inv .1 .0) (adds d) (l .inv .1 .1) (c .if1 .taken) m (followed-none _ m))
+    (going-end 0 m (l .seen) (l .last) (d .difference .result) (l .inv .1 .0) (adds d) (l .inv .1 .1) (c .if1 .taken) m (followed-none _ m))
 
 -- a pass that is not the last
-grows : (c : tie.After-union Inv-loop μ-loop) → ones (c .before .before .before .before .loop .states) < ones (c .union .result)
+grows : (c : tie.After-union Inv-loop μ-loop) → ones (c .before .before .before .before .loop .seen) < ones (c .union .result)
 grows c = let d = c .before .before in let l = d .before .before .loop in
-    pass-grows (l .states) (l .front) (d .difference .result) (adds d) (c .union .result) (c .union .ensures) (d .difference .ok) (c .before .if1 .left) (l .inv .0) (c .union .ok)
+    pass-grows (l .seen) (l .last) (d .difference .result) (adds d) (c .union .result) (c .union .ensures) (d .difference .ok) (c .before .if1 .left) (l .inv .0) (c .union .ok)
 
 loop-less : tie.Need-loop-less Inv-loop μ-loop
 loop-less c = omega (arith, ones-le 64 (c .union .result) (c .union .ok), grows c)
@@ -51,7 +51,7 @@ loop-again c =
       c .union .ok,
       (
         l .inv .1 .0 + 1,
-        going-more 0 m (l .states) (l .front) (d .difference .result) (l .inv .1 .0) (adds d) (l .inv .1 .1) (c .union .result) (c .union .ensures) (d .difference .ok) (c .before .if1 .left),
+        going-more 0 m (l .seen) (l .last) (d .difference .result) (l .inv .1 .0) (adds d) (l .inv .1 .1) (c .union .result) (c .union .ensures) (d .difference .ok) (c .before .if1 .left),
       ),
     )
 
