@@ -5,7 +5,7 @@ ghost use mathlib.Core.List.{_++_};
 ghost use lib.ListN.{length};
 ghost use Rattle.lists.specs.Writing.{Wrote, WroteAt};
 ghost use Rattle.machine.specs.Text.{digit, set-text, number-text};
-ghost use Rattle.texts.specs.Digits.{low-digits};
+ghost use Rattle.texts.specs.Digits.{low-digits, last-digits, in-turn};
 ghost use Rattle.texts.specs.Items.{item-text};
 
 // What stands after a word.
@@ -27,25 +27,25 @@ pub fn put_text(buf: &mut [u8], text: &[u8]) -> usize
     i
 }
 
-// The byte of a digit: 0 to 9, a to f. With no branch, since digits follow no pattern.
+// The byte of a decimal digit.
 fn digit_byte(d: u8) -> u8
-    requires { ⌜ d < 16 ⌝ }
+    requires { ⌜ d < 10 ⌝ }
     ensures { λ r. ⌜ r ≡ digit d ⌝ }
 {
-    48 + d + (d + 6) / 16 * 39
+    48 + d
 }
 
 // Writes the `count` low digits of a number, from the last to the first.
-fn put_digits(buf: &mut [u8], count: usize, base: u64, n: u64) -> usize
-    requires { ⌜ (count ≤ length (now buf)) × ((0 < base) × (base ≤ 16)) ⌝ }
-    ensures { λ r. ⌜ Wrote (low-digits base count n) (now (buf .entry)) (now (buf .exit)) r ⌝ }
+fn put_digits(buf: &mut [u8], count: usize, n: u64) -> usize
+    requires { ⌜ count ≤ length (now buf) ⌝ }
+    ensures { λ r. ⌜ Wrote (low-digits count n) (now (buf .entry)) (now (buf .exit)) r ⌝ }
 {
     let mut i = count;
     let mut v = n;
     while 0 < i {
         i -= 1;
-        buf[i] = digit_byte((v % base) as u8);
-        v = v / base;
+        buf[i] = digit_byte((v % 10) as u8);
+        v = v / 10;
     }
     count
 }
@@ -94,15 +94,42 @@ pub fn put_number(buf: &mut [u8], n: u64) -> usize
     if n < 100 {
         return put_two(buf, n);
     }
-    put_digits(buf, number_len(n), 10, n)
+    put_digits(buf, number_len(n), n)
 }
 
-// Writes a set as 16 hex digits.
+// The last hex digits of the eight bytes of a word, all at once: 0 to 9, a to f. Below 10 a digit and 6 stay below 16.
+fn last_digits(x: u64) -> u64
+    ensures { λ r. ⌜ r ≡ last-digits 8 x ⌝ }
+{
+    let digits = x & 0x0f0f_0f0f_0f0f_0f0f;
+    let letters = ((digits + 0x0606_0606_0606_0606) / 16) & 0x0101_0101_0101_0101;
+    digits + 0x3030_3030_3030_3030 + letters * 39
+}
+
+// Writes the eight bytes of two words in turn, from the last to the first.
+fn put_in_turn(buf: &mut [u8], first: u64, second: u64) -> usize
+    requires { ⌜ 16 ≤ length (now buf) ⌝ }
+    ensures { λ r. ⌜ Wrote (in-turn 8 first second) (now (buf .entry)) (now (buf .exit)) r ⌝ }
+{
+    let mut i = 8;
+    let mut a = first;
+    let mut b = second;
+    while 0 < i {
+        i -= 1;
+        buf[2 * i + 1] = (b % 256) as u8;
+        buf[2 * i] = (a % 256) as u8;
+        a = a / 256;
+        b = b / 256;
+    }
+    16
+}
+
+// Writes a set as 16 hex digits: each byte of it has two.
 pub fn put_set(buf: &mut [u8], set: u64) -> usize
     requires { ⌜ 16 ≤ length (now buf) ⌝ }
     ensures { λ r. ⌜ Wrote (set-text set) (now (buf .entry)) (now (buf .exit)) r ⌝ }
 {
-    put_digits(buf, 16, 16, set)
+    put_in_turn(buf, last_digits(set / 16), last_digits(set))
 }
 
 // Writes a number or a set.
