@@ -16,10 +16,10 @@ use Rattle.loader.specs.declared.Took.the-variants.{Row, Stopped}
 
 -- the chain of a letter row's word, and that of a set; the factors are primes of 32 bits, which spread them
 unfoldable pub letter-chain : ℕ → ℕ
-letter-chain w = w / 4294967296 % 16777216 * 3032491095 / 2097152 % 1024
+letter-chain w = w / 4294967296 % 16777216 * 3032491095 / 65536 % 1024
 
 unfoldable pub set-chain : ℕ → ℕ
-set-chain P = (P % 4294967296 * 2654435761 / 4194304 % 128 + P / 4294967296 * 3266489917 / 4194304 % 128) % 128
+set-chain P = (P % 4294967296 * 2654435761 / 4194304 % 512 + P / 4294967296 * 3266489917 / 4194304 % 512) % 512
 
 abbrev pub rows-met : List ℕ → ℕ
 rows-met counts = getD counts 0 0
@@ -35,7 +35,7 @@ abbrev pub LetterSizes : List ℕ → List ℕ → List ℕ → Type 0
 LetterSizes letters next heads = (length letters ≡ 256) × (length next ≡ 256) × (length heads ≡ 1024)
 
 abbrev pub SetSizes : List ℕ → List ℕ → List ℕ → Type 0
-SetSizes graph next heads = (length graph ≡ 448) × (length next ≡ 64) × (length heads ≡ 128)
+SetSizes graph next heads = (length graph ≡ 448) × (length next ≡ 64) × (length heads ≡ 512)
 
 -- a row more, with so many letter rows and sets
 pub record Counted (counts : List ℕ) (letters sets : ℕ) (counts′ : List ℕ) : Type 0 where
