@@ -1,4 +1,5 @@
--- The digits of numbers and sets, as they are counted and written: from the last to the first.
+-- The digits of numbers and sets, as they are counted and written: from the last to the first. Of numbers `number-low`, `low-more`, `low-done`; of sets the
+-- digits of eight bytes at once (`last-digits-are`), and two such words in turn (`turn-hex`, `turn-more`, `turn-done`).
 use Prim.Native.Nat.{ℕ, zero, suc, _+_, _-_, _*_, _/_, _%_, _^_, _≤_, _<_}
 use mathlib.Core.Path.{_≡_, refl, ap, ap₂, sym, _∙_}
 use mathlib.Core.Bool.{Bool, true, false}
