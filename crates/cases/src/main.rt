@@ -2,6 +2,7 @@
 // verdict with its first line; and each expression with the stored one. The same for stored HOA files and their batches or refusals.
 // Its arguments are pairs of file names: a batch, and the sheet that it must give, or the expression; or an HOA file, and the batch or the
 // line of the refusal.
+#![tactic(auto)]
 mod asking;
 mod expressions;
 mod files;

@@ -1,5 +1,6 @@
 // Places chained by a number. A link is one more than a place, 0 for none: each number has the link to its newest place, and each place the
 // link to the one before it.
+#![tactic(auto)]
 
 ghost use Rattle.std.specs.Prelude.{◌≡◌, ◌+◌, ◌<◌, ◌≤◌, length, get_or, set};
 ghost use Rattle.chains.specs.Chains.{Falls, Sought};

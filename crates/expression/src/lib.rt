@@ -1,4 +1,5 @@
 // The walk of an automaton settled as non-empty, as an expression in a lent buffer.
+#![tactic(auto)]
 pub mod frames;
 pub mod lengths;
 pub mod writing;

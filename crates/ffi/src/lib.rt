@@ -1,4 +1,5 @@
 // The checker for callers in C and Rust, as a static library.
+#![tactic(auto)]
 ghost use Rattle.std.specs.Prelude.{◌≤◌, ◌≡◌};
 ghost use Rattle.ffi.specs.Promise.{Called, CalledVerdict, lent, CalledExpression, CalledHoa};
 

@@ -1,4 +1,5 @@
 // Lists of calls on one session for callers in C and Rust, as a static library: what is timed of a session.
+#![tactic(auto)]
 ghost use Rattle.ffi_session.specs.Promise.{Makes, Answers, CalledSession};
 
 use codes::code;

@@ -1,4 +1,5 @@
 // Reads one HOA file from standard input and writes its rows as a batch, the line of its refusal, or `too long`.
+#![tactic(auto)]
 use hoa_files::LONGEST_FILE;
 use program_input::Input;
 

@@ -1,4 +1,5 @@
 // Büchi automata from HOA files: a file in, its rows as a batch out.
+#![tactic(auto)]
 pub mod body;
 pub mod heads;
 pub mod parts;

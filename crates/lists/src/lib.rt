@@ -1,1 +1,2 @@
 // Lists that are tested, kept without repeats and in order: definitions and their laws. No code of its own.
+#![tactic(auto)]

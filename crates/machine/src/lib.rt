@@ -1,4 +1,5 @@
 // The limits, the phases of a session, and what its calls answer. The plain machine of document 01, its sheet and its theorems are in specs/ and proofs/.
+#![tactic(auto)]
 
 // As many rows and sets as can stand, and as many rounds as can be done.
 pub const MOST_ROWS: usize = 256;

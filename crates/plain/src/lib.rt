@@ -6,6 +6,7 @@
 // label; the steps on lines 82 to 1,101, kind 1 letter, 2 omega, 3 back, 4 mix. Then 32 cells for the sets, 32 for the rounds in which
 // their loops opened and 32 for those of their mixes, 0 for not open; one that says whether a set mixed only with its gaps; the set of the
 // struck states, and one that says whether they took a step away.
+#![tactic(auto)]
 mod cells;
 mod claims;
 mod reader;

@@ -1,4 +1,5 @@
 // Standard input as the programs `sheet` and `hoa` read it.
+#![tactic(auto)]
 ghost use Rattle.std.specs.Prelude.{◌≤◌, length};
 ghost use Rattle.program_input.specs.Input.{Held, Behind, SeesLonger};
 

@@ -1,4 +1,5 @@
 // What the programs share: texts and numbers on standard output, and texts compared.
+#![tactic(auto)]
 ghost use Rattle.std.specs.Prelude.{◌≡◌, take, drop};
 ghost use Rattle.lists.specs.Tests.{Decides};
 

@@ -1,5 +1,6 @@
 // Random automata with nested limits, and spoiled batches, from a fixed seed: the engine's sheet or refusal against that of the plain
 // second search, and its verdict by rising size against that sheet's.
+#![tactic(auto)]
 mod batches;
 mod dice;
 mod generator;

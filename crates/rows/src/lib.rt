@@ -1,4 +1,5 @@
 // The rows of an automaton on linear orderings: read from bytes, written to bytes, and their keys.
+#![tactic(auto)]
 
 ghost use Rattle.std.specs.Prelude.{◌≡◌, [], ◌∷◌, ◌+◌, ◌≤◌, length, get_or};
 ghost use Rattle.lists.specs.Writing.{Wrote, WroteAt};

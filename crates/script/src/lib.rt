@@ -1,4 +1,5 @@
 // A session in lines: each line of standard input asks for a call, and each call is answered on standard output.
+#![tactic(auto)]
 mod answers;
 mod calls;
 mod checks;

@@ -1,4 +1,5 @@
 // The session and its calls.
+#![tactic(auto)]
 mod expressions;
 mod loading;
 mod marking;

@@ -1,4 +1,5 @@
 // Runs stored scripts, each on a fresh session, and writes the name of each before its answers. Its arguments are the names of their files.
+#![tactic(auto)]
 use machine::LONGEST_BATCH;
 use program_output::say;
 

@@ -1,4 +1,5 @@
 // What the program `sheet` does. It is a library so that the gate can run the program on more than one input.
+#![tactic(auto)]
 use machine::LONGEST_BATCH;
 use program_input::Input;
 

@@ -1,4 +1,5 @@
 // The walk that a sheet prints: the first of the shortest from an initial to a final state.
+#![tactic(auto)]
 
 ghost use Rattle.std.specs.Prelude.{◌≡◌, true, false, ◌↔◌, ℕ, ◌≤◌, ◌<◌, length, replicate};
 ghost use Rattle.rows.specs.Keys.{row_from};
