@@ -28,7 +28,7 @@ use Rattle.orderings.proofs.Claims.{claims_length, open_dec, at_most}
 use Rattle.machine.specs.declared.Verdict.{Verdict}
 use Rattle.machine.specs.declared.Verdict.TheVariants.{NonEmpty, Empty}
 use Rattle.machine.specs.declared.Phase.{Phase}
-use Rattle.machine.specs.declared.Phase.TheVariants.{Running, Settled}
+use Rattle.machine.specs.declared.Phase.TheVariants.{Open, Running, Settled}
 use Rattle.machine.specs.Machine.{most_sets, most_rounds, Opening, Machine, open_with, open_claims, opened_next}
 use Rattle.machine.specs.WellFormed.{after}
 use Rattle.machine.specs.Statements.{SomeWalk, Closed, Rounded, Number}
@@ -167,6 +167,7 @@ module _ (rows : List Row) where
       go : (p : Phase) → p ≡ Settled NonEmpty → Told k p → SomeWalk rows (open_claims (after rows k))
       go (Settled NonEmpty) e (walks r) = (reached_iff k).1 r
       go (Settled Empty) e (ends n g i v) = let z : ◌≡◌ {A = ℕ} 0 1 = cc in absurd (omega arith)
+      go Open e w = elim w [ ]
       go Running e (goes_on n o) = let z : ◌≡◌ {A = ℕ} 0 1 = cc in absurd (omega arith)
 
   -- where it still runs, the last round opened something
@@ -176,6 +177,7 @@ module _ (rows : List Row) where
       go : (p : Phase) → p ≡ Running → Told k p → Opened S k
       go (Settled NonEmpty) e (walks r) = let z : ◌≡◌ {A = ℕ} 0 1 = cc in absurd (omega arith)
       go (Settled Empty) e (ends n g i v) = let z : ◌≡◌ {A = ℕ} 0 1 = cc in absurd (omega arith)
+      go Open e w = elim w [ ]
       go Running e (goes_on n o) = o
 
   -- settled after K rounds, running before, and K is the number that the verdict asks for
@@ -230,6 +232,7 @@ module _ (rows : List Row) where
           (g, i, greatest_least_depth S (lawful rows) g v (t.prior g i)),
         );
       })
+      go Open f w = elim w [ ]
       go Running f (goes_on m o) = inr (record {
         most = omega (arith, opened_few k o);
         before = below_next k t.before f;
