@@ -22,14 +22,14 @@ pub struct Automaton {
 }
 
 // The states that walks start from, and those that they end at.
-#[derive(Drop)]
+#[derive(Clone, Copy)]
 pub struct Endpoints {
     pub initials: Set,
     pub finals: Set,
 }
 
 // The states that rows of one state name, by kind: initial, final and struck ones.
-#[derive(Drop)]
+#[derive(Clone, Copy)]
 pub struct Seen {
     pub initials: Set,
     pub finals: Set,

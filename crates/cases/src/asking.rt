@@ -8,7 +8,7 @@ use program_output::{beyond, first, same, say};
 const ROOM: usize = 16384;
 
 // Who is asked: for the expression of a batch, or for the batch of an HOA file.
-#[derive(Drop)]
+#[derive(Clone, Copy)]
 pub(crate) enum Way {
     Expression,
     LibraryExpression,
@@ -17,7 +17,7 @@ pub(crate) enum Way {
 }
 
 // What a call returns, as the library tells it.
-#[derive(Drop)]
+#[derive(Clone, Copy)]
 struct Returned {
     code: u64,
     place: u64,

@@ -17,7 +17,7 @@ use program_output::{beyond, first, same, say, say_number};
 const REFUSAL: u64 = 4294967296;
 
 // What the second file of a pair holds.
-#[derive(Drop)]
+#[derive(Clone, Copy)]
 enum Stored {
     Sheet,
     Expression,

@@ -22,7 +22,7 @@ pub struct Written {
 }
 
 // What is asked of a batch that is loaded into masks: its sheet, the expression of its walk, or its verdict.
-#[derive(Drop)]
+#[derive(Clone, Copy)]
 enum Asked {
     Sheet,
     Expression,

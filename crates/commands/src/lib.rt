@@ -11,14 +11,14 @@ ghost use Rattle.commands.specs.Promise.{Means, Asks, TellsWord, Extends, Encode
 use machine::LONGEST_SHEET;
 
 // The calls that a batch comes with.
-#[derive(Drop)]
+#[derive(Clone, Copy)]
 pub enum Change {
     Load,
     Withdraw,
 }
 
 // The calls that write into a buffer.
-#[derive(Drop)]
+#[derive(Clone, Copy)]
 pub enum Report {
     Print,
     Save,
@@ -29,7 +29,7 @@ pub enum Report {
 pub const EXPRESSION_ROOM: usize = 1048576;
 
 // The calls that take nothing.
-#[derive(Drop)]
+#[derive(Clone, Copy)]
 pub enum Move {
     Close,
     Round,
@@ -38,7 +38,7 @@ pub enum Move {
 }
 
 // The calls that a name comes with.
-#[derive(Drop)]
+#[derive(Clone, Copy)]
 pub enum Naming {
     Mark,
     Return,
@@ -46,7 +46,7 @@ pub enum Naming {
 
 // What a line asks for: a call with the count of bytes at the start of the batch (of a name too, which is put there), with the length
 // of the buffer that it lends, or with neither; or none.
-#[derive(Drop)]
+#[derive(Clone, Copy)]
 pub enum Command {
     Changes(Change, usize),
     Reports(Report, usize),
@@ -59,7 +59,7 @@ pub enum Command {
 }
 
 // The place in the table of the word that a line starts with, and where it ends in the line; past the last word for none.
-#[derive(Drop)]
+#[derive(Clone, Copy)]
 pub struct Found {
     pub place: usize,
     pub end: usize,

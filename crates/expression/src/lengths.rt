@@ -19,7 +19,7 @@ use tours::legs::LAYERS;
 use walks::Choice;
 
 // How many bytes a text has; or that it has more than the buffer.
-#[derive(Drop)]
+#[derive(Clone, Copy)]
 pub enum Length {
     Fits(usize),
     Over,

@@ -14,21 +14,21 @@ use machine::Answer;
 pub const LONGEST_FILE: usize = 65536;
 
 // A line with a number: how many bytes it has, 0 where another stands there, and the number, ten where it is more.
-#[derive(Drop)]
+#[derive(Clone, Copy)]
 pub struct Numbered {
     pub length: usize,
     pub number: u8,
 }
 
 // The head of a file: how many states there are, the start, and how many bytes it has; or the number and place of the cause that refuses it.
-#[derive(Drop)]
+#[derive(Clone, Copy)]
 pub enum Head {
     Read(u8, u8, usize),
     Refused(u8, usize),
 }
 
 // A line of the body: a state, marked or not, or an edge to a state, and how many bytes it has; the end; or the number of a cause.
-#[derive(Drop)]
+#[derive(Clone, Copy)]
 pub enum BodyLine {
     State(bool, usize),
     Edge(u8, usize),
@@ -37,7 +37,7 @@ pub enum BodyLine {
 }
 
 // An automaton of at most six states: how many they are, the start, the marked states, and the edges, that from p to q at place 6 p + q.
-#[derive(Drop)]
+#[derive(Clone, Copy)]
 pub struct BuchiMasks {
     pub states: u8,
     pub start: u8,

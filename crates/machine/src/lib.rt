@@ -13,14 +13,14 @@ pub const LONGEST_BATCH: usize = 65536;
 
 pub const LONGEST_SHEET: usize = 6400;
 
-#[derive(Drop)]
+#[derive(Clone, Copy)]
 pub enum Verdict {
     NonEmpty,
     Empty,
 }
 
 // Document 01, "The session as a plain machine": open, running, settled with a verdict.
-#[derive(Drop)]
+#[derive(Clone, Copy)]
 pub enum Phase {
     Open,
     Running,
@@ -28,7 +28,7 @@ pub enum Phase {
 }
 
 // What a call answers: done, the count of bytes written, the verdict that was asked for, or a refusal with its number and place.
-#[derive(Drop)]
+#[derive(Clone, Copy)]
 pub enum Answer {
     Done,
     Wrote(usize),

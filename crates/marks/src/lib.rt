@@ -40,7 +40,7 @@ pub struct Marks {
 }
 
 // Where the mark with a name stands, or would.
-#[derive(Drop)]
+#[derive(Clone, Copy)]
 pub enum NamePlace {
     NoName,
     At(usize),

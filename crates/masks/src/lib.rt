@@ -101,7 +101,7 @@ pub fn lowest(m: Set) -> u8
 }
 
 // The lowest state of a set, and the others.
-#[derive(Drop)]
+#[derive(Clone, Copy)]
 pub struct Taken {
     pub low: u8,
     pub rest: Set,

@@ -54,7 +54,7 @@ pub fn cell(table: &[u64], line: u64, column: u64) -> u64 {
 }
 
 // The four cells of a line.
-#[derive(Drop)]
+#[derive(Clone, Copy)]
 pub struct Line {
     pub kind: u64,
     pub from: u64,

@@ -98,7 +98,7 @@ fn on_pieces(links: &[u64], p: u64, entrances: u64, exits: u64) -> u64 {
 }
 
 // What holds of a set, and whether it mixes only with its gaps.
-#[derive(Drop)]
+#[derive(Clone, Copy)]
 pub struct Claims {
     pub loops: bool,
     pub mixes: bool,

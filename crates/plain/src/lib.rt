@@ -16,7 +16,7 @@ mod text;
 mod walk;
 
 // The length of what was written, whether a set mixed only with its gaps, and whether struck states took a step away.
-#[derive(Drop)]
+#[derive(Clone, Copy)]
 pub struct Written {
     pub length: usize,
     pub by_gap: bool,

@@ -68,7 +68,7 @@ fn row_at(batch: &[u8], place: usize, kind: u64) -> cells::Line {
 }
 
 // A refusal: its number, 0 for none, and its place.
-#[derive(Drop)]
+#[derive(Clone, Copy)]
 pub struct Refused {
     pub number: u64,
     pub place: usize,

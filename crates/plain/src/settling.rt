@@ -1,7 +1,7 @@
 // The rounds, until the verdict.
 use crate::{cells, claims, steps, walk};
 
-#[derive(Drop)]
+#[derive(Clone, Copy)]
 pub struct Verdict {
     pub nonempty: bool,
     pub rounds: u64,

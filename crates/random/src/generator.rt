@@ -228,7 +228,7 @@ fn put_join(
 }
 
 // The end of the batch, and the state that was added last.
-#[derive(Drop)]
+#[derive(Clone, Copy)]
 struct Built {
     end: usize,
     last: u64,

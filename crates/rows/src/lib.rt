@@ -49,7 +49,7 @@ const RIGHT_LIMIT: u64 = 5 * BYTE_7;
 const STRIKE: u64 = 6 * BYTE_7;
 
 // Document 01, "Rows and the batch": the five kinds; request C-18: a sixth.
-#[derive(Drop)]
+#[derive(Clone, Copy)]
 pub enum Row {
     Initial(u8),
     Final(u8),
@@ -60,14 +60,14 @@ pub enum Row {
 }
 
 // A row with the count of its bytes, or the number of the cause that refuses it.
-#[derive(Drop)]
+#[derive(Clone, Copy)]
 pub enum ReadRow {
     Read(Row, usize),
     Refused(u8),
 }
 
 // The set of a row, or the number of the cause that refuses the row.
-#[derive(Drop)]
+#[derive(Clone, Copy)]
 pub enum ReadSet {
     Found(u64),
     Stopped(u8),

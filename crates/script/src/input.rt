@@ -7,7 +7,7 @@ use program_output::{first, say};
 use session::Session;
 
 // Where a line ends or breaks off, and how many bytes of it are held; more than the buffer has where it is too long.
-#[derive(Drop)]
+#[derive(Clone, Copy)]
 struct Piece {
     at: usize,
     held: usize,

@@ -8,7 +8,7 @@ pub mod searches;
 use masks::Places;
 
 // Claims, as two masks of places among the sets: those that loop and those that mix.
-#[derive(Drop)]
+#[derive(Clone, Copy)]
 pub struct Claims {
     pub loops: Places,
     pub mixes: Places,

@@ -14,14 +14,14 @@ use masks::{Places, Set, difference, intersection, meets, size, take_lowest, uni
 const FEW: usize = 8;
 
 // What a search found, and the passes that it took, with the last one, which added nothing.
-#[derive(Drop)]
+#[derive(Clone, Copy)]
 pub struct Found {
     pub states: Set,
     pub count: u8,
 }
 
 // The states that a pass adds, and the loops in force that no pass has entered yet.
-#[derive(Drop)]
+#[derive(Clone, Copy)]
 pub struct Gained {
     pub states: Set,
     pub omegas: Places,

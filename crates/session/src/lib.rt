@@ -15,7 +15,7 @@ use marks::Marks;
 use rows::Row;
 
 // What a field that is an array can hold: a struct that holds the row.
-#[derive(Drop)]
+#[derive(Clone, Copy)]
 pub struct Slot {
     pub row: Row,
 }
@@ -36,7 +36,7 @@ pub struct Session {
 }
 
 // What a record is to the calls: foreign, which no calls make, or a session in a phase.
-#[derive(Drop)]
+#[derive(Clone, Copy)]
 pub enum State {
     Foreign,
     Open,

@@ -10,7 +10,7 @@ use machine::Verdict;
 use texts::{Item, number_len, pair_at, text_at};
 
 // What a step reads: a letter, or a limit at a set.
-#[derive(Drop)]
+#[derive(Clone, Copy)]
 pub enum StepLabel {
     Letter(u8),
     Omega(u64),

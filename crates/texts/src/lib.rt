@@ -7,7 +7,7 @@ ghost use Rattle.texts.specs.Digits.{low_digits, last_digits, in_turn};
 ghost use Rattle.texts.specs.Items.{item_text};
 
 // What stands after a word.
-#[derive(Drop)]
+#[derive(Clone, Copy)]
 pub enum Item {
     Number(u64),
     Set(u64),

@@ -20,7 +20,7 @@ use walks::{Course, lay};
 pub const LAYERS: usize = STATES + STATES;
 
 // Where a leg starts, and how many steps it has.
-#[derive(Drop)]
+#[derive(Clone, Copy)]
 pub struct Leg {
     pub start: u8,
     pub steps: usize,

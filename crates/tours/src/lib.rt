@@ -19,7 +19,7 @@ use search::graphs::Masks;
 use walks::Choice;
 
 // What is written out: the walk from an initial to a final state, a tour of a set from a state, or the pieces of a set.
-#[derive(Drop)]
+#[derive(Clone, Copy)]
 pub enum Shape {
     Whole,
     Tour(u8),
@@ -28,7 +28,7 @@ pub enum Shape {
 
 // Walks inside `set` with the claims in force, those about parts of it that opened before `round`. Pieces lead from one of `starts` to one
 // of `ends`, and so does the whole walk.
-#[derive(Drop)]
+#[derive(Clone, Copy)]
 pub struct Frame {
     pub shape: Shape,
     pub set: Set,
@@ -40,7 +40,7 @@ pub struct Frame {
 
 // Where the writing stands: `before`, the byte that stands before the next part, 0 for none; `state`, where that part starts; how many
 // steps its leg has left, where none means `e`; `stop`, where a leg of a tour ends; and the states whose legs come after it.
-#[derive(Drop)]
+#[derive(Clone, Copy)]
 pub struct Cursor {
     pub live: bool,
     pub before: u8,

@@ -20,7 +20,7 @@ use search::graphs::{LEFTS, Masks, RIGHTS, SETS, mask_at, set_at};
 use search::{Claims, moves};
 
 // Where the shortest walk of one or more steps starts, the lowest such state, and how many steps it has; or that there is none.
-#[derive(Drop)]
+#[derive(Clone, Copy)]
 pub enum Course {
     From(u8, usize),
     Nowhere,
@@ -63,7 +63,7 @@ pub fn lay(
 }
 
 // A step: its kind (0 letter, 1 omega, 2 back, 3 mix), its letter or set, and its target; or that there is none.
-#[derive(Drop)]
+#[derive(Clone, Copy)]
 pub enum Choice {
     Taken(u8, u64, u8),
     Nothing,

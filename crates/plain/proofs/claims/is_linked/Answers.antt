@@ -1,0 +1,30 @@
+-- `plain::claims::is_linked` is safe and ends. The invariant keeps the counter within its bound and the lengths of what is lent; the measure is what is left to count.
+use Rattle.std.proofs.Common.{arith}
+use Rattle.plain.proofs.claims.is_linked.Goals as goal
+
+pub loop-s-init : goal.loop-s-init
+loop-s-init c = omega arith
+
+pub has-requires : goal.has-requires
+has-requires c = tt
+
+pub at-requires : goal.at-requires
+at-requires c = tt
+
+pub is_inside-requires : goal.is_inside-requires
+is_inside-requires c = tt
+
+pub returns-then-not-is_inside : goal.returns-then-not-is_inside
+returns-then-not-is_inside c = tt
+
+pub overflow_add-s : goal.overflow_add-s
+overflow_add-s c = omega arith
+
+pub loop-s-smaller : goal.loop-s-smaller
+loop-s-smaller c = omega arith
+
+pub loop-s-preserved : goal.loop-s-preserved
+loop-s-preserved c = omega arith
+
+pub returns : goal.returns
+returns c = tt

@@ -1,0 +1,8 @@
+-- `search::searches::accepted` meets its contract.
+use Rattle.search.proofs.Accepting.{accepted_iff}
+use Rattle.search.proofs.searches.accepted.Goals as goal
+
+pub returns : goal.returns
+returns c g force reached rows claims n is fit is-initials is-finals =
+    let a = c.args in
+    accepted_iff fit is.masked is.forced a.initials a.finals is-initials is-finals a.seen c.union.result reached c.union.ensures c.meets.ensures

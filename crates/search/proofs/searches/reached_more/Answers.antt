@@ -1,0 +1,17 @@
+-- `search::searches::reached_more` meets its contract: a first pass by the new claims, from what was seen, and then passes by all steps.
+use Rattle.search.specs.Graph.{graph_of}
+use Rattle.search.proofs.Reaching.{reached_same, reached_now}
+use Rattle.search.proofs.searches.reached_more.Goals as goal
+
+pub returns-then-next-eq0 : goal.returns-then-next-eq0
+returns-then-next-eq0 c =
+    let a = c.args in
+    reached_same (graph_of a.graph.now) a.force a.new a.initials a.seen c.requires.1 c.union.result c.claimed-near.result c.difference-next.result
+    c.union.ensures c.claimed-near.ensures c.difference-next.ensures c.if-next-eq0.true
+
+pub returns : goal.returns
+returns c =
+    let a = c.args in
+    reached_now (graph_of a.graph.now) a.force a.new a.initials a.seen c.requires.1 c.union.result c.claimed-near.result c.difference-next.result
+    c.union.ensures c.claimed-near.ensures c.difference-next.ensures c.union.result c.union.ensures
+    (rw c.all_states-p.ensures at c.explore-more.ensures.made)
