@@ -1,5 +1,6 @@
 // The lines of the sheet, each written at the front of a lent buffer, and how long each is.
 #![tactic(auto)]
+
 ghost use Rattle.std.specs.Prelude.{◌≡◌, ◌≤◌, length};
 ghost use Rattle.lists.specs.Writing.{Wrote};
 ghost use Rattle.machine.specs.Sheet.{verdict_text, label_text, verdict_line, opening_line, start_line, step_line};
