@@ -20,7 +20,7 @@ loop-rest-smaller c = c.take_lowest-next.ensures.fewer
 pub loop-rest-preserved : goal.loop-rest-preserved
 loop-rest-preserved c =
     let got = c.marked in
-    let part = rw c.set_at-set.ensures c c.is_subset.ensures in
+    let part = rw c.set_at-set.ensures at c.is_subset.ensures in
     gather_more c.loop-rest.r got.result c.union-r.result c.take_lowest-next.ensures c.loop-rest.invariant
     (λ t. let g = got.ensures t in ((λ h. ((g.0 h).0, part.to (g.0 h).1)), λ h. g.1 (h.0, part.of h.1))) c.union-r.ensures
 

@@ -24,8 +24,8 @@ loop-rest-preserved c =
     let set = c.set_at-p in
     gather_more c.loop-rest.r either.result c.union-r.result c.take_lowest-next.ensures c.loop-rest.invariant
     (gives_either c.passed-omega.result c.passed-back.result either.result
-    (rw (set.ensures, c.lefts_at.ensures) c c.passed-omega.ensures)
-    (rw (set.ensures, c.rights_at.ensures) c c.passed-back.ensures) either.ensures) c.union-r.ensures
+    (rw (set.ensures, c.lefts_at.ensures) at c.passed-omega.ensures)
+    (rw (set.ensures, c.rights_at.ensures) at c.passed-back.ensures) either.ensures) c.union-r.ensures
 
 pub returns : goal.returns
 returns c t =

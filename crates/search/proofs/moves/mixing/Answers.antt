@@ -17,7 +17,7 @@ loop-rest-smaller c = c.take_lowest-next.ensures.fewer
 pub loop-rest-preserved : goal.loop-rest-preserved
 loop-rest-preserved c =
     gather_more c.loop-rest.r c.passed.result c.union-r.result c.take_lowest-next.ensures c.loop-rest.invariant
-    (rw (c.rights_at.ensures, c.lefts_at.ensures) c c.passed.ensures) c.union-r.ensures
+    (rw (c.rights_at.ensures, c.lefts_at.ensures) at c.passed.ensures) c.union-r.ensures
 
 pub returns : goal.returns
 returns c t =

@@ -7,5 +7,5 @@ returns c =
     let a = c.args in
     claims_lead a.graph.now a.m c.requires a.force a.omegas c.targets_in-left.result c.targets_in-left.ensures
     c.intersection-mix.result c.intersection-back.result c.intersection-mix.ensures c.intersection-back.ensures
-    c.union.result c.targets_in.result c.targets_in-2.result c.union.result c.union.ensures c.targets_in.ensures
+    c.union-forth.result c.targets_in.result c.targets_in-2.result c.union.result c.union-forth.ensures c.targets_in.ensures
     c.targets_in-2.ensures c.union.ensures

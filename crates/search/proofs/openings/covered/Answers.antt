@@ -1,5 +1,6 @@
 -- `search::openings::covered` meets its contract: forward from m, backward from n.
-use Rattle.lists.proofs.Deciding.{iff_decides, says_no, denied, granted}
+use Rattle.std.proofs.lemmas.Bool.{not_from_false}
+use Rattle.lists.proofs.Deciding.{iff_decides, says_no, denied}
 use Rattle.search.proofs.Hops.{hop_back, hop_turn}
 use Rattle.search.proofs.Joining.{covered_iff}
 use Rattle.search.proofs.openings.covered.Goals as goal
@@ -8,7 +9,7 @@ use Rattle.search.proofs.openings.covered.Goals as goal
 pub returns-then-not-meets : goal.returns-then-not-meets
 returns-then-not-meets c =
     let after = c.reach-after in
-    says_no (λ h. let k = h.chain in denied c.meets.ensures c.if-not-meets.true (k.1, (after.ensures k.1).1 (k.0, k.2, k.4), k.3))
+    says_no (λ h. let k = h.chain in denied c.meets.ensures (not_from_false _ c.if-not-meets.true) (k.1, (after.ensures k.1).1 (k.0, k.2, k.4), k.3))
 
 pub returns : goal.returns
 returns c =
@@ -20,7 +21,7 @@ returns c =
     let args = c.args in
     let all = covered_iff (hop_back c.requires.turned) (hop_turn c.requires.turned) args.m args.n after.result before.result
     begun.result ended.result both.result after.ensures before.ensures begun.ensures ended.ensures both.ensures in
-    let end = granted c.meets.ensures c.if-not-meets.false in
+    let end = c.meets.ensures.to c.if-not-meets.false in
     let from = (after.ensures end.0).0 end.1 in
     iff_decides
     (λ f. record { states = λ s h. (all s).0 (f s h); chain = (from.0, end.0, from.1, end.2, from.2) })

@@ -20,7 +20,7 @@ returns-then-reach-p c =
     let w = c.with-s in
     let low = c.lowest in
     says_no (λ h. c.if-reach-p.true (reaches_all c.args.p low.result w.result r.result (with_same 0 _ _ w.ensures) r.ensures
-    (λ a b e. e.end) c.ranges.p.fits r.type-inv (λ t. h _ t low.ensures.0)))
+    (λ a b e. e.end) c.ranges.p.fits r.type_inv (λ t. h _ t low.ensures.is)))
 
 pub returns : goal.returns
 returns c =
@@ -34,5 +34,5 @@ returns c =
       to = λ e. joined_by (hop_back c.requires.turned) p s (from_one s w.result p w.ensures (rw c.if-reach-p.false at forth.ensures))
           (from_one s w.result p w.ensures (rw (eqb-true r.result p e) at r.ensures));
       of = λ h. eq-eqb r.result p (reaches_all p s w.result r.result (with_same 0 s _ w.ensures) r.ensures
-          (λ a b e. e.end) c.ranges.p.fits r.type-inv (λ t ht. chain_back (hop_turn c.requires.turned) (h t s ht low.ensures.0)));
+          (λ a b e. e.end) c.ranges.p.fits r.type_inv (λ t ht. chain_back (hop_turn c.requires.turned) (h t s ht low.ensures.is)));
     }

@@ -23,7 +23,7 @@ returns-then-reach_from-p c =
     let r = c.reach_from in
     let s = one_of (goal.at.returns-then-reach_from-p c).Else-q-p in
     says_no (λ h. c.if-reach_from-p.true (reaches_all c.args.p s.0 c.args.q r.result s.1 r.ensures
-    (λ a b e. e.end) c.ranges.p.fits r.type-inv (λ t. h _ t s.2)))
+    (λ a b e. e.end) c.ranges.p.fits r.type_inv (λ t. h _ t s.2)))
 
 pub reach_from-requires-2 : goal.reach_from-requires-2
 reach_from-requires-2 c =
@@ -39,5 +39,5 @@ returns c =
     record {
       to = λ e. joined_on (hop_back c.requires.0.turned) p q c.requires.1.joined (rw c.if-reach_from-p.false at forth.ensures) (rw (eqb-true r.result p e) at r.ensures);
       of = λ h. eq-eqb r.result p (reaches_all p s.0 q r.result s.1 r.ensures
-          (λ a b e. e.end) c.ranges.p.fits r.type-inv (λ t ht. chain_back (hop_turn c.requires.0.turned) (h t s.0 ht s.2)));
+          (λ a b e. e.end) c.ranges.p.fits r.type_inv (λ t ht. chain_back (hop_turn c.requires.0.turned) (h t s.0 ht s.2)));
     }

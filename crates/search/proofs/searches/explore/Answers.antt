@@ -9,7 +9,7 @@ use Rattle.search.proofs.searches.explore.Goals.{After-union-states}
 use Rattle.search.proofs.searches.explore.Goals as goal
 
 -- a pass that is not the last
-grows : (c : After-union-states invariant-loop decreases-loop) → ones c.before.before.before.loop.states < ones c.union.result
+grows : (c : After-union-states) → ones c.loop-force.states < ones c.union-states.result
 grows c =
     let l = c.loop-force in
     pass_grows l.states l.front c.added-more.result.states c.added-more.ensures.targets c.union-states.result c.union-states.ensures c.added-more.ensures.fits c.if-next-eq0.false l.invariant.0 c.union-states.type_inv

@@ -6,12 +6,12 @@ use Rattle.search.proofs.searches.reached_more.Goals as goal
 pub returns-then-next-eq0 : goal.returns-then-next-eq0
 returns-then-next-eq0 c =
     let a = c.args in
-    reached_same (graph_of a.graph.now) a.force a.new a.initials a.seen c.requires.1 c.union.result c.claimed-near.result c.difference-next.result
-    c.union.ensures c.claimed-near.ensures c.difference-next.ensures c.if-next-eq0.true
+    reached_same (graph_of a.graph.now) a.force a.new a.initials a.seen c.requires.1 c.union-from.result c.claimed-near.result c.difference-next.result
+    c.union-from.ensures c.claimed-near.ensures c.difference-next.ensures c.if-next-eq0.true
 
 pub returns : goal.returns
 returns c =
     let a = c.args in
-    reached_now (graph_of a.graph.now) a.force a.new a.initials a.seen c.requires.1 c.union.result c.claimed-near.result c.difference-next.result
-    c.union.ensures c.claimed-near.ensures c.difference-next.ensures c.union.result c.union.ensures
+    reached_now (graph_of a.graph.now) a.force a.new a.initials a.seen c.requires.1 c.union-from.result c.claimed-near.result c.difference-next.result
+    c.union-from.ensures c.claimed-near.ensures c.difference-next.ensures c.union.result c.union.ensures
     (rw c.all_states-p.ensures at c.explore-more.ensures.made)
