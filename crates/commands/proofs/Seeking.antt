@@ -13,13 +13,10 @@ use native.Mathlib.Omega.{arith}
 use borrow.Author.Tests.{eq-eqb, ne_eqb, lt-ltb, le-ltb, leb-true}
 use Rattle.lists.specs.Tests.{all}
 use Rattle.lists.proofs.Deciding.{test_decides, and_decides}
-use types.Run.{OneOf, miss}
-use denote.Enum.Declared.{tag_of}
 use Rattle.commands.specs.declared.Change.{Change}
 use Rattle.commands.specs.declared.Report.{Report}
 use Rattle.commands.specs.declared.Naming.{Naming}
 use Rattle.commands.specs.declared.Command.{Command}
-use Rattle.commands.specs.contracts.Command.{the_type}
 use Rattle.commands.specs.declared.Command.TheVariants.{Changes, Reports, Moves, Names, Nothing, BadHex, TooLong, Unknown}
 use Rattle.commands.specs.declared.Found.{Found}
 use Rattle.commands.specs.Meaning.{Meaning, change, report, move, named, nothing, bad_hex, too_long, unknown, longest, Word, says, words, batch, lends, with_name, with_text, starts, behind, called}
@@ -148,16 +145,6 @@ tells l r e =
     let q : p.0 ≡ (seek l (table words) 0 0).place = omega (arith, p.1) in
     rw e (record { within = p.2; told = λ room. p.3 room ∙ ap (λ n. behind (alone_at words n) room (drop (seek l (table words) 0 0).end l)) q })
 
--- none of the numbers below n
-unfoldable pub Past : ℕ → ℕ → Type 0
-Past zero k = Unit {0}
-Past (suc n) k = Past n k × (OneOf (n ∷ []) k → ⊥)
-
-pub at_least : (n k : ℕ) → Past n k → n ≤ k
-unfolding Past
-at_least zero k p = omega arith
-at_least (suc n) k p = let h = at_least n k p.0 in let g = p.1 in omega arith
-
 pub past_words : (ws : List Word) (k : ℕ) → length ws ≤ k → alone_at ws k ≡ unknown
 past_words [] k h = refl
 past_words (says w m ∷ ws) zero h = absurd (omega arith)
@@ -232,12 +219,13 @@ module _ (meant : Meaning) (room : ℕ) (text : List ℕ) where
       → Means (with_name call room text) buffer answer → Means (with_text meant room text) buffer answer
   extends_name word call n buffer answer e a p = rw (subst (λ x. Asks meant x) e a []).1 p
 
-  pub extends_other : (word : Command) → OneOf (2 ∷ 4 ∷ 5 ∷ 6 ∷ 7 ∷ []) (tag_of the_type word) → Asks meant word → with_text meant room text ≡ unknown
-  extends_other (Changes call n) k a = absurd (miss (2 ∷ 4 ∷ 5 ∷ 6 ∷ 7 ∷ []) 0 tt k)
-  extends_other (Reports call n) k a = absurd (miss (2 ∷ 4 ∷ 5 ∷ 6 ∷ 7 ∷ []) 1 tt k)
-  extends_other (Moves call) k a = rw (a [])
-  extends_other (Names call n) k a = absurd (miss (2 ∷ 4 ∷ 5 ∷ 6 ∷ 7 ∷ []) 3 tt k)
-  extends_other Nothing k a = rw (a [])
-  extends_other BadHex k a = rw (a [])
-  extends_other TooLong k a = rw (a [])
-  extends_other Unknown k a = rw (a [])
+  pub extends_other : (word : Command) → ((call : Change) (n : ℕ) → word ≡ Changes call n → ⊥) → ((call : Report) (n : ℕ) → word ≡ Reports call n → ⊥)
+      → ((call : Naming) (n : ℕ) → word ≡ Names call n → ⊥) → Asks meant word → with_text meant room text ≡ unknown
+  extends_other (Changes call n) f g h a = absurd (f call n refl)
+  extends_other (Reports call n) f g h a = absurd (g call n refl)
+  extends_other (Moves call) f g h a = rw (a [])
+  extends_other (Names call n) f g h a = absurd (h call n refl)
+  extends_other Nothing f g h a = rw (a [])
+  extends_other BadHex f g h a = rw (a [])
+  extends_other TooLong f g h a = rw (a [])
+  extends_other Unknown f g h a = rw (a [])

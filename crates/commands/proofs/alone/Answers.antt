@@ -1,8 +1,10 @@
 -- `alone` meets its contract: place by place, and past the words.
+use Prim.Native.Nat.{◌≤◌}
+use native.Mathlib.Omega.{arith}
 use mathlib.Core.Path.{ap, sym}
 use Rattle.commands.specs.Meaning.{words}
 use Rattle.commands.specs.Table.{command_of}
-use Rattle.commands.proofs.Seeking.{Past, at_least, past_words}
+use Rattle.commands.proofs.Seeking.{past_words}
 use Rattle.commands.proofs.alone.Goals as goal
 
 pub returns-in-0 : goal.returns-in-0
@@ -50,5 +52,5 @@ unfolding words
 returns-in-10 c = simp c.in-10.is
 
 pub returns-in_default : goal.returns-in_default
-unfolding words Past
-returns-in_default c = ap command_of (sym (past_words words c.args.place (at_least 11 c.args.place c.in_default.in_default-own.rest)))
+unfolding words
+returns-in_default c = let h : 11 ≤ c.args.place = omega arith in ap command_of (sym (past_words words c.args.place h))

@@ -12,5 +12,5 @@ returns-then-end-line c =
 pub returns : goal.returns
 returns c =
     let a = c.args in
-    called_text a.line.now c.rest.result.now c.find-found.result (length a.batch.now) c.alone-word.result c.with_text.new.1.1.0 c.with_text.result
+    called_text a.line.now c.rest.result.now c.find-found.result (length a.batch.now) c.alone-word.result c.with_text.new.batch c.with_text.result
     c.find-found.ensures (λ e. absurd (omega arith)) c.alone-word.ensures c.rest.ensures c.with_text.ensures

@@ -22,9 +22,6 @@ overflow_mul-batch c =
     let e = c.value.ensures in
     omega arith
 
-pub overflow_add-at : goal.overflow_add-at
-overflow_add-at c = omega arith
-
 pub bounds-text-at-in-loop-at : goal.bounds-text-at-in-loop-at
 bounds-text-at-in-loop-at c = omega arith
 
@@ -44,9 +41,6 @@ bounds-batch-i c = omega arith
 
 pub overflow_add-i : goal.overflow_add-i
 overflow_add-i c = omega arith
-
-pub overflow_add-at : goal.overflow_add-at
-overflow_add-at c = omega arith
 
 pub loop-at-smaller : goal.loop-at-smaller
 loop-at-smaller c = omega arith

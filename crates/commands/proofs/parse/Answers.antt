@@ -18,4 +18,4 @@ returns c =
     let a = c.args in
     let e : m.passed_over a.line.now ≡ false = sym c.is_passed_over.ensures ∙ c.if-is_passed_over.false in
     let f : m.called m.words (length a.batch.now) a.line.now ≡ m.meaning (length a.batch.now) a.line.now = simp e in
-    subst (λ x. Means x c.called.new.1.0 c.called.result) f c.called.ensures
+    subst (λ x. Means x c.called.new.batch c.called.result) f c.called.ensures

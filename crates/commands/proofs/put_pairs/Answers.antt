@@ -13,7 +13,7 @@ pub bounds-bytes-i : goal.bounds-bytes-i
 bounds-bytes-i c = omega arith
 
 pub digit_byte-requires : goal.digit_byte-requires
-digit_byte-requires c = let b = c.shared_slice_known-in-loop-i-1.given c.loop-i.i in omega arith
+digit_byte-requires c = let b = c.type_inv.bytes c.loop-i.i in omega arith
 
 pub bounds-text-at : goal.bounds-text-at
 bounds-text-at c = omega arith

@@ -1,5 +1,4 @@
 -- `with_length` meets its contract: by the digits.
-use borrow.Author.Tests.{not-true, not-false}
 use Rattle.commands.specs.Digits.{number_from, at_most}
 use Rattle.commands.specs.Meaning.{report, longest}
 use Prim.Native.Nat.{ℕ}
@@ -13,7 +12,7 @@ pub returns-then-text-eq0 : goal.returns-then-text-eq0
 returns-then-text-eq0 c = λ buffer. lent_empty _ _ (omega arith)
 
 pub returns-then-not-digits : goal.returns-then-not-digits
-returns-then-not-digits c = λ buffer. lent_other _ _ (sym c.digits.ensures ∙ not-true _ c.if-not-digits.true)
+returns-then-not-digits c = λ buffer. lent_other _ _ (sym c.digits.ensures ∙ c.if-not-digits.true)
 
 pub number-requires : goal.number-requires
 number-requires c = let a = c.args in omega (arith, c.longest.ensures, longest_most a.call)
@@ -23,5 +22,5 @@ returns c = λ buffer.
     let a = c.args in
     let e : c.number.result ≡ at_most (longest a.call) (number_from 0 a.text.now) = c.number.ensures ∙ ap (λ (m : ℕ). at_most m (number_from 0 a.text.now)) c.longest.ensures in (
       omega (arith, e, at_most_small (longest a.call) (number_from 0 a.text.now)),
-      lent_number a.call a.text.now (omega arith) (sym c.digits.ensures ∙ not-false _ c.if-not-digits.false) ∙ ap (report a.call) (sym e),
+      lent_number a.call a.text.now (omega arith) (sym c.digits.ensures ∙ c.if-not-digits.false) ∙ ap (report a.call) (sym e),
     )

@@ -6,7 +6,7 @@ use Rattle.commands.proofs.with_text.Goals as goal
 pub returns-in-Changes : goal.returns-in-Changes
 returns-in-Changes c = λ meant asks.
     let a = c.args in
-    extends_change meant (length a.batch.now) a.text.now a.word _ _ c.with_batch.new.1.1.0 c.with_batch.result c.in-Changes.is asks c.with_batch.ensures
+    extends_change meant (length a.batch.now) a.text.now a.word _ _ c.with_batch.new.batch c.with_batch.result c.in-Changes.is asks c.with_batch.ensures
 
 pub returns-in-Reports : goal.returns-in-Reports
 returns-in-Reports c = λ meant asks.
@@ -16,7 +16,10 @@ returns-in-Reports c = λ meant asks.
 pub returns-in-Names : goal.returns-in-Names
 returns-in-Names c = λ meant asks.
     let a = c.args in
-    extends_name meant (length a.batch.now) a.text.now a.word _ _ c.with_name.new.1.1.0 c.with_name.result c.in-Names.is asks c.with_name.ensures
+    extends_name meant (length a.batch.now) a.text.now a.word _ _ c.with_name.new.batch c.with_name.result c.in-Names.is asks c.with_name.ensures
 
 pub returns-in_default : goal.returns-in_default
-returns-in_default c = λ meant asks. let a = c.args in extends_other meant (length a.batch.now) a.text.now a.word c.in_default.in_default-own.keys4 asks
+returns-in_default c = λ meant asks.
+    let a = c.args in
+    let o = c.in_default in
+    extends_other meant (length a.batch.now) a.text.now a.word o.not-Changes o.not-Reports o.not-Names asks
