@@ -15,7 +15,7 @@ pub const LONGEST_NAME: usize = 8;
 
 // What is kept under a name: the keys of the standing rows, of which the second word has two bytes, the phase, and the count of rounds. The
 // sets and the openings follow from these.
-#[derive(Drop)]
+#[derive(Clone, Copy)]
 pub struct Kept {
     pub high: [u64; MOST_ROWS],
     pub low: [u16; MOST_ROWS],
@@ -32,7 +32,7 @@ pub struct Packed {
 }
 
 // The names as numbers, in the order in which they were first used, and what is kept under each. What is not used holds a filler.
-#[derive(Drop)]
+#[derive(Clone, Copy)]
 pub struct Marks {
     pub names: [u64; MOST_MARKS],
     pub kept: [Kept; MOST_MARKS],
