@@ -1,5 +1,6 @@
 // An answer as one number and a place, for callers in C and Rust.
 #![tactic(auto)]
+
 ghost use Rattle.codes.specs.Coding.{Codes};
 
 use machine::{Answer, Verdict};

@@ -1,5 +1,5 @@
 -- The tour of a set from one of its states is the tour from another, turned (`tour_turned`), so their texts are equally long (`tour_length`).
-use Prim.Native.Nat.{ℕ, zero, suc, ◌≤◌, ◌<◌, ◌+◌}
+use Prim.Native.Nat.{ℕ, suc, ◌+◌}
 use mathlib.Core.Path.{◌≡◌, refl, ap, sym, ◌∙◌}
 use mathlib.Core.Bool.{Bool, true, false}
 use mathlib.Core.Logic.{◌⊎◌, inl, inr, ⊎_elim}
@@ -8,9 +8,9 @@ use mathlib.Core.List.{List, [], ◌∷◌, ◌++◌, map, append_assoc, append-
 use lib.Dec.{ltb}
 use lib.ListN.{length, length-append}
 use native.Mathlib.Omega.{arith}
-use Rattle.lists.specs.Tests.{◌among◌, put, keep, range}
-use Rattle.lists.proofs.Deciding.{kept, ltb_decides, so, not_so}
-use Rattle.masks.specs.Mask.{member, ◌∈◌}
+use Rattle.lists.specs.Tests.{◌among◌, put, keep}
+use Rattle.lists.proofs.Deciding.{ltb_decides, so, not_so}
+use Rattle.masks.specs.Mask.{◌∈◌}
 use Rattle.orderings.specs.Steps.{Step, members, Walk}
 use Rattle.orderings.proofs.Timelines.{members_iff}
 use Rattle.orderings.proofs.Members.{Up, members_up}

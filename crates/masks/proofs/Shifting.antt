@@ -1,12 +1,12 @@
 -- Masks whose places are shifted: `m >> k` and `m << k`.
 use Prim.Native.Nat.{ℕ, zero, suc, ◌+◌, ◌-◌, ◌*◌, ◌/◌, ◌%◌, ◌^◌, ◌≤◌, ◌<◌}
-use mathlib.Core.Path.{◌≡◌, refl, sym, ap, ◌∙◌}
-use mathlib.Core.Bool.{Bool, true, false, not, ◌&&◌, and-true}
+use mathlib.Core.Path.{◌≡◌, sym, ap, ◌∙◌}
+use mathlib.Core.Bool.{Bool, false, not, ◌&&◌, and-true}
 use native.Mathlib.Nat.{not-suc-le-zero, le_of_suc-le-suc}
 use native.Mathlib.Omega.{arith}
 use lib.Dec.{eqb}
 use lib.Pow.{pow_pos, shl-shr, shr-shr}
-use lib.Bits.{bit_and, and_mask, shifted_half, shifted_even}
+use lib.Bits.{and_mask, shifted_half, shifted_even}
 use Rattle.masks.specs.Mask.{member}
 use Rattle.masks.proofs.Digit.{digit, digit_low, digit_suc, digit_none, digit_and, digit_not}
 use Rattle.masks.proofs.Member.{member_digit}

@@ -12,7 +12,7 @@ use Rattle.lists.specs.Tests.{◌among◌}
 use Rattle.rows.specs.declared.Row.{Row}
 use Rattle.rows.specs.Rows.{SetOf, batch_of, AllFit}
 use Rattle.rows.proofs.Batch.{batch_apart}
-use Rattle.orderings.specs.Steps.{Claim, loops, mixes, set_of, Label, letter, ω, back, mix, Step, HasRows, Struck, Possible, Walk}
+use Rattle.orderings.specs.Steps.{Claim, loops, mixes, set_of, Label, letter, ω, back, mix, HasRows, Struck, Possible, Walk}
 use Rattle.orderings.specs.Claims.{Entrance, Exit, Piece, Says}
 use Rattle.orderings.specs.Systems.{System, Allowed, Line, Derivation, Has, need_depth, walk_depth, greatest, depth, Valid, HoldsAt, AcceptedIn, Accepts, LeastAccepted}
 use Rattle.orderings.specs.Timelines.{Accepting, timelines}

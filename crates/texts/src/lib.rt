@@ -1,5 +1,6 @@
 // Texts, numbers and sets, each written at the front of a lent buffer or from a place on.
 #![tactic(auto)]
+
 ghost use Rattle.std.specs.Prelude.{◌≡◌, ◌+◌, ◌≤◌, ◌<◌, ◌++◌, length};
 ghost use Rattle.lists.specs.Writing.{Wrote, WroteAt};
 ghost use Rattle.machine.specs.Text.{digit, set_text, number_text};

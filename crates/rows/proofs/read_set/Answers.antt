@@ -25,12 +25,11 @@ pub set_at-set-requires : goal.set_at-set-requires
 set_at-set-requires c = omega (arith, (limit (goal.at.set_at-set-requires c).Start).places, c.if-rest-lt10.false)
 
 pub returns-then-set-eq0 : goal.returns-then-set-eq0
-returns-then-set-eq0 c =
-    (
-      (limit (goal.at.returns-then-set-eq0 c).Start).tests
-          ∙ simp (le-ltb _ _ c.if-rest-lt10.false, le-ltb _ _ c.if-rest-state_place-gt-LAST_STATE.false, eq-eqb _ _ (sym c.set_at-set.ensures ∙ c.if-set-eq0.true)),
-      λ e. omega arith,
-    )
+returns-then-set-eq0 c = (
+  (limit (goal.at.returns-then-set-eq0 c).Start).tests
+      ∙ simp (le-ltb _ _ c.if-rest-lt10.false, le-ltb _ _ c.if-rest-state_place-gt-LAST_STATE.false, eq-eqb _ _ (sym c.set_at-set.ensures ∙ c.if-set-eq0.true)),
+  λ e. omega arith,
+)
 
 pub returns : goal.returns
 returns c =
