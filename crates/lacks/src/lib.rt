@@ -1,6 +1,7 @@
 // Lacks: for each state the places of sets that have it but inside which no step leads to it. Such a set neither loops nor mixes, unless the state
 // is an entrance. A place that a mask does not have says nothing, so a new claim only takes places out.
 #![tactic(auto)]
+
 ghost use Rattle.std.specs.Prelude.{◌↔◌, ℕ, ◌≤◌, ◌<◌, get_or};
 ghost use Rattle.lists.specs.Tests.{Decides};
 ghost use Rattle.masks.specs.Mask.{◌∈◌};

@@ -1,5 +1,6 @@
 // The search: does a set loop, does it mix, does a walk lead from an initial to a final state.
 #![tactic(auto)]
+
 pub mod graphs;
 pub mod moves;
 pub mod openings;
