@@ -1,5 +1,6 @@
 // A line of a session, parsed: which call it asks for, and with what; and bytes in hex, for the answers.
 #![tactic(auto)]
+
 ghost use Rattle.std.specs.Prelude.{◌≡◌, true, ◌+◌, ◌/◌, ◌%◌, ◌<◌, ◌≤◌, length, take, drop};
 ghost use Rattle.machine.specs.Text.{digit};
 ghost use Rattle.commands.specs.Digits.{digit_value, digits, bytes, number_from, at_most};
