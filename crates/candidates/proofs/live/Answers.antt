@@ -1,15 +1,13 @@
 -- `live` meets its contract.
 use mathlib.Core.Logic.{⊎_elim}
-use borrow.Author.Rules.{rules}
 use Rattle.masks.proofs.Member.{union_left, union_right, union_cases, difference_left, difference_not, difference_cases}
-use Rattle.candidates.proofs.live.Statement.{statement}
-use Rattle.candidates.proofs.live.Tie as tie
+use Rattle.candidates.proofs.live.Goals as goal
 
-returns : tie.Need-returns
+pub returns : goal.returns
 returns c i =
-    let u = c.before.union in
-    let b = c.before.before.below in
-    let f = c.before.before.before.args.force in
+    let u = c.union in
+    let b = c.below in
+    let f = c.args.force in
     let r = c.difference.result in
     let is = c.difference.ensures in (
       (λ h. (
@@ -20,6 +18,3 @@ returns c i =
       λ (l, p, q). ⊎_elim (λ k. absurd (⊎_elim p q (union_cases f.loops f.mixes u.result u.ensures i k))) (λ k. k)
           (difference_cases b.result u.result r is i ((b.ensures i).1 l)),
     )
-
-pub live_spec : {M : Type 1} → statement M
-live_spec = tie.close (tie.spec (λ c κs. search rules) (λ c κs. search rules) (λ c κs. search rules) returns)
