@@ -7,6 +7,7 @@
 // their loops opened and 32 for those of their mixes, 0 for not open; one that says whether a set mixed only with its gaps; the set of the
 // struck states, and one that says whether they took a step away.
 #![tactic(auto)]
+
 mod cells;
 mod claims;
 mod reader;
