@@ -1,5 +1,6 @@
 // The marks of a session: their names, and what is kept under each.
 #![tactic(auto)]
+
 ghost use Rattle.std.specs.Prelude.{◌≡◌, [], ◌≤◌, ◌<◌, length, take};
 ghost use Rattle.lists.specs.Tests.{Decides};
 ghost use Rattle.machine.specs.Marks.{Name};

@@ -3,7 +3,6 @@ use Prim.Native.Nat.{◌-◌, ◌≤◌}
 use mathlib.Core.List.{List}
 use Rattle.rows.specs.declared.Row.{Row}
 use Rattle.rows.specs.Rows.{AllFit}
-use Rattle.rows.specs.Keys as Keys
 use Rattle.row_table.specs.Arrays.{Keyed}
 use Rattle.marks.proofs.Packing.{packed}
 use Rattle.marks.proofs.pack.Given as goal
