@@ -1,5 +1,6 @@
 // Which claims a round opens, tried only at places where one may open.
 #![tactic(auto)]
+
 ghost use Rattle.std.specs.Prelude.{◌≤◌, ◌<◌};
 ghost use Rattle.lists.specs.Tests.{Decides};
 ghost use Rattle.search.specs.Graph.{graph_of, BothWays};
