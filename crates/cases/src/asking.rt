@@ -59,13 +59,13 @@ fn ask(way: Way, input: &[u8], buffer: &mut [u8]) -> Returned {
 }
 
 // No buffer is longer.
-fn at_most(n: usize) -> isize {
-    if n < ROOM { n as isize } else { ROOM as isize }
+fn at_most(n: usize) -> usize {
+    if n < ROOM { n } else { ROOM }
 }
 
 // Asks with the first bytes of the buffer.
 fn lend(way: Way, input: &[u8], length: usize, buffer: &mut [u8]) -> Returned {
-    let n = io::count(at_most(length), buffer);
+    let n = at_most(length).min(buffer.len());
     ask(way, input, &mut buffer[..n])
 }
 
@@ -81,15 +81,15 @@ fn holds(buffer: &[u8], n: usize, text: &[u8]) -> bool {
 }
 
 // Says whether a buffer of the length gets the text, or what is refused.
-fn writes(way: Way, input: &[u8], text: &[u8], length: usize) -> bool {
+fn writes(rt: &impl Print, way: Way, input: &[u8], text: &[u8], length: usize) -> bool {
     let mut buffer = [170u8; ROOM];
     let returned = lend(way, input, length, &mut buffer);
     if returned.code >= REFUSAL {
-        say_refused(returned.code, returned.place);
+        say_refused(rt, returned.code, returned.place);
         return false;
     }
     let is_same = holds(&buffer, returned.code as usize, text);
-    say_same(is_same);
+    say_same(rt, is_same);
     is_same
 }
 
@@ -104,31 +104,31 @@ fn is_told(code: u64, place: u64, line: &[u8]) -> bool {
 }
 
 // Says what is refused with a buffer of the length. Is it what the line tells, and is the buffer as it was?
-fn refuses(way: Way, input: &[u8], line: &[u8], length: usize) -> bool {
+fn refuses(rt: &impl Print, way: Way, input: &[u8], line: &[u8], length: usize) -> bool {
     let mut buffer = [170u8; ROOM];
     let returned = lend(way, input, length, &mut buffer);
     if returned.code < REFUSAL {
-        say(b"writes");
+        say(rt, b"writes");
         return false;
     }
-    say_refused(returned.code, returned.place);
+    say_refused(rt, returned.code, returned.place);
     is_told(returned.code, returned.place, line) && is_untouched(&buffer)
 }
 
 // Says what becomes of an input that has the text.
-pub(crate) fn tell_text(way: Way, input: &[u8], text: &[u8]) -> bool {
+pub(crate) fn tell_text(rt: &impl Print, way: Way, input: &[u8], text: &[u8]) -> bool {
     let length = text.len();
-    let long = writes(way, input, text, ROOM);
-    say(b", exact ");
-    let exact = writes(way, input, text, length);
-    say(b", a byte less ");
+    let long = writes(rt, way, input, text, ROOM);
+    say(rt, b", exact ");
+    let exact = writes(rt, way, input, text, length);
+    say(rt, b", a byte less ");
     let less = if length == 0 { 0 } else { length - 1 };
-    refuses(way, input, b"refused 12 at 0\n", less) && long && exact
+    refuses(rt, way, input, b"refused 12 at 0\n", less) && long && exact
 }
 
 // Says what becomes of an input that has none, and is refused whatever the buffer, as the line tells.
-pub(crate) fn tell_none(way: Way, input: &[u8], line: &[u8]) -> bool {
-    let long = refuses(way, input, line, ROOM);
-    say(b", no buffer ");
-    refuses(way, input, line, 0) && long
+pub(crate) fn tell_none(rt: &impl Print, way: Way, input: &[u8], line: &[u8]) -> bool {
+    let long = refuses(rt, way, input, line, ROOM);
+    say(rt, b", no buffer ");
+    refuses(rt, way, input, line, 0) && long
 }

@@ -6,26 +6,26 @@ use crate::{asking, say_same};
 use program_output::{first, same, say};
 
 // Says whether the program writes the text for the file.
-fn shows(file: &[u8], text: &[u8]) -> bool {
+fn shows(rt: &impl Print, file: &[u8], text: &[u8]) -> bool {
     let shown = hoa_files::shown(file);
     let written = shown.text;
     let is_same = same(first(&written, shown.length), text);
-    say_same(is_same);
+    say_same(rt, is_same);
     is_same
 }
 
-fn tell_way(way: Way, file: &[u8], text: &[u8], is_refusal: bool) -> bool {
+fn tell_way(rt: &impl Print, way: Way, file: &[u8], text: &[u8], is_refusal: bool) -> bool {
     if is_refusal {
-        return asking::tell_none(way, file, text);
+        return asking::tell_none(rt, way, file, text);
     }
-    asking::tell_text(way, file, text)
+    asking::tell_text(rt, way, file, text)
 }
 
 // Says what becomes of a file, and whether it is the text.
-pub(crate) fn tell(file: &[u8], text: &[u8], is_refusal: bool) -> bool {
-    let by_program = shows(file, text);
-    say(b", call ");
-    let by_call = tell_way(Way::Hoa, file, text, is_refusal);
-    say(b", library ");
-    tell_way(Way::LibraryHoa, file, text, is_refusal) && by_program && by_call
+pub(crate) fn tell(rt: &impl Print, file: &[u8], text: &[u8], is_refusal: bool) -> bool {
+    let by_program = shows(rt, file, text);
+    say(rt, b", call ");
+    let by_call = tell_way(rt, Way::Hoa, file, text, is_refusal);
+    say(rt, b", library ");
+    tell_way(rt, Way::LibraryHoa, file, text, is_refusal) && by_program && by_call
 }

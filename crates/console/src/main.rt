@@ -1,5 +1,5 @@
 // A session at the keyboard or in a script.
 #![tactic(auto)]
-fn main() {
-    script::run(false);
+fn main(rt: HostRuntime) {
+    script::run(&rt, false);
 }

@@ -6,42 +6,42 @@ use program_output::say;
 use session::Session;
 
 // Runs a call on a record, and writes what is seen.
-fn try_call(record: Session, line: &[u8]) {
-    say(line);
-    say(b": ");
-    script::run_line(record, line);
+fn try_call(rt: &impl Print, record: Session, line: &[u8]) {
+    say(rt, line);
+    say(rt, b": ");
+    script::run_line(rt, record, line);
 }
 
-fn try_changes(record: Session) {
-    try_call(record, b"load 020103006100");
-    try_call(record, b"withdraw 0100");
+fn try_changes(rt: &impl Print, record: Session) {
+    try_call(rt, record, b"load 020103006100");
+    try_call(rt, record, b"withdraw 0100");
 }
 
-fn try_moves(record: Session) {
-    try_call(record, b"close");
-    try_call(record, b"round");
-    try_call(record, b"reopen");
-    try_call(record, b"verdict");
+fn try_moves(rt: &impl Print, record: Session) {
+    try_call(rt, record, b"close");
+    try_call(rt, record, b"round");
+    try_call(rt, record, b"reopen");
+    try_call(rt, record, b"verdict");
 }
 
-fn try_reports(record: Session) {
-    try_call(record, b"print");
-    try_call(record, b"save");
-    try_call(record, b"expression");
+fn try_reports(rt: &impl Print, record: Session) {
+    try_call(rt, record, b"print");
+    try_call(rt, record, b"save");
+    try_call(rt, record, b"expression");
 }
 
-fn try_names(record: Session) {
-    try_call(record, b"mark a");
-    try_call(record, b"return a");
+fn try_names(rt: &impl Print, record: Session) {
+    try_call(rt, record, b"mark a");
+    try_call(rt, record, b"return a");
 }
 
 // Every call on the record.
-fn try_all(name: &[u8], record: Session) {
-    say(name);
-    try_changes(record);
-    try_moves(record);
-    try_reports(record);
-    try_names(record);
+fn try_all(rt: &impl Print, name: &[u8], record: Session) {
+    say(rt, name);
+    try_changes(rt, record);
+    try_moves(rt, record);
+    try_reports(rt, record);
+    try_names(rt, record);
 }
 
 // A record with these counts, and nothing else.
@@ -57,69 +57,77 @@ fn counted(row_count: usize, set_count: usize, phase: Phase, rounds: u8) -> Sess
 }
 
 // Counts outside the arrays, in each phase.
-fn outside() {
-    try_all(b"# 257 rows\n", counted(257, 0, Phase::Open, 0));
-    try_all(b"# 65 sets\n", counted(0, 65, Phase::Running, 0));
+fn outside(rt: &impl Print) {
+    try_all(rt, b"# 257 rows\n", counted(257, 0, Phase::Open, 0));
+    try_all(rt, b"# 65 sets\n", counted(0, 65, Phase::Running, 0));
 }
 
-fn far_outside() {
+fn far_outside(rt: &impl Print) {
     try_all(
+        rt,
         b"# 2^64 - 1 rows\n",
         counted(usize::MAX, 64, Phase::Settled(Verdict::NonEmpty), 1),
     );
     try_all(
+        rt,
         b"# 2^64 - 1 sets\n",
         counted(256, usize::MAX, Phase::Settled(Verdict::Empty), 1),
     );
 }
 
 // More rounds than calls lead to, in each phase.
-fn too_many_rounds() {
-    try_all(b"# open after 1 round\n", counted(3, 2, Phase::Open, 1));
+fn too_many_rounds(rt: &impl Print) {
+    try_all(rt, b"# open after 1 round\n", counted(3, 2, Phase::Open, 1));
     try_all(
+        rt,
         b"# running after 129 rounds\n",
         counted(3, 2, Phase::Running, 129),
     );
     try_all(
+        rt,
         b"# settled after 130 rounds\n",
         counted(3, 2, Phase::Settled(Verdict::Empty), 130),
     );
 }
 
 // Counts within the arrays: rows that stand twice and more, and sets of no row.
-fn within() {
+fn within(rt: &impl Print) {
     try_all(
+        rt,
         b"# open, a row 256 times, 64 times the set 0\n",
         counted(256, 64, Phase::Open, 0),
     );
     try_all(
+        rt,
         b"# running after 128 rounds\n",
         counted(3, 2, Phase::Running, 128),
     );
 }
 
 // Rows that are not in order: those unused behind one of kind 5.
-fn unsorted() {
-    let loaded = script::run_line(Session::fresh(), b"load 05008000000000000000");
+fn unsorted(rt: &impl Print) {
+    let loaded = script::run_line(rt, Session::fresh(), b"load 05008000000000000000");
     let record = Session {
         row_count: 2,
         set_count: 2,
         phase: Phase::Running,
         ..loaded
     };
-    try_all(b"# running, with rows out of order\n", record);
+    try_all(rt, b"# running, with rows out of order\n", record);
 }
 
-fn settled() {
+fn settled(rt: &impl Print) {
     try_all(
+        rt,
         b"# settled as non-empty, without a walk\n",
         counted(2, 1, Phase::Settled(Verdict::NonEmpty), 129),
     );
 }
 
 // The example shifts with rounds of its openings that no rounds give: all in the last, so that none is of an earlier one.
-fn opened_at_once() {
+fn opened_at_once(rt: &impl Print) {
     let loaded = script::run_line(
+        rt,
         Session::fresh(),
         b"load 01000202030072000400000000000000010103016e0004000000000000000302",
     );
@@ -133,6 +141,7 @@ fn opened_at_once() {
         ..loaded
     };
     try_all(
+        rt,
         b"# settled as non-empty, with all claims opened in round 129\n",
         record,
     );
@@ -157,23 +166,34 @@ fn marked(count: usize, row_count: usize, phase: Phase, rounds: u8) -> Session {
 }
 
 // More marks than a session has.
-fn too_many_marks() {
-    try_all(b"# 5 marks\n", marked(5, 0, Phase::Open, 0));
-    try_all(b"# 2^64 - 1 marks\n", marked(usize::MAX, 0, Phase::Open, 0));
+fn too_many_marks(rt: &impl Print) {
+    try_all(rt, b"# 5 marks\n", marked(5, 0, Phase::Open, 0));
+    try_all(
+        rt,
+        b"# 2^64 - 1 marks\n",
+        marked(usize::MAX, 0, Phase::Open, 0),
+    );
 }
 
 // The two calls on a record whose marks keep what no mark keeps.
-fn try_kept(name: &[u8], row_count: usize, phase: Phase, rounds: u8) {
-    say(name);
-    try_names(marked(4, row_count, phase, rounds));
+fn try_kept(rt: &impl Print, name: &[u8], row_count: usize, phase: Phase, rounds: u8) {
+    say(rt, name);
+    try_names(rt, marked(4, row_count, phase, rounds));
 }
 
 // Returns that are refused as 24: more rows than there are keys, more rounds than any session has done.
-fn kept_outside() {
-    try_kept(b"# kept: 257 rows\n", 257, Phase::Open, 0);
-    try_kept(b"# kept: 2^64 - 1 rows\n", usize::MAX, Phase::Running, 0);
-    try_kept(b"# kept: 130 rounds\n", 0, Phase::Running, 130);
+fn kept_outside(rt: &impl Print) {
+    try_kept(rt, b"# kept: 257 rows\n", 257, Phase::Open, 0);
     try_kept(
+        rt,
+        b"# kept: 2^64 - 1 rows\n",
+        usize::MAX,
+        Phase::Running,
+        0,
+    );
+    try_kept(rt, b"# kept: 130 rounds\n", 0, Phase::Running, 130);
+    try_kept(
+        rt,
         b"# kept: 200 rounds\n",
         0,
         Phase::Settled(Verdict::Empty),
@@ -182,17 +202,25 @@ fn kept_outside() {
 }
 
 // Returns that are answered freely: 256 keys of no row, rounds while open, more rounds than settle, another verdict.
-fn kept_within() {
-    try_kept(b"# kept: keys of no row\n", 256, Phase::Open, 0);
-    try_kept(b"# kept: keys of no row, running\n", 256, Phase::Running, 0);
-    try_kept(b"# kept: open after 129 rounds\n", 0, Phase::Open, 129);
+fn kept_within(rt: &impl Print) {
+    try_kept(rt, b"# kept: keys of no row\n", 256, Phase::Open, 0);
     try_kept(
+        rt,
+        b"# kept: keys of no row, running\n",
+        256,
+        Phase::Running,
+        0,
+    );
+    try_kept(rt, b"# kept: open after 129 rounds\n", 0, Phase::Open, 129);
+    try_kept(
+        rt,
         b"# kept: running after 129 rounds\n",
         0,
         Phase::Running,
         129,
     );
     try_kept(
+        rt,
         b"# kept: settled as non-empty, without rows\n",
         0,
         Phase::Settled(Verdict::NonEmpty),
@@ -200,15 +228,15 @@ fn kept_within() {
     );
 }
 
-pub fn run() {
-    outside();
-    far_outside();
-    too_many_marks();
-    too_many_rounds();
-    within();
-    unsorted();
-    settled();
-    opened_at_once();
-    kept_outside();
-    kept_within();
+pub fn run(rt: &impl Print) {
+    outside(rt);
+    far_outside(rt);
+    too_many_marks(rt);
+    too_many_rounds(rt);
+    within(rt);
+    unsorted(rt);
+    settled(rt);
+    opened_at_once(rt);
+    kept_outside(rt);
+    kept_within(rt);
 }

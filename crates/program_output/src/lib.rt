@@ -1,5 +1,6 @@
 // What the programs share: texts and numbers on standard output, and texts compared.
 #![tactic(auto)]
+
 ghost use Rattle.std.specs.Prelude.{◌≡◌, take, drop};
 ghost use Rattle.lists.specs.Tests.{Decides};
 
@@ -40,26 +41,26 @@ pub fn beyond(text: &[u8], n: usize) -> &[u8]
     &text[text.len()..]
 }
 
-// Writes a text.
-pub fn say(text: &[u8]) {
-    io::write_all(libc::STDOUT_FILENO, text);
+// Writes a text. A write that fails is passed over, here and below.
+pub fn say(rt: &impl Print, text: &[u8]) {
+    let _ = rt.write_all(text);
 }
 
 // Writes a number.
-pub fn say_number(n: u64) {
-    io::print_decimal(libc::STDOUT_FILENO, n);
+pub fn say_number(rt: &impl Print, n: u64) {
+    let _ = rt.print(n);
 }
 
 // Writes a line: a name and a number.
-pub fn say_count(name: &[u8], n: u64) {
-    say(name);
-    say_number(n);
-    say(b"\n");
+pub fn say_count(rt: &impl Print, name: &[u8], n: u64) {
+    say(rt, name);
+    say_number(rt, n);
+    say(rt, b"\n");
 }
 
 // Writes bytes in hex, where they are 6,400 at most: no sheet, no save and no batch of random has more.
-pub fn say_hex(bytes: &[u8]) {
+pub fn say_hex(rt: &impl Print, bytes: &[u8]) {
     let mut text = [0u8; 12800];
     let n = commands::encode(bytes, &mut text);
-    say(&text[..n]);
+    say(rt, &text[..n]);
 }

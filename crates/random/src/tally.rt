@@ -100,82 +100,99 @@ pub fn count_strike(counts: &mut [u64], by_strike: bool) {
     }
 }
 
-fn report_line(counts: &[u64], word: &[u8], k: usize, at: usize) {
+fn report_line(rt: &impl Print, counts: &[u64], word: &[u8], k: usize, at: usize) {
     let n = get(counts, at);
     if n > 0 {
-        say(word);
-        program_output::say_number(k as u64);
-        say_count(b": ", n);
+        say(rt, word);
+        program_output::say_number(rt, k as u64);
+        say_count(rt, b": ", n);
     }
 }
 
 // The line of a count, if it is not 0.
-fn report_at(counts: &[u64], at: usize) {
+fn report_at(rt: &impl Print, counts: &[u64], at: usize) {
     if at < EMPTY {
-        return report_line(counts, b"nonempty, rounds ", at, at);
+        return report_line(rt, counts, b"nonempty, rounds ", at, at);
     }
     if at < REFUSED {
-        return report_line(counts, b"empty, rounds ", at - EMPTY, at);
+        return report_line(rt, counts, b"empty, rounds ", at - EMPTY, at);
     }
-    report_line(counts, b"refused ", at - REFUSED, at)
+    report_line(rt, counts, b"refused ", at - REFUSED, at)
 }
 
 // Writes the lines of the counts.
-fn report_all(counts: &[u64]) {
+fn report_all(rt: &impl Print, counts: &[u64]) {
     let mut at = 0;
     while at < REPEATED {
-        report_at(counts, at);
+        report_at(rt, counts, at);
         at += 1;
     }
 }
 
 // Writes what was counted.
-pub fn report(counts: &[u64]) {
-    report_all(counts);
+pub fn report(rt: &impl Print, counts: &[u64]) {
+    report_all(rt, counts);
     let repeated = get(counts, REPEATED);
-    say_count(b"passed over, as tried before: ", repeated);
+    say_count(rt, b"passed over, as tried before: ", repeated);
     say_count(
+        rt,
         b"tried, no two the same: ",
         std::num::wrapping_sub_u64(BATCHES, repeated),
     );
     say_count(
+        rt,
         b"with a set that mixes only with its gaps: ",
         get(counts, GAPS),
     );
     say_count(
+        rt,
         b"with a step that struck states take away: ",
         get(counts, STRIKES),
     );
-    say_count(b"different: ", get(counts, DIFFERENT));
-    say_count(b"other verdicts: ", get(counts, OTHER_VERDICTS));
-    say_count(b"pairs of different batches: ", get(counts, PAIRS));
-    say_count(b"told different: ", get(counts, TOLD));
-    say_count(b"with other verdicts: ", get(counts, TOLD_VERDICTS));
+    say_count(rt, b"different: ", get(counts, DIFFERENT));
+    say_count(rt, b"other verdicts: ", get(counts, OTHER_VERDICTS));
+    say_count(rt, b"pairs of different batches: ", get(counts, PAIRS));
+    say_count(rt, b"told different: ", get(counts, TOLD));
+    say_count(rt, b"with other verdicts: ", get(counts, TOLD_VERDICTS));
 }
 
 // A difference: the batch and both sheets.
-fn show(batch: &[u8], ours: &[u8], theirs: &[u8]) {
-    program_output::say_hex(batch);
-    say(b"\nthe engine's sheet:\n");
-    say(ours);
-    say(b"the plain search's sheet:\n");
-    say(theirs);
+fn show(rt: &impl Print, batch: &[u8], ours: &[u8], theirs: &[u8]) {
+    program_output::say_hex(rt, batch);
+    say(rt, b"\nthe engine's sheet:\n");
+    say(rt, ours);
+    say(rt, b"the plain search's sheet:\n");
+    say(rt, theirs);
 }
 
 // Compares the sheets, counts a difference where it is told, and shows one that must not be.
-fn compare(batch: &[u8], ours: &[u8], theirs: &[u8], told: usize, counts: &mut [u64]) {
+fn compare(
+    rt: &impl Print,
+    batch: &[u8],
+    ours: &[u8],
+    theirs: &[u8],
+    told: usize,
+    counts: &mut [u64],
+) {
     if program_output::same(ours, theirs) {
         return;
     }
     add(counts, told);
     if told == DIFFERENT {
-        show(batch, ours, theirs);
+        show(rt, batch, ours, theirs);
     }
 }
 
 // Compares the sheets, and counts what they say, or a pair that is to be told different.
-pub fn tell(batch: &[u8], ours: &[u8], theirs: &[u8], told: usize, counts: &mut [u64]) {
-    compare(batch, ours, theirs, told, counts);
+pub fn tell(
+    rt: &impl Print,
+    batch: &[u8],
+    ours: &[u8],
+    theirs: &[u8],
+    told: usize,
+    counts: &mut [u64],
+) {
+    compare(rt, batch, ours, theirs, told, counts);
     let at = if told == DIFFERENT {
         place_of(ours)
     } else {

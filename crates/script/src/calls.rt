@@ -38,17 +38,17 @@ fn report(session: Session, call: Report, buffer: &mut [u8]) -> Reply {
 }
 
 // No buffer is longer.
-fn at_most(n: usize) -> isize {
+fn at_most(n: usize) -> usize {
     if n < EXPRESSION_ROOM {
-        n as isize
+        n
     } else {
-        EXPRESSION_ROOM as isize
+        EXPRESSION_ROOM
     }
 }
 
 // Lends the first `n` bytes of the buffer.
 fn lend(session: Session, call: Report, n: usize, buffer: &mut [u8]) -> Reply {
-    let k = io::count(at_most(n), buffer);
+    let k = at_most(n).min(buffer.len());
     report(session, call, &mut buffer[..k])
 }
 
@@ -67,34 +67,35 @@ fn act(session: Session, command: Command, batch: &[u8], buffer: &mut [u8]) -> R
 }
 
 // Begins the line of the checks after a text, and ends the line of any other answer.
-fn say_written(answer: Answer, checks: bool) {
+fn say_written(rt: &impl Print, answer: Answer, checks: bool) {
     match answer {
         Answer::Wrote(n) => {
             if checks {
-                say(b"wrote ");
-                say_number(n as u64);
+                say(rt, b"wrote ");
+                say_number(rt, n as u64);
             }
         }
         _ => {
             if !checks {
-                say(b"\n");
+                say(rt, b"\n");
             }
         }
     }
 }
 
 // Ends the answer to a call, with the checks where they are asked for.
-fn end(before: Session, reply: Reply, buffer: &[u8], checks: bool) {
+fn end(rt: &impl Print, before: Session, reply: Reply, buffer: &[u8], checks: bool) {
     let answer = reply.answer;
-    say_written(answer, checks);
+    say_written(rt, answer, checks);
     if checks {
-        say_kept(before, reply.session, answer, buffer);
-        say(b"\n");
+        say_kept(rt, before, reply.session, answer, buffer);
+        say(rt, b"\n");
     }
 }
 
 // Runs a call with a buffer, and writes its answer.
 fn run_with(
+    rt: &impl Print,
     session: Session,
     command: Command,
     batch: &[u8],
@@ -105,21 +106,33 @@ fn run_with(
     let after = reply.session;
     let phase = after.phase;
     let answer = reply.answer;
-    say_answer(command, answer, phase, buffer);
-    end(session, reply, buffer, checks);
+    say_answer(rt, command, answer, phase, buffer);
+    end(rt, session, reply, buffer, checks);
     after
 }
 
 // With room for any sheet and any save.
-fn run_short(session: Session, command: Command, batch: &[u8], checks: bool) -> Session {
+fn run_short(
+    rt: &impl Print,
+    session: Session,
+    command: Command,
+    batch: &[u8],
+    checks: bool,
+) -> Session {
     let mut buffer = [170u8; LONGEST_SHEET];
-    run_with(session, command, batch, &mut buffer, checks)
+    run_with(rt, session, command, batch, &mut buffer, checks)
 }
 
 // With room for an expression.
-fn run_long(session: Session, command: Command, batch: &[u8], checks: bool) -> Session {
+fn run_long(
+    rt: &impl Print,
+    session: Session,
+    command: Command,
+    batch: &[u8],
+    checks: bool,
+) -> Session {
     let mut buffer = [170u8; EXPRESSION_ROOM];
-    run_with(session, command, batch, &mut buffer, checks)
+    run_with(rt, session, command, batch, &mut buffer, checks)
 }
 
 // Does the call ask for more room than a sheet has?
@@ -131,11 +144,17 @@ fn is_long(command: Command) -> bool {
 }
 
 // Runs a call: a megabyte is filled for those alone that ask for it.
-fn run_call(session: Session, command: Command, batch: &[u8], checks: bool) -> Session {
+fn run_call(
+    rt: &impl Print,
+    session: Session,
+    command: Command,
+    batch: &[u8],
+    checks: bool,
+) -> Session {
     if is_long(command) {
-        return run_long(session, command, batch, checks);
+        return run_long(rt, session, command, batch, checks);
     }
-    run_short(session, command, batch, checks)
+    run_short(rt, session, command, batch, checks)
 }
 
 // Does the command ask for a call?
@@ -150,13 +169,13 @@ fn is_call(command: Command) -> bool {
 }
 
 // Runs a line: the call that it asks for, or none.
-pub(crate) fn run_line(session: Session, line: &[u8], checks: bool) -> Session {
+pub(crate) fn run_line(rt: &impl Print, session: Session, line: &[u8], checks: bool) -> Session {
     // Room for the batch of any line that is held; a name that has none is too long.
     let mut batch = [0u8; 70000];
     let command = commands::parse(line, &mut batch);
     if is_call(command) {
-        return run_call(session, command, &batch, checks);
+        return run_call(rt, session, command, &batch, checks);
     }
-    say_none(command, line, checks);
+    say_none(rt, command, line, checks);
     session
 }

@@ -139,30 +139,36 @@ fn is_untouched(bytes: &[u8]) -> bool {
     true
 }
 
-fn say_same(kept: bool) {
+fn say_same(rt: &impl Print, kept: bool) {
     if kept {
-        say(b" unchanged");
+        say(rt, b" unchanged");
     } else {
-        say(b" changed");
+        say(rt, b" changed");
     }
 }
 
 // Says of a text in the buffer whether the bytes beyond it are as they were.
-fn say_beyond(answer: Answer, buffer: &[u8]) {
+fn say_beyond(rt: &impl Print, answer: Answer, buffer: &[u8]) {
     match answer {
         Answer::Wrote(n) => {
-            say(b", beyond the text");
-            say_same(is_untouched(beyond(buffer, n)));
+            say(rt, b", beyond the text");
+            say_same(rt, is_untouched(beyond(buffer, n)));
         }
         _ => {}
     }
 }
 
 // Says whether the session and the buffer are as they were.
-pub(crate) fn say_kept(before: Session, after: Session, answer: Answer, buffer: &[u8]) {
-    say(b", session");
-    say_same(digest(before) == digest(after));
-    say(b", buffer");
-    say_same(is_untouched(buffer));
-    say_beyond(answer, buffer);
+pub(crate) fn say_kept(
+    rt: &impl Print,
+    before: Session,
+    after: Session,
+    answer: Answer,
+    buffer: &[u8],
+) {
+    say(rt, b", session");
+    say_same(rt, digest(before) == digest(after));
+    say(rt, b", buffer");
+    say_same(rt, is_untouched(buffer));
+    say_beyond(rt, answer, buffer);
 }

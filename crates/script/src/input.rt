@@ -5,6 +5,7 @@ ghost use Rattle.script.specs.Input.{ReadWithin};
 use crate::calls::run_line;
 use program_output::{first, say};
 use session::Session;
+use std::io::{Error, Read};
 
 // Where a line ends or breaks off, and how many bytes of it are held; more than the buffer has where it is too long.
 #[derive(Clone, Copy)]
@@ -45,16 +46,23 @@ fn take_line(read: &[u8], from: usize, line: &mut [u8], held: usize) -> Piece
 }
 
 // Runs a line that is held, or says that it is too long.
-fn run_held(session: Session, line: &[u8], held: usize, checks: bool) -> Session {
+fn run_held(rt: &impl Print, session: Session, line: &[u8], held: usize, checks: bool) -> Session {
     if held > line.len() {
-        say(b"too long\n");
+        say(rt, b"too long\n");
         return session;
     }
-    run_line(session, first(line, held), checks)
+    run_line(rt, session, first(line, held), checks)
 }
 
 // Runs the lines that end in what was read.
-fn run_lines(session: Session, read: &[u8], line: &mut [u8], held: usize, checks: bool) -> State {
+fn run_lines(
+    rt: &impl Print,
+    session: Session,
+    read: &[u8],
+    line: &mut [u8],
+    held: usize,
+    checks: bool,
+) -> State {
     let mut last = session;
     let mut held = held;
     let mut at = 0;
@@ -63,7 +71,7 @@ fn run_lines(session: Session, read: &[u8], line: &mut [u8], held: usize, checks
         at = piece.at;
         held = piece.held;
         if at < read.len() {
-            last = run_held(last, line, held, checks);
+            last = run_held(rt, last, line, held, checks);
             held = 0;
             at += 1;
         }
@@ -76,11 +84,11 @@ fn run_lines(session: Session, read: &[u8], line: &mut [u8], held: usize, checks
 }
 
 // Ends with a last line that has no line end.
-fn finish(session: Session, line: &[u8], held: usize, checks: bool) -> State {
+fn finish(rt: &impl Print, session: Session, line: &[u8], held: usize, checks: bool) -> State {
     let more = false;
     if held > 0 {
         return State {
-            session: run_held(session, line, held, checks),
+            session: run_held(rt, session, line, held, checks),
             held: 0,
             more,
         };
@@ -93,14 +101,14 @@ fn finish(session: Session, line: &[u8], held: usize, checks: bool) -> State {
 }
 
 // Runs all lines of a text.
-pub(crate) fn run_text(session: Session, text: &[u8], line: &mut [u8]) {
-    let state = run_lines(session, text, line, 0, false);
-    finish(state.session, line, state.held, false);
+pub(crate) fn run_text(rt: &impl Print, session: Session, text: &[u8], line: &mut [u8]) {
+    let state = run_lines(rt, session, text, line, 0, false);
+    finish(rt, state.session, line, state.held, false);
 }
 
 // Says why a read failed, and ends.
-fn stop(session: Session) -> State {
-    os::fail(b"standard input");
+fn stop(rt: &impl Eprint, session: Session, error: Error) -> State {
+    let _ = eprintln!(rt; "standard input: {error}");
     State {
         session,
         held: 0,
@@ -108,31 +116,51 @@ fn stop(session: Session) -> State {
     }
 }
 
-fn run_read(session: Session, read: &[u8], line: &mut [u8], held: usize, checks: bool) -> State {
+fn run_read(
+    rt: &impl Print,
+    session: Session,
+    read: &[u8],
+    line: &mut [u8],
+    held: usize,
+    checks: bool,
+) -> State {
     if read.len() == 0 {
-        return finish(session, line, held, checks);
+        return finish(rt, session, line, held, checks);
     }
-    run_lines(session, read, line, held, checks)
+    run_lines(rt, session, read, line, held, checks)
 }
 
 // Reads once, and runs the lines that end.
-fn turn(session: Session, buffer: &mut [u8], line: &mut [u8], held: usize, checks: bool) -> State {
-    let got = libc::read(libc::STDIN_FILENO, buffer);
-    if got < 0 {
-        return stop(session);
+fn turn(
+    rt: &(impl Print + Eprint),
+    reader: &mut impl Read,
+    session: Session,
+    buffer: &mut [u8],
+    line: &mut [u8],
+    held: usize,
+    checks: bool,
+) -> State {
+    match reader.read(buffer) {
+        Ok(n) => run_read(rt, session, &buffer[..n], line, held, checks),
+        Err(error) => stop(rt, session, error),
     }
-    let n = io::count(got, buffer);
-    run_read(session, &buffer[..n], line, held, checks)
 }
 
 // Reads and runs lines to the end of the input. A proved loop has to end, and nothing says that the input does: so the turns are
 // counted down, from a number that no run uses up.
-pub(crate) fn run(session: Session, buffer: &mut [u8], line: &mut [u8], checks: bool) {
+pub(crate) fn run(
+    rt: &(impl Print + Eprint),
+    reader: &mut impl Read,
+    session: Session,
+    buffer: &mut [u8],
+    line: &mut [u8],
+    checks: bool,
+) {
     let mut last = session;
     let mut held = 0;
     let mut turns = u64::MAX;
     while turns > 0 {
-        let state = turn(last, buffer, line, held, checks);
+        let state = turn(rt, reader, last, buffer, line, held, checks);
         if !state.more {
             return;
         }

@@ -1,26 +1,31 @@
 // Runs stored scripts, each on a fresh session, and writes the name of each before its answers. Its arguments are the names of their files.
 #![tactic(auto)]
+
 use machine::LONGEST_BATCH;
+use program_input::{LONGEST_PATH, argument, argument_count, open, read_full};
 use program_output::say;
+use std::rt::{Env, Files};
 
 // Runs the script in the file that an argument names; of a file that cannot be read nothing is run.
-fn run_script(index: usize) {
-    let mut path = io::buffer();
-    let length = os::arg(index, &mut path);
-    say(&path[..length]);
-    say(b"\n");
-    let file = os::open_read(&path[..length]);
+fn run_script(rt: &(impl Env + Files + Print), index: usize) {
+    let mut path = [0u8; LONGEST_PATH];
+    let length = argument(rt, index, &mut path);
+    say(rt, &path[..length]);
+    say(rt, b"\n");
+    let file = open(rt, &path[..length]);
     let mut text = [0u8; LONGEST_BATCH];
-    let n = io::read_full(file, &mut text);
-    libc::close(file);
-    script::run_text(&text[..n]);
+    let n = match file {
+        Ok(mut file) => read_full(&mut file, &mut text),
+        Err(_) => 0,
+    };
+    script::run_text(rt, &text[..n]);
 }
 
-fn main() {
-    let count = os::arg_count();
+fn main(rt: HostRuntime) {
+    let count = argument_count(&rt);
     let mut index = 1;
     while index < count {
-        run_script(index);
+        run_script(&rt, index);
         index += 1;
     }
 }
