@@ -242,7 +242,7 @@ pub fn first_step(
 }
 
 // A walk, if there is one: its start, how many steps it has, and of each step its kind, its letter or set, and its target.
-#[derive(Drop)]
+#[derive(Clone, Copy)]
 pub struct FoundWalk {
     pub found: bool,
     pub start: u8,
