@@ -1,20 +1,20 @@
 -- A set with a state from which no letter leads on inside it neither loops nor mixes while no claim is in force (`idle_loops_not`, `idle_mixes_not`);
 -- where every set is so, the first round opens nothing, and the automaton is settled (`vain_end`).
-use Prim.Native.Nat.{ℕ, ◌+◌, ◌<◌, ◌≤◌}
+use Prim.Native.Nat.{ℕ, ◌≤◌}
 use mathlib.Core.Path.{◌≡◌, refl, sym, subst}
-use mathlib.Core.Bool.{true, false, cond}
+use mathlib.Core.Bool.{true, false}
 use mathlib.Core.Logic.{inr, ⊎_elim}
 use mathlib.Core.List.{List, ◌∷◌}
 use lib.ListN.{get_or, replicate}
 use native.Mathlib.Omega.{arith}
-use Rattle.masks.specs.Mask.{member, ◌∈◌, ◌⊆◌}
+use Rattle.masks.specs.Mask.{◌∈◌, ◌⊆◌}
 use Rattle.masks.proofs.Member.{member_none, in_none, intersection_left}
 use Rattle.rows.specs.declared.Row.{Row}
 use Rattle.machine.specs.Machine.{open_with, judged}
 use Rattle.machine.specs.Calls.{close, round, run}
 use Rattle.search.specs.declared.Claims.{Claims}
 use Rattle.search.specs.Graph.{Graph}
-use Rattle.search.specs.Hops.{Hop, InnerClaims, Joined, Covered, OnChain, no_claims}
+use Rattle.search.specs.Hops.{Hop, InnerClaims, Joined, Covered, no_claims}
 use Rattle.search.specs.Promises.{AcceptsRight}
 use Rattle.search.proofs.Chains.{chain_first}
 use Rattle.candidates.specs.Promises.{LoopsAt, MixesAt, OpensOn}

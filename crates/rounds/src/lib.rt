@@ -1,5 +1,6 @@
 // Rounds on masks and arrays: what each opens, the rounds in which claims opened, and all of them one after another.
 #![tactic(auto)]
+
 ghost use Rattle.std.specs.Prelude.{◌≡◌, true, false, ℕ, ◌≤◌, ◌<◌};
 ghost use Rattle.lists.specs.Tests.{Decides};
 ghost use Rattle.masks.specs.Mask.{◌∈◌};

@@ -21,5 +21,8 @@ returns-then-accepts c =
 pub returns : goal.returns
 returns c =
     let a = c.args in
-    let g = graph_of a.graph.now in record { vain = (λ e rows given. vain_end (c.requires.1 c.if-not-idle.false) rows given
-          (subst (AcceptsRight g no_claims a.initials a.finals) c.if-accepts.false c.accepts.ensures) most_rounds (omega arith)); closed = λ e. absurd (false≢true (sym e)) }
+    let g = graph_of a.graph.now in record {
+      vain = (λ e rows given. vain_end (c.requires.1 c.if-not-idle.false) rows given
+          (subst (AcceptsRight g no_claims a.initials a.finals) c.if-accepts.false c.accepts.ensures) most_rounds (omega arith));
+      closed = λ e. absurd (false≢true (sym e));
+    }

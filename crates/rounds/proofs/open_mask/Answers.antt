@@ -14,8 +14,8 @@ loop-i-preserved c =
     let r = c.loop-i.r in
     let i = c.loop-i.i in
     elim c.if-rounds-i-ne0.branch [
-      then-rounds-i-ne0 w ↦ (omega arith, rw w.r-is (marked_more P r i w.with-r.result c.loop-i.invariant.1 (omega (arith, w.if-rounds-i-ne0.true)) w.with-r.ensures))
-    | else-rounds-i-ne0 w ↦ (omega arith, rw w.r-is (marked_past P r i c.loop-i.invariant.1 (λ g. omega (arith, g, w.if-rounds-i-ne0.false))))
+      | then-rounds-i-ne0 w ↦ (omega arith, rw w.r-is (marked_more P r i w.with-r.result c.loop-i.invariant.1 (omega (arith, w.if-rounds-i-ne0.true)) w.with-r.ensures))
+      | else-rounds-i-ne0 w ↦ (omega arith, rw w.r-is (marked_past P r i c.loop-i.invariant.1 (λ g. omega (arith, g, w.if-rounds-i-ne0.false))))
     ]
 
 pub returns : goal.returns
