@@ -1,5 +1,6 @@
 // The graph that the search reads, made in one pass over the keys of rows.
 #![tactic(auto)]
+
 ghost use Rattle.std.specs.Prelude.{◌≡◌, ◌⊎◌, ◌≤◌, ◌<◌, replicate};
 ghost use Rattle.search.specs.Graph.{Indexed};
 ghost use Rattle.automaton.specs.Promise.{Adds, AddsAt, HasSets, PlaceOf, GivesKeyed, automaton_of};

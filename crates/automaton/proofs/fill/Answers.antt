@@ -51,7 +51,10 @@ loop-i-preserved c =
 pub returns : goal.returns
 returns c =
     let l = c.loop-i in
-    record { gives = (λ e rows f key count are.
+    record {
+      gives = (λ e rows f key count are.
           finished f count are c.requires.1 (l.invariant.1 (c.put_sets.ensures e)) (sets_rise rows c.args.sets.now c.args.set_count are count)
           (rw (take_all l.i rows (omega (arith, key.count, c.loop-i-test.false))) at (l.invariant.2 (c.put_sets.ensures e) rows f key))
-          c.finish.ensures c.difference.ensures c.difference-2.ensures); indexed = λ e. finished_indexed c.requires.1 (l.invariant.1 (c.put_sets.ensures e)) c.finish.ensures }
+          c.finish.ensures c.difference.ensures c.difference-2.ensures);
+      indexed = λ e. finished_indexed c.requires.1 (l.invariant.1 (c.put_sets.ensures e)) c.finish.ensures;
+    }
