@@ -1,5 +1,6 @@
 // The rows of a Büchi automaton of at most six states as a batch, from its masks.
 #![tactic(auto)]
+
 ghost use Rattle.std.specs.Prelude.{◌≤◌, ◌<◌, ◌+◌, length};
 ghost use Rattle.lists.specs.Writing.{Wrote, WroteAt};
 ghost use Rattle.rows.specs.Rows.{row_bytes, batch_of};

@@ -43,8 +43,8 @@ loop-set-preserved c =
     let e : meet? c.loop-set.set c.args.marked ≡ c.meets.result = alike (meet_decides _ _) c.meets.ensures (λ x. x) (λ x. x) in
     let l : c.loop-set.set + 1 ≤ 2 ^ c.args.states = omega (arith, c.loop-set-test.true, end_is c.args.states c.requires.1) in
     elim c.if-meets.branch [
-      then-meets w ↦ (l, rw (w.buf-is, w.next-is) (kept_next c.loop-set.invariant.1 _ (e ∙ w.if-meets.true) w.limit_at-next.auto.buf w.limit_at-next.ensures)) |
-      else-meets w ↦ (l, rw (w.buf-is, w.next-is) (kept_past c.loop-set.invariant.1 (e ∙ w.if-meets.false)))
+      | then-meets w ↦ (l, rw (w.buf-is, w.next-is) (kept_next c.loop-set.invariant.1 _ (e ∙ w.if-meets.true) w.limit_at-next.auto.buf w.limit_at-next.ensures))
+      | else-meets w ↦ (l, rw (w.buf-is, w.next-is) (kept_past c.loop-set.invariant.1 (e ∙ w.if-meets.false)))
     ]
 
 pub shape_of-buf : goal.shape_of-buf

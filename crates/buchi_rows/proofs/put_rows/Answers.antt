@@ -37,22 +37,21 @@ edges_at-c-requires c =
     omega (arith, c.row_at-a.ensures.place_is, c.row_at-b.ensures.place_is, initial_length c.args.start, final_length 6, c.row_at-a.auto.buf, c.row_at-b.auto.buf, c.requires.0)
 
 pub limits_at-requires : goal.limits_at-requires
-limits_at-requires c =
-    (
-      omega (
-        arith,
-        c.row_at-a.ensures.place_is,
-        c.row_at-b.ensures.place_is,
-        c.edges_at-c.ensures.short,
-        initial_length c.args.start,
-        final_length 6,
-        c.row_at-a.auto.buf,
-        c.row_at-b.auto.buf,
-        c.edges_at-c.auto.buf,
-        c.requires.0,
-      ),
-      c.requires.1,
-    )
+limits_at-requires c = (
+  omega (
+    arith,
+    c.row_at-a.ensures.place_is,
+    c.row_at-b.ensures.place_is,
+    c.edges_at-c.ensures.short,
+    initial_length c.args.start,
+    final_length 6,
+    c.row_at-a.auto.buf,
+    c.row_at-b.auto.buf,
+    c.edges_at-c.auto.buf,
+    c.requires.0,
+  ),
+  c.requires.1,
+)
 
 pub returns : goal.returns
 returns c =
