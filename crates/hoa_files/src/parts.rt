@@ -9,7 +9,7 @@ use crate::Numbered;
 // Does the text stand at the place?
 pub fn stands(file: &[u8], at: usize, text: &[u8]) -> bool
     requires { at ≤ length file.now }
-    ensures { Decides result (drop at file.now begin_with (λ x. x.now) text.entry) }
+    ensures { Decides result (drop at file.now begin_with text.now) }
 {
     if text.len() > file.len() - at {
         return false;
