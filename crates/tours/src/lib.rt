@@ -1,5 +1,6 @@
 // The parts of an expression, one after another: the steps of the walk, of a tour of a set, or of the pieces of a set, and what stands before each.
 #![tactic(auto)]
+
 pub mod legs;
 
 ghost use Rattle.std.specs.Prelude.{◌≡◌, true, false, ℕ, ◌+◌, ◌*◌, ◌≤◌, ◌<◌, ◌↔◌};
