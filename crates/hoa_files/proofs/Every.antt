@@ -1,9 +1,8 @@
 -- Request C-21 of every readable automaton (`every_buchi`): its rows, its verdict, and what `sheet` writes for it.
-use Prim.Native.Nat.{ℕ, ◌≤◌}
-use mathlib.Core.Path.{◌≡◌, refl, ap, sym, subst, ◌∙◌}
+use Prim.Native.Nat.{ℕ}
+use mathlib.Core.Path.{◌≡◌, ap, sym, ◌∙◌}
 use mathlib.Core.Logic.{◌↔◌}
 use mathlib.Core.List.{List}
-use lib.ListN.{length}
 use native.Mathlib.Omega.{arith}
 use Rattle.rows.specs.declared.Row.{Row}
 use Rattle.rows.specs.Rows.{batch_of, Bytes}
@@ -13,7 +12,7 @@ use Rattle.machine.specs.declared.Verdict.TheVariants.{NonEmpty}
 use Rattle.machine.specs.declared.Phase.TheVariants.{Settled}
 use Rattle.machine.specs.Machine.{Machine, open_with, fresh}
 use Rattle.machine.specs.Sheet.{sheet}
-use Rattle.machine.specs.Calls.{load, Next, call, run, settle, second}
+use Rattle.machine.specs.Calls.{load, Next, run, settle, second}
 use Rattle.machine.specs.Program.{program, ProgramWrites, too_long, refusal, sheet_of}
 use Rattle.machine.proofs.Tables.{no_rows}
 use Rattle.machine.proofs.Causes.{refusals}

@@ -149,7 +149,7 @@ numbered_within word tail l at r f h k = let p = f.found h in omega (arith, p.1.
 
 pub fixed_within : (l : List ℕ) (at k : ℕ) → at ≤ length l → StandsFixed (drop at l) k → at + k ≤ length l
 fixed_within l at k h (all_stand s) = begin_room l (gather line fixed_lines) at h s
-fixed_within l at k h (up_to before later next e s never) = begin_room l (gather line before) at h s
+fixed_within l at k h (up_to before later _ e s never) = begin_room l (gather line before) at h s
 
 pub count_within : {l : List ℕ} {n at : ℕ} → TakesCount l n at → at ≤ length l
 count_within {l} {n} c =

@@ -1,10 +1,9 @@
 -- A file byte by byte, computed from the definitions.
 use mathlib.Core.Path.{◌≡◌, refl}
 use mathlib.Core.Bool.{true, false}
-use mathlib.Core.List.{List, [], ◌∷◌}
-use Prim.Native.Nat.{ℕ}
+use mathlib.Core.List.{[], ◌∷◌}
 use Rattle.machine.specs.Text.{decimal}
-use Rattle.hoa_files.specs.Automata.{BuchiState, Buchi, file_text}
+use Rattle.hoa_files.specs.Automata.{Buchi, file_text}
 
 -- two states, the second the start; the first is marked, and has an edge to itself
 abbrev example : Buchi

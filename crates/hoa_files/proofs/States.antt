@@ -1,6 +1,6 @@
 -- The states of an automaton: which stands where as states are added (`at_old`, `at_new`, `at_either`), that edges lead from state to state
 -- (`edge_inside`), and that marks and edges can be decided (`dec_marked`, `dec_edge`).
-use Prim.Native.Nat.{ℕ, suc, ◌≤◌, ◌<◌}
+use Prim.Native.Nat.{ℕ, suc, ◌<◌}
 use mathlib.Core.Path.{◌≡◌, refl, sym, ap, subst, ◌∙◌}
 use mathlib.Core.Bool.{Bool, true, false}
 use mathlib.Core.Logic.{◌⊎◌, inl, inr, ⊎_elim}

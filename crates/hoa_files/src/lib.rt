@@ -1,5 +1,6 @@
 // Büchi automata from HOA files: a file in, its rows as a batch out.
 #![tactic(auto)]
+
 pub mod body;
 pub mod heads;
 pub mod parts;

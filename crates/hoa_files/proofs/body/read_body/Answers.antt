@@ -1,14 +1,10 @@
 -- `read_body` meets its contract. The loop's invariant: the states up to the place, and the masks of them.
 use Prim.Native.Nat.{ℕ, ◌+◌, ◌≤◌, ◌<◌}
-use mathlib.Core.Path.{◌≡◌, subst}
 use mathlib.Core.List.{List}
 use lib.ListN.{length, drop}
 use native.Mathlib.Omega.{arith}
-use borrow.Author.Rules.{rules}
-use Rattle.hoa_files.specs.declared.BodyLine.{BodyLine}
-use Rattle.hoa_files.specs.declared.BodyLine.TheVariants as b
 use Rattle.hoa_files.specs.Automata.{state_line, edge_line, end_line}
-use Rattle.hoa_files.specs.Reading.{TakesLine, TellsLine}
+use Rattle.hoa_files.specs.Reading.{TakesLine}
 use Rattle.hoa_files.proofs.BodyRead.{BodyRead, body_start, body_within, body_state, body_edge, body_refused, body_end, line_within}
 use Rattle.hoa_files.proofs.body.read_body.Goals as goal
 

@@ -1,7 +1,6 @@
 -- `read_body` meets its contract. The loop's invariant: the states up to the place, and the masks of them.
 use Prim.Native.Nat.{◌-◌}
 use lib.ListN.{length}
-use Rattle.hoa_files.specs.declared.BodyLine.TheVariants as b
 use Rattle.hoa_files.proofs.BodyRead.{BodyRead}
 use Rattle.hoa_files.proofs.body.read_body.Given as goal
 

@@ -1,7 +1,6 @@
 -- `heads::read_start` meets its contract: the line of the start, then the four that are the same in every file.
-use Prim.Native.Nat.{◌+◌, ◌≤◌}
+use Prim.Native.Nat.{◌+◌}
 use mathlib.Core.List.{[], ◌∷◌}
-use lib.ListN.{length}
 use native.Mathlib.Omega.{arith}
 use Rattle.machine.specs.Text.{text}
 use Rattle.hoa_files.proofs.HeadRead.{numbered_within, fixed_within, count_within, no_start, start_beyond, fixed_missing, head_taken}

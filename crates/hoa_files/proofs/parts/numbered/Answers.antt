@@ -1,11 +1,10 @@
 -- `numbered` meets its contract: the word, the digits and the tail are there, or one of them is missing.
 use Prim.Native.Nat.{◌+◌, ◌≤◌}
 use mathlib.Core.Path.{refl}
-use lib.ListN.{length, drop}
+use lib.ListN.{length}
 use native.Mathlib.Omega.{arith}
 use Rattle.std.proofs.lemmas.Bool.{not_from_false}
 use Rattle.lists.proofs.Deciding.{denied}
-use Rattle.hoa_files.specs.Reading.{◌begin_with◌}
 use Rattle.hoa_files.proofs.Starting.{begin_room}
 use Rattle.hoa_files.proofs.Numerals.{digit_first, count_room, no_word, no_digits, no_tail, line_found}
 use Rattle.hoa_files.proofs.parts.numbered.Goals.{After-count_digits-count}
