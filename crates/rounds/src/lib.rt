@@ -24,7 +24,7 @@ const FEW_SETS: usize = 16;
 const FEW_STATES: usize = 8;
 
 // The rounds in which the loop and the mix of each set opened, 0 for not open; the phase and the count of rounds.
-#[derive(Drop)]
+#[derive(Clone, Copy)]
 pub struct Progress {
     pub loop_rounds: [u8; MOST_SETS],
     pub mix_rounds: [u8; MOST_SETS],

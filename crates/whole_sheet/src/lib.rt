@@ -1,5 +1,6 @@
 // The sheet of a settled automaton, written from its keys, its sets, its masks and its rounds into a lent buffer; in `saved`, its rows.
 #![tactic(auto)]
+
 pub mod saved;
 
 ghost use Rattle.std.specs.Prelude.{◌≡◌, ◌≤◌, ◌+◌, length};
