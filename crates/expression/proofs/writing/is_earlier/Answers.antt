@@ -5,8 +5,7 @@ use lib.Dec.{ltb}
 use native.Mathlib.Omega.{arith}
 use Rattle.lists.specs.Tests.{Decides}
 use Rattle.lists.proofs.Deciding.{iff_decides, ltb_decides, says_no}
-use Rattle.expression.proofs.writing.is_earlier.Statement.{statement}
-use Rattle.expression.proofs.writing.is_earlier.Tie as tie
+use Rattle.expression.proofs.writing.is_earlier.Goals as goal
 
 before : (a b : ℕ) → 0 < a → Decides (ltb a b) ((0 < a) × (a < b))
 before a b h = iff_decides (λ i. (h, i)) (λ i. i.1) (ltb_decides a b)
@@ -14,11 +13,8 @@ before a b h = iff_decides (λ i. (h, i)) (λ i. i.1) (ltb_decides a b)
 never : (a b : ℕ) → a ≤ 0 → Decides false ((0 < a) × (a < b))
 never a b h = says_no (λ i. omega (arith, i.0))
 
-returns : tie.Need-returns
-returns c = before _ _ c.if1.true
+pub returns-then-round-gt0 : goal.returns-then-round-gt0
+returns-then-round-gt0 c = before _ _ c.if-round-gt0.true
 
-returns-2 : tie.Need-returns-2
-returns-2 c = never _ _ c.if1.false
-
-pub is_earlier_spec : {M : Type 1} → statement M
-is_earlier_spec = tie.close (tie.spec returns returns-2)
+pub returns-else-round-gt0 : goal.returns-else-round-gt0
+returns-else-round-gt0 c = never _ _ c.if-round-gt0.false
