@@ -1,5 +1,6 @@
-// The checker for callers in C and Rust, as a static library.
+// The checker for callers in C and Rust: what `ffi_c` exports as a static library.
 #![tactic(auto)]
+
 ghost use Rattle.std.specs.Prelude.{◌≤◌, ◌≡◌};
 ghost use Rattle.ffi.specs.Promise.{Called, CalledVerdict, lent, CalledExpression, CalledHoa};
 
@@ -10,8 +11,7 @@ const MOST_LENT: usize = 4294967295;
 
 // Checks one batch. Returns the length of its sheet, which it writes; or 2^32 times the number of the refusal, whose place it
 // writes to `place`, and leaves the buffer as it was.
-#[unsafe(no_mangle)]
-pub extern "C" fn gozhmerik_sheet(batch: &[u8], sheet: &mut [u8], place: &mut u64) -> u64
+pub fn gozhmerik_sheet(batch: &[u8], sheet: &mut [u8], place: &mut u64) -> u64
     ensures { Called batch.now sheet.old sheet.new
         place.old place.new result }
 {
@@ -20,8 +20,7 @@ pub extern "C" fn gozhmerik_sheet(batch: &[u8], sheet: &mut [u8], place: &mut u6
 
 // The verdict of one batch: 1 where it is non-empty, 0 where it is empty; or 2^32 times the number of the refusal, whose place it writes
 // to `place`.
-#[unsafe(no_mangle)]
-pub extern "C" fn gozhmerik_verdict(batch: &[u8], place: &mut u64) -> u64
+pub fn gozhmerik_verdict(batch: &[u8], place: &mut u64) -> u64
     ensures { CalledVerdict batch.now place.old place.new result }
 {
     code(checker::verdict(batch), place)
@@ -36,8 +35,7 @@ fn lent(size: usize) -> usize
 
 // The walk of one batch as an expression. Returns the length of the text, which it writes; or 2^32 times the number of the refusal, whose
 // place it writes to `place`, and leaves the buffer as it was. A text longer than the bytes that are lent is refused as 12.
-#[unsafe(no_mangle)]
-pub extern "C" fn gozhmerik_expression(batch: &[u8], text: &mut [u8], place: &mut u64) -> u64
+pub fn gozhmerik_expression(batch: &[u8], text: &mut [u8], place: &mut u64) -> u64
     ensures { CalledExpression batch.now text.old text.new
         place.old place.new result }
 {
@@ -47,8 +45,7 @@ pub extern "C" fn gozhmerik_expression(batch: &[u8], text: &mut [u8], place: &mu
 
 // Converts one HOA file. Returns the length of the batch of its rows, which it writes; or 2^32 times the number of the refusal, whose place it
 // writes to `place`, and leaves the buffer as it was.
-#[unsafe(no_mangle)]
-pub extern "C" fn gozhmerik_hoa(file: &[u8], batch: &mut [u8], place: &mut u64) -> u64
+pub fn gozhmerik_hoa(file: &[u8], batch: &mut [u8], place: &mut u64) -> u64
     ensures { CalledHoa file.now batch.old batch.new
         place.old place.new result }
 {

@@ -1,5 +1,6 @@
-// Lists of calls on one session for callers in C and Rust, as a static library: what is timed of a session.
+// Lists of calls on one session for callers in C and Rust: what `ffi_session_c` exports as a static library, and what is timed of a session.
 #![tactic(auto)]
+
 ghost use Rattle.ffi_session.specs.Promise.{Makes, Answers, CalledSession};
 
 use codes::code;
@@ -45,13 +46,7 @@ fn make_calls(batch: &[u8], calls: &[u8], buffer: &mut [u8]) -> Answer
 // Makes calls on a fresh session, with one batch and one buffer of less than 2^32 bytes. Each byte of `calls` names one: l load, w withdraw,
 // c close, r round, o reopen, v verdict, p print, s save, e expression; 1 to 4 mark under the names a to d, 5 to 8 return to them. Any other
 // byte names none. Returns the code of the last answer, 0 where no call was made, and writes the place of a refusal to `place`.
-#[unsafe(no_mangle)]
-pub extern "C" fn gozhmerik_session(
-    batch: &[u8],
-    calls: &[u8],
-    buffer: &mut [u8],
-    place: &mut u64,
-) -> u64
+pub fn gozhmerik_session(batch: &[u8], calls: &[u8], buffer: &mut [u8], place: &mut u64) -> u64
     ensures { CalledSession batch.now calls.now buffer.old buffer.new
         place.old place.new result }
 {
