@@ -13,7 +13,6 @@ use Rattle.lists.specs.Writing.{Wrote}
 use Rattle.lists.proofs.Places.{gather_append, gather_last}
 use Rattle.lists.proofs.Writing.{wrote_nothing, wrote_at_part}
 use Rattle.orderings.specs.Steps.{Step}
-use Rattle.orderings.specs.Decide.{step}
 use Rattle.machine.specs.Machine.{Machine}
 use Rattle.search.specs.Graph.{Graph}
 use Rattle.walks.specs.Choices.{named}

@@ -1,5 +1,6 @@
 // The walk of an automaton settled as non-empty, as an expression in a lent buffer.
 #![tactic(auto)]
+
 pub mod frames;
 pub mod lengths;
 pub mod writing;

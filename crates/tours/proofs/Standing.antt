@@ -129,7 +129,7 @@ module _ (back : Graph) (f : Frame) (layers : List ℕ) (c : Cursor) (to : ℕ) 
 
   pub advances_last : (after : List ℕ) (r : Cursor) (sep : ℕ) → c.steps ≤ 1 → sep ≡ separator f.shape → Comes back f sep c.stop c.rest c.later after r
       → Advances back f layers c to after r
-  advances_last after r sep h e comes m g words heads links n k held framed p l s leads =
+  advances_last after r byte h e comes m g words heads links n k held framed p l s leads =
       stands_last m words n back f layers c p l s r after h
       (subst (λ (x : ℕ). Stands m words n back f after r (parts_of x (separator f.shape) (legs_from m f.shape f.set c.stop (members c.rest ++ members c.later)))) e
       (comes m g words heads links n k held framed (left_coming f.shape f.set c (s.within (stands_live m words n back f layers c p l s)))))

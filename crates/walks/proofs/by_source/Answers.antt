@@ -3,7 +3,6 @@ use Prim.Native.Nat.{ℕ}
 use mathlib.Core.Path.{◌≡◌, refl, ap, sym, ◌∙◌}
 use native.Mathlib.Omega.{arith}
 use lib.ListN.{length, length-replicate, length-set}
-use borrow.Author.Rules.{rules}
 use Rattle.chains.proofs.Linking.{none_chained, chains_more}
 use Rattle.rows.specs.Keys.{row_from}
 use Rattle.walks.specs.Choices.{source}
@@ -11,9 +10,6 @@ use Rattle.walks.proofs.by_source.Goals as goal
 
 pub loop-i-init : goal.loop-i-init
 loop-i-init c = let a = c.args in (omega arith, refl, refl, λ e h. rw e (none_chained (λ w. source (row_from w 0)) 64 a.next.now a.words.now))
-
-pub put-requires : goal.put-requires
-put-requires c = search rules
 
 pub loop-i-preserved : goal.loop-i-preserved
 loop-i-preserved c =
@@ -31,24 +27,3 @@ loop-i-preserved c =
 
 pub returns : goal.returns
 returns c e h = let n : c.loop-i.i ≡ c.args.count = omega arith in record { few = c.requires; chains = rw (← n) (c.loop-i.invariant.3 e h) }
-
-pub offset_bounds-words-i : goal.offset_bounds-words-i
-offset_bounds-words-i c = omega arith
-
-pub bounds-words-i : goal.bounds-words-i
-bounds-words-i c = omega arith
-
-pub row_of-requires : goal.row_of-requires
-row_of-requires c = tt
-
-pub source-requires : goal.source-requires
-source-requires c = tt
-
-pub overflow_cast-source : goal.overflow_cast-source
-overflow_cast-source c = omega arith
-
-pub overflow_add-i : goal.overflow_add-i
-overflow_add-i c = omega arith
-
-pub loop-i-smaller : goal.loop-i-smaller
-loop-i-smaller c = omega arith

@@ -16,12 +16,12 @@ loop-i-preserved c =
     elim c.if-k-gt0.branch [
       | then-k-gt0+then-k-round w ↦ (omega arith, rw w.r-is (marked_more P r i w.with-r.result c.loop-i.invariant.1 (w.if-k-gt0.true, w.if-k-round.true) w.with-r.ensures))
       | else-k-gt0 w ↦ (
-          omega arith,
-          rw w.r-is (marked_past P r i c.loop-i.invariant.1 (λ h. elim w.else-k-gt0.branch [
-            | else-k-gt0-via-then-k-gt0+else-k-round w' ↦ omega (arith, h.1, w'.if-k-round.false)
-            | else-k-gt0-via-else-k-gt0 w' ↦ omega (arith, h.0, w'.if-k-gt0.false)
-          ])),
-        )
+        omega arith,
+        rw w.r-is (marked_past P r i c.loop-i.invariant.1 (λ h. elim w.else-k-gt0.branch [
+          | else-k-gt0-via-then-k-gt0+else-k-round w' ↦ omega (arith, h.1, w'.if-k-round.false)
+          | else-k-gt0-via-else-k-gt0 w' ↦ omega (arith, h.0, w'.if-k-gt0.false)
+        ])),
+      )
     ]
 
 pub returns : goal.returns

@@ -23,16 +23,16 @@ loop-slot-preserved c =
     let b = graph_of a.back.now in
     elim c.if-opened-slot.branch [
       | then-opened-slot w ↦ (
-          omega (arith, c.loop-slot-test.true),
-          rw w.bytes-is (length-set bytes slot w.counted.result ∙ inv.1),
-          rw w.bytes-is (note_more a.words.now a.first.now a.next.now b a.set_count a.opened.now a.round a.most a.bytes.now slot bytes w.of_place-frame.result w.of_frame-length.result w.counted.result
-              inv.2 inv.1 c.loop-slot-test.true c.requires.2 w.if-opened-slot.true w.of_place-frame.ensures.frames w.of_frame-length.ensures w.counted.ensures),
-        )
+        omega (arith, c.loop-slot-test.true),
+        rw w.bytes-is (length-set bytes slot w.counted.result ∙ inv.1),
+        rw w.bytes-is (note_more a.words.now a.first.now a.next.now b a.set_count a.opened.now a.round a.most a.bytes.now slot bytes w.of_place-frame.result w.of_frame-length.result w.counted.result
+            inv.2 inv.1 c.loop-slot-test.true c.requires.2 w.if-opened-slot.true w.of_place-frame.ensures.frames w.of_frame-length.ensures w.counted.ensures),
+      )
       | else-opened-slot w ↦ (
-          omega (arith, c.loop-slot-test.true),
-          rw w.bytes-is inv.1,
-          rw w.bytes-is (note_past a.words.now a.first.now a.next.now b a.set_count a.opened.now a.round a.most a.bytes.now slot bytes inv.2 w.if-opened-slot.false),
-        )
+        omega (arith, c.loop-slot-test.true),
+        rw w.bytes-is inv.1,
+        rw w.bytes-is (note_past a.words.now a.first.now a.next.now b a.set_count a.opened.now a.round a.most a.bytes.now slot bytes inv.2 w.if-opened-slot.false),
+      )
     ]
 
 pub returns : goal.returns

@@ -16,12 +16,6 @@ leads : (a kind value to : ℕ) → LeadsOn a (Taken kind value to) to
 leads a kind value to none h = absurd h
 leads a kind value to (some t) h = ap (λ (x : Step). x.to) h
 
-pub enum_told-1 : goal.enum_told-1
-enum_told-1 c = search rules
-
-pub enum_known-step : goal.enum_known-step
-enum_known-step c = search rules
-
 pub returns-in-Nothing : goal.returns-in-Nothing
 returns-in-Nothing c = record { low = search rules; leads = rw c.in-Nothing.is (stays _ _) }
 
