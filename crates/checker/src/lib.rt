@@ -1,5 +1,6 @@
 // One batch in; its sheet, its verdict or the expression of its walk out.
 #![tactic(auto)]
+
 ghost use Rattle.std.specs.Prelude.{◌≡◌, true, length};
 ghost use Rattle.lists.specs.Writing.{Wrote};
 ghost use Rattle.machine.specs.Program.{program};
