@@ -1,7 +1,7 @@
 -- The gate at the head of the calls: what a call does by the state of its session, and what it does where it is done or refused.
 use Prim.Native.Nat.{ℕ}
 use mathlib.Core.Path.{◌≡◌, refl, ap, sym, ◌∙◌, subst}
-use mathlib.Core.Logic.{⊎_elim}
+use mathlib.Core.Logic.{◌⊎◌, ⊎_elim}
 use mathlib.Core.List.{List, [], ◌∷◌}
 use types.Run.{OneOf}
 use denote.Enum.Declared.{tag_of}
@@ -76,11 +76,8 @@ pub closed_settled : (s : Session) {x : State} {v : Verdict} → HasState s x �
 closed_settled s {x} {v} h e = let k = known s x h e in (k.0, subst NotOpen (sym k.1) (settled v))
 
 -- in any phase
-pub in_any_phase : (s : Session) (x : State) → HasState s x → OneOf (1 ∷ 2 ∷ 3 ∷ []) (tag_of the_type x) → Ranged s
-in_any_phase s Foreign h k = absurd (⊎_elim (λ e. omega arith) (⊎_elim (λ e. omega arith) (λ e. omega arith)) k)
-in_any_phase s IsOpen h k = h.0
-in_any_phase s IsRunning h k = h.0
-in_any_phase s (IsSettled v) h k = h.0
+pub in_any_phase : (s : Session) (x : State) → HasState s x → (x ≡ IsOpen) ⊎ ((x ≡ IsRunning) ⊎ ((v : Verdict) × (x ≡ IsSettled v))) → Ranged s
+in_any_phase s x h k = ⊎_elim (λ e. (known s x {q = IsOpen} h e).0) (⊎_elim (λ e. (known s x {q = IsRunning} h e).0) (λ p. (known s x {q = IsSettled p.0} h p.1).0)) k
 
 -- ---- what is promised
 

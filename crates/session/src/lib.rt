@@ -22,7 +22,7 @@ pub struct Slot {
 
 // The standing rows sorted as byte strings; their sets, rising; the rounds in which the loop and the mix of each set opened, 0 for
 // not open; the phase and the count of rounds; the marks. What is not used holds a filler.
-#[derive(Drop)]
+#[derive(Clone, Copy)]
 pub struct Session {
     pub rows: [Slot; MOST_ROWS],
     pub row_count: usize,
@@ -45,14 +45,14 @@ pub enum State {
 }
 
 // The session handed back, and the answer beside it.
-#[derive(Drop)]
+#[derive(Clone, Copy)]
 pub struct Reply {
     pub session: Session,
     pub answer: Answer,
 }
 
 // The keys of rows, in order: the first words and the second words.
-#[derive(Drop)]
+#[derive(Clone, Copy)]
 pub struct Keys {
     pub high: [u64; MOST_ROWS],
     pub low: [u64; MOST_ROWS],

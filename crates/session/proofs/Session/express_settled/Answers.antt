@@ -1,0 +1,10 @@
+-- `express_settled` meets its contract, by the verdict.
+use Rattle.session.proofs.Gate.{settled_as}
+use Rattle.session.proofs.Written.{expresses_nothing}
+use Rattle.session.proofs.Session.express_settled.Goals as goal
+
+pub express_walk-requires : goal.express_walk-requires
+express_walk-requires c = search settled_as
+
+pub returns-in-Empty : goal.returns-in-Empty
+returns-in-Empty c = search expresses_nothing

@@ -1,0 +1,17 @@
+-- `expression` meets its contract, by the state of the session.
+use Rattle.machine.specs.Causes.{expressing, to_express}
+use Rattle.machine.proofs.Phases.{open_refuses, running_refuses}
+use Rattle.session.proofs.Gate.{gate}
+use Rattle.session.proofs.Session.expression.Goals as goal
+
+pub express_settled-requires : goal.express_settled-requires
+express_settled-requires c = search gate
+
+pub returns-in-Foreign : goal.returns-in-Foreign
+returns-in-Foreign c = search gate
+
+pub returns-in-Open : goal.returns-in-Open
+returns-in-Open c = search (gate, open_refuses, expressing)
+
+pub returns-in-Running : goal.returns-in-Running
+returns-in-Running c = search (gate, running_refuses, to_express)

@@ -1,0 +1,9 @@
+-- `mark` meets its contract, by the state of the session.
+use Rattle.session.proofs.Gate.{gate, in_any_phase}
+use Rattle.session.proofs.Session.mark.Goals as goal
+
+pub mark_under-requires : goal.mark_under-requires
+mark_under-requires c = in_any_phase _ _ c.state.ensures c.in-Open.is
+
+pub returns-in-Foreign : goal.returns-in-Foreign
+returns-in-Foreign c = search gate
