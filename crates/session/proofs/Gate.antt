@@ -2,9 +2,7 @@
 use Prim.Native.Nat.{ℕ}
 use mathlib.Core.Path.{◌≡◌, refl, ap, sym, ◌∙◌, subst}
 use mathlib.Core.Logic.{◌⊎◌, ⊎_elim}
-use mathlib.Core.List.{List, [], ◌∷◌}
-use types.Run.{OneOf}
-use denote.Enum.Declared.{tag_of}
+use mathlib.Core.List.{List}
 use native.Mathlib.Omega.{arith}
 use lib.ListN.{length}
 use Rattle.machine.specs.declared.Answer.TheVariants.{Done, Refused}
@@ -20,7 +18,6 @@ use Rattle.machine.proofs.Ending.{rounds_done}
 use Rattle.session.specs.declared.Session.{Session}
 use Rattle.session.specs.declared.Reply.{Reply}
 use Rattle.session.specs.declared.State.{State}
-use Rattle.session.specs.contracts.State.{the_type}
 use Rattle.session.specs.declared.State.TheVariants.{Foreign, Open as IsOpen, Running as IsRunning, Settled as IsSettled}
 use Rattle.session.specs.Record.{record_of, Represents}
 use Rattle.session.specs.Promise.{Does, Keeps, Ranged, IsForeign, Promised, HasState}

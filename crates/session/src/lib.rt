@@ -1,5 +1,6 @@
 // The session and its calls.
 #![tactic(auto)]
+
 mod expressions;
 mod loading;
 mod marking;

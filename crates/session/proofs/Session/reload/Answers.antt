@@ -1,6 +1,6 @@
 -- `reload` meets its contract: the keys that are kept have the rows and the sets of the machine.
 use mathlib.Core.Path.{◌≡◌, refl}
-use lib.ListN.{length, length-map}
+use lib.ListN.{length}
 use Rattle.session.proofs.Marked.{reloads_of}
 use Rattle.session.proofs.Session.reload.Goals.{Start}
 use Rattle.session.proofs.Session.reload.Goals as goal
