@@ -1,5 +1,6 @@
 // Calls made as a caller of a session makes them, so that the demands rest on what the methods promise: each call, and lists of calls.
 #![tactic(auto)]
+
 pub mod calls;
 pub mod sequences;
 
