@@ -16,7 +16,7 @@ use Rattle.machine.specs.Marks.{MarkedCall, mark, return-to, marked_call, Marked
 use Rattle.machine.proofs.Marks.{marked_formed, fresh_formed}
 use Rattle.session.specs.declared.Session.{Session}
 use Rattle.session.specs.declared.Reply.{Reply}
-use Rattle.session.specs.Promise.{Fresh, Does, Promised}
+use Rattle.session.specs.Promise.{Fresh, Promised}
 use Rattle.session.specs.Standing.{reply}
 use Rattle.codes.specs.Coding.{Codes}
 use Rattle.ffi_session.specs.Promise.{words, call_of, Left, at_first, after_call, after, left_by, Shows, Makes, Answers, CalledSession}
