@@ -24,7 +24,7 @@ fn main() {
 /// Sheets, verdicts, expressions and HOA files, without a session.
 fn checker(seed: u64, count: usize) {
     if !engine::THERE {
-        println!("target/staticlib/libffi.a is not there: plain Rust alone (rt staticlib ffi makes it)");
+        println!("target/staticlib/libffi.a is not there: plain Rust alone (bench/README.md says how it is made)");
     }
     cases::run();
     if engine::THERE {

@@ -142,7 +142,7 @@ fn line(name: &str, batch: &[u8]) {
 /// Compares so many batches, then times the calls on some tables.
 pub fn run(seed: u64, count: usize) {
     if !cfg!(session) {
-        println!("\ntarget/staticlib/libffi_session.a is not there: no session (rt staticlib ffi_session makes it)");
+        println!("\ntarget/staticlib/libffi_session.a is not there: no session (bench/README.md says how it is made)");
         return;
     }
     compare_all(seed, count);

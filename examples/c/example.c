@@ -1,5 +1,5 @@
 /* Case A and an HOA file from C. From the root of the repository:
-   rt staticlib ffi
+   (cd crates/ffi_c && rt lib) && install -D -m 644 crates/ffi_c/out/libffi_c.a target/staticlib/libffi.a
    cc -Wall -Wextra examples/c/example.c target/staticlib/libffi.a -o target/example_c && target/example_c */
 #include "gozhmerik.h"
 #include <inttypes.h>

@@ -1,5 +1,5 @@
 // Case A and an HOA file from Rust. From the root of the repository:
-// rt staticlib ffi
+// (cd crates/ffi_c && rt lib) && install -D -m 644 crates/ffi_c/out/libffi_c.a target/staticlib/libffi.a
 // rustc --edition 2021 -O examples/rust/example.rs -C link-arg=target/staticlib/libffi.a -o target/example_rust && target/example_rust
 
 use std::io::Write;
