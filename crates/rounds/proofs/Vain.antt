@@ -1,19 +1,21 @@
--- A set with a state from which no letter leads on inside it neither loops nor mixes while no claim is in force (`idle_loops_not`, `idle_mixes_not`);
+-- A set with a state from which no letter leads on inside it, as the test sees it (`idle_by`), neither loops nor mixes while no claim is in force (`idle_loops_not`, `idle_mixes_not`);
 -- where every set is so, the first round opens nothing, and the automaton is settled (`vain_end`).
 use Prim.Native.Nat.{ℕ, ◌≤◌}
 use mathlib.Core.Path.{◌≡◌, refl, sym, subst}
-use mathlib.Core.Bool.{true, false}
+use mathlib.Core.Bool.{Bool, true, false}
 use mathlib.Core.Logic.{inr, ⊎_elim}
 use mathlib.Core.List.{List, ◌∷◌}
 use lib.ListN.{get_or, replicate}
 use native.Mathlib.Omega.{arith}
+use Rattle.lists.specs.Tests.{Decides}
+use Rattle.lists.proofs.Deciding.{no_decides}
 use Rattle.masks.specs.Mask.{◌∈◌, ◌⊆◌}
 use Rattle.masks.proofs.Member.{member_none, in_none, intersection_left}
 use Rattle.rows.specs.declared.Row.{Row}
 use Rattle.machine.specs.Machine.{open_with, judged}
 use Rattle.machine.specs.Calls.{close, round, run}
 use Rattle.search.specs.declared.Claims.{Claims}
-use Rattle.search.specs.Graph.{Graph}
+use Rattle.search.specs.Graph.{Graph, graph_of, part}
 use Rattle.search.specs.Hops.{Hop, InnerClaims, Joined, Covered, no_claims}
 use Rattle.search.specs.Promises.{AcceptsRight}
 use Rattle.search.proofs.Chains.{chain_first}
@@ -22,6 +24,22 @@ use Rattle.candidates.proofs.Holding.{opens_below}
 use Rattle.rounds.specs.Arrays.{Notes}
 use Rattle.rounds.specs.Promises.{Given, Mirrors, Idle, AllIdle}
 use Rattle.rounds.proofs.Settled.{stage_start, stage_more, stage_end}
+
+-- a state of a set that is no exit of it
+pub record Lone (l : List ℕ) (i s : ℕ) : Type 0 where
+  pub has : s ∈ get_or (graph_of l).sets i 0
+  pub no_exit : ¬ (s ∈ get_or (graph_of l).rights i 0)
+
+-- which is seen to lead by no letter into the set
+pub idle_by : (l : List ℕ) (i s p letters : ℕ) (b : Bool) → Lone l i s → p ≡ get_or (graph_of l).sets i 0 → letters ≡ get_or (part l 0) s 0
+    → Decides b ((t : ℕ) × (t ∈ letters) × (t ∈ p)) → b ≡ false → Idle (graph_of l) i
+unfolding graph_of
+idle_by l i s p letters b lone e f tells none = record {
+  state = s;
+  has = lone.has;
+  no_exit = lone.no_exit;
+  unleading = λ t h k. no_decides (rw none at tells) (t, subst (λ (x : ℕ). t ∈ x) (sym f) h, subst (λ (x : ℕ). t ∈ x) (sym e) k);
+}
 
 module _ {g : Graph} {i : ℕ} (idle : Idle g i) {inner : Claims} (is_inner : InnerClaims g no_claims (get_or g.sets i 0) inner) where
   abbrev P : ℕ

@@ -217,6 +217,7 @@ fn run_rounds(
 
 // Is one of the lowest states of the set at place `i`, which is no exit of it, without a letter to a state of the set? Then it opens only after
 // another set. That it is not says nothing.
+#[tactic(auto, using(crate::proofs::Vain::idle_by))]
 fn is_idle(graph: &Masks, i: usize) -> bool
     requires { i < 64 }
     ensures { result ≡ true → Idle (graph_of graph.now) i }

@@ -2,36 +2,25 @@
 use Prim.Native.Nat.{ℕ}
 use mathlib.Core.Path.{subst}
 use mathlib.Core.Bool.{false≢true}
-use Rattle.std.proofs.lemmas.Bool.{not_from_false}
 use native.Mathlib.Omega.{arith}
-use Rattle.lists.proofs.Deciding.{denied}
 use Rattle.masks.specs.Mask.{◌∈◌}
 use Rattle.masks.proofs.Member.{difference_left, difference_not}
-use Rattle.search.specs.Graph.{graph_of}
 use Rattle.rounds.proofs.is_idle.Goals as goal
 
 pub loop-looked-init : goal.loop-looked-init
-loop-looked-init c = (omega arith, λ t h. h)
+loop-looked-init c = (
+  omega arith,
+  λ t h. record {
+    has = subst (λ (x : ℕ). t ∈ x) c.set_at-p.ensures (difference_left c.set_at-p.result c.rights_at.result c.difference-rest.result c.difference-rest.ensures t h);
+    no_exit = subst (λ (x : ℕ). ¬ (t ∈ x)) c.rights_at.ensures (difference_not c.set_at-p.result c.rights_at.result c.difference-rest.result c.difference-rest.ensures t h);
+  },
+)
 
 pub mask_at-requires : goal.mask_at-requires
 mask_at-requires c = (omega arith, c.take_lowest-next.ensures.small)
 
 pub returns-then-rest-eq0 : goal.returns-then-rest-eq0
 returns-then-rest-eq0 c e = absurd (false≢true e)
-
-pub returns-then-not-meets : goal.returns-then-not-meets
-unfolding graph_of
-returns-then-not-meets c e =
-    let q = c.take_lowest-next.result.low in
-    let here = c.loop-looked.invariant.1 q c.take_lowest-next.ensures.is in
-    let has = difference_left c.set_at-p.result c.rights_at.result c.difference-rest.result c.difference-rest.ensures q here in
-    let out = difference_not c.set_at-p.result c.rights_at.result c.difference-rest.result c.difference-rest.ensures q here in
-    record {
-      state = q;
-      has = subst (λ (x : ℕ). q ∈ x) c.set_at-p.ensures has;
-      no_exit = subst (λ (x : ℕ). ¬ (q ∈ x)) c.rights_at.ensures out;
-      unleading = λ t h k. denied (rw (c.set_at-p.ensures, c.mask_at.ensures) at c.meets.ensures) (not_from_false _ c.if-not-meets.true) (t, h, k);
-    }
 
 pub loop-looked-smaller : goal.loop-looked-smaller
 loop-looked-smaller c = omega (arith, c.loop-looked-test.true)

@@ -1,6 +1,7 @@
 -- `is_vain` meets its contract.
 use mathlib.Core.Path.{sym, subst, ◌∙◌}
 use mathlib.Core.Bool.{false≢true}
+use borrow.Author.Rules.{rules}
 use native.Mathlib.Omega.{arith}
 use Rattle.machine.specs.Machine.{most_rounds}
 use Rattle.search.specs.Graph.{graph_of}
@@ -23,6 +24,6 @@ returns c =
     let a = c.args in
     let g = graph_of a.graph.now in record {
       vain = (λ e rows given. vain_end (c.requires.1 c.if-not-idle.false) rows given
-          (subst (AcceptsRight g no_claims a.initials a.finals) c.if-accepts.false c.accepts.ensures) most_rounds (omega arith));
+          (subst (AcceptsRight g no_claims a.initials a.finals) (search rules) c.accepts.ensures) most_rounds (omega arith));
       closed = λ e. absurd (false≢true (sym e));
     }
