@@ -13,4 +13,4 @@ returns-then-buffer-len c =
 pub returns : goal.returns
 returns c =
     let a = c.args in
-    tells_text (batch_of (row_list a.high.now a.low.now a.n)) a.buffer.now (omega (arith, c.rows_len-len.ensures, c.if-buffer-len.false)) c.put_rows-wrote.ensures
+    tells_text (batch_of (row_list a.high.now a.low.now a.n)) a.buffer.now (omega (arith, c.rows_len-len.ensures)) c.put_rows-wrote.ensures
