@@ -1,7 +1,7 @@
 #!/usr/bin/env python3
 """Spells the repository's own definitions and lemmas in snake case: a dash becomes an underscore, and the suffix of a law that decides, a raised dot, becomes `_decides`.
 
-usage: tools/respell_names.py            at the top of the repository, once, after /opt/rattle/port/port.py
+usage: tools/respell_names.py            at the top of the repository, once, after the kit's port.py
 
 A name is the repository's own where a file of specs/ or proofs/ declares it: as an item, a field, a constructor, or a function of a `where`. Names that a file
 imports from the kit's libraries stay in that file, and so do the names that Rattle makes of the code (goals, steps, answers). A name whose new
@@ -124,4 +124,5 @@ def main():
                 f.write(new)
 
 
-main()
+if __name__ == "__main__":
+    main()

@@ -101,13 +101,13 @@ module _ (Order : Type 0) (sets : List ℕ) (n : ℕ) (few : n ≤ 64) {l : List
   -- a row with one state: the graph stays
   pass_mark : {i f k : ℕ} → ((p q : ℕ) → ¬ Leads p q x) → ((P t : ℕ) → ¬ Enters P t x) → ((P t : ℕ) → ¬ Leaves P t x)
       → Marked l' i f k → Passed Order sets n l' graph i f k
-  pass_mark no_step no-left no-right marked = record {
+  pass_mark no_step no_left no_right marked = record {
     size = h.size;
     kept = h.kept;
     marks = marked;
     leads = λ p q j. other (Leads p q) g (no_step p q) (h.leads p q j);
-    enters = λ o i t k. other (Enters (get_or sets i 0) t) g (no-left (get_or sets i 0) t) (h.enters o i t k);
-    leaves = λ o i t k. other (Leaves (get_or sets i 0) t) g (no-right (get_or sets i 0) t) (h.leaves o i t k);
+    enters = λ o i t k. other (Enters (get_or sets i 0) t) g (no_left (get_or sets i 0) t) (h.enters o i t k);
+    leaves = λ o i t k. other (Leaves (get_or sets i 0) t) g (no_right (get_or sets i 0) t) (h.leaves o i t k);
   }
 
   pub pass_initial : {s r : ℕ} → x ≡ Initial s → Adds initials s r → Passed Order sets n l' graph r finals struck
@@ -133,10 +133,10 @@ module _ (Order : Type 0) (sets : List ℕ) (n : ℕ) (few : n ≤ 64) {l : List
 
   -- a transition: the masks of states stay
   marks_stay : ((t : ℕ) → ¬ Starts t x) → ((t : ℕ) → ¬ Ends t x) → ((t : ℕ) → ¬ Takes t x) → Marked l' initials finals struck
-  marks_stay no_start no_end no-strike = record {
+  marks_stay no_start no_end no_strike = record {
     starts = λ t. other (Starts t) g (no_start t) (h.marks.starts t);
     ends = λ t. other (Ends t) g (no_end t) (h.marks.ends t);
-    takes = λ t. other (Takes t) g (no-strike t) (h.marks.takes t);
+    takes = λ t. other (Takes t) g (no_strike t) (h.marks.takes t);
   }
 
   -- the masks of the other parts
@@ -181,10 +181,10 @@ letters_start = none_passed (Unit {0}) [] 0 (replicate 448 0) (omega arith) (no_
 -- a limit row is passed over
 pub pass_over : {l : List Row} {graph : List ℕ} {seen : Seen} → LettersPassed l graph seen → {x : Row} {l' : List Row} → Grown l x l'
     → ((t : ℕ) → ¬ Starts t x) → ((t : ℕ) → ¬ Ends t x) → ((t : ℕ) → ¬ Takes t x) → ((p q : ℕ) → ¬ Leads p q x) → LettersPassed l' graph seen
-pass_over h g no_start no_end no-strike no_step = record {
+pass_over h g no_start no_end no_strike no_step = record {
   size = h.size;
   kept = h.kept;
-  marks = marks_stay (Unit {0}) [] 0 (omega arith) h g no_start no_end no-strike;
+  marks = marks_stay (Unit {0}) [] 0 (omega arith) h g no_start no_end no_strike;
   leads = λ p q j. other (Leads p q) g (no_step p q) (h.leads p q j);
   enters = λ o i t k. absurd (omega arith);
   leaves = λ o i t k. absurd (omega arith);
@@ -215,15 +215,15 @@ module _ {Order : Type 0} {sets : List ℕ} {n : ℕ} {l : List Row} {graph : Li
   pub passed_set : (sets' graph' : List ℕ) → n < 64 → length graph' ≡ 448 → ((i : ℕ) → i < n → get_or sets' i 0 ≡ get_or sets i 0) → get_or graph' (64 + n) 0 ≡ get_or sets' n 0
       → ((j : ℕ) → j ≢ 64 + n → get_or graph' j 0 ≡ get_or graph j 0) → get_or graph (128 + n) 0 ≡ 0 → get_or graph (192 + n) 0 ≡ 0
       → ((t : ℕ) → ¬ Some (Enters (get_or sets' n 0) t) l) → ((t : ℕ) → ¬ Some (Leaves (get_or sets' n 0) t) l) → Passed Order sets' (n + 1) l graph' initials finals struck
-  passed_set sets' graph' room size same own others no-left no-right no-enters no-leaves = record {
+  passed_set sets' graph' room size same own others no_left no_right no_enters no_leaves = record {
     size = size;
     kept = λ i k. ⊎_elim (λ g. others (64 + i) (λ e. omega arith) ∙ h.kept i g ∙ sym (same i g)) (λ g. let e : i ≡ n = omega arith in rw e own) (lt_or_le i n);
     marks = h.marks;
     leads = λ p q k. rw (others p (λ e. omega arith)) (h.leads p q k);
     enters = λ o i t k. rw (others (128 + i) (λ e. omega arith)) (⊎_elim (λ g. rw (same i g) (h.enters o i t g))
-        (λ g. let e : i ≡ n = omega arith in rw (e, no-left) ((λ m. absurd (in_none t m)), λ s. absurd (no-enters t s))) (lt_or_le i n));
+        (λ g. let e : i ≡ n = omega arith in rw (e, no_left) ((λ m. absurd (in_none t m)), λ s. absurd (no_enters t s))) (lt_or_le i n));
     leaves = λ o i t k. rw (others (192 + i) (λ e. omega arith)) (⊎_elim (λ g. rw (same i g) (h.leaves o i t g))
-        (λ g. let e : i ≡ n = omega arith in rw (e, no-right) ((λ m. absurd (in_none t m)), λ s. absurd (no-leaves t s))) (lt_or_le i n));
+        (λ g. let e : i ≡ n = omega arith in rw (e, no_right) ((λ m. absurd (in_none t m)), λ s. absurd (no_leaves t s))) (lt_or_le i n));
   }
 
 -- ---- nothing stands behind the four parts, and no set from place n on has a limit

@@ -35,9 +35,9 @@ module _ (graph : List ℕ) (struck : ℕ) where
 
   -- one set more, which has a struck state, or has none
   pub struck_more : (i m r : ℕ) → StruckSets graph i struck m → Meets i → ((t : ℕ) → member t r ≡ (member t m || eqb t i)) → StruckSets graph (i + 1) struck r
-  struck_more i m r is w with-is j = (
-    (λ h. ⊎_elim (λ g. let x = (is j).0 g in (omega (arith, x.0), x.1)) (λ e. (omega arith, subst Meets (sym e) w)) (with_cases m i r with-is j h)),
-    λ x. ⊎_elim (λ g. with-is j ∙ rw ((is j).1 (g, x.1))) (λ g. let e : j ≡ i = omega (arith, x.0) in subst (λ y. y ∈ r) (sym e) (with_same m i r with-is)) (lt_or_le j i),
+  struck_more i m r is w with_is j = (
+    (λ h. ⊎_elim (λ g. let x = (is j).0 g in (omega (arith, x.0), x.1)) (λ e. (omega arith, subst Meets (sym e) w)) (with_cases m i r with_is j h)),
+    λ x. ⊎_elim (λ g. with_is j ∙ rw ((is j).1 (g, x.1))) (λ g. let e : j ≡ i = omega (arith, x.0) in subst (λ y. y ∈ r) (sym e) (with_same m i r with_is)) (lt_or_le j i),
   )
 
   pub unstruck_more : (i m : ℕ) → StruckSets graph i struck m → ¬ Meets i → StruckSets graph (i + 1) struck m

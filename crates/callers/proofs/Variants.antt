@@ -6,7 +6,7 @@ use mathlib.Core.List.Memᴰ
 use mathlib.Core.List.{List, [], ◌∷◌, ◌++◌}
 use native.Mathlib.Omega.{arith}
 use Rattle.machine.specs.Calls.{load}
-use Rattle.machine.specs.Marks.{fresh_marked, MarkedCall, on, mark, return-to}
+use Rattle.machine.specs.Marks.{fresh_marked, MarkedCall, on, mark, return_to}
 use Rattle.session.specs.declared.Session.{Session}
 use Rattle.session.specs.declared.Reply.{Reply}
 use Rattle.session.specs.Record.{record_of}
@@ -21,7 +21,7 @@ own_marks : (u t s : Session) → u ≡ with_marks t s → u ≡ with_marks u s
 own_marks u t s e = e ∙ sym (ap (λ (v : Session). with_marks v s) e)
 
 module _ (cs : List MarkedCall) (s : Session) (h : HandedBack cs s) (name batch : List ℕ) (m l b : Reply)
-    (marks : Served s (exchange (mark name) [] [] m)) (loads : Served m.session (exchange (on (load batch)) [] [] l)) (returns : Served l.session (exchange (return-to name) [] [] b))
+    (marks : Served s (exchange (mark name) [] [] m)) (loads : Served m.session (exchange (on (load batch)) [] [] l)) (returns : Served l.session (exchange (return_to name) [] [] b))
   where
     abbrev marking : Exchange MarkedCall Reply
     marking = exchange (mark name) [] [] m
@@ -30,7 +30,7 @@ module _ (cs : List MarkedCall) (s : Session) (h : HandedBack cs s) (name batch 
     loading = exchange (on (load batch)) [] [] l
 
     abbrev calls : List (Exchange MarkedCall Reply)
-    calls = marking ∷ loading ∷ exchange (return-to name) [] [] b ∷ []
+    calls = marking ∷ loading ∷ exchange (return_to name) [] [] b ∷ []
 
     served : Trace onward Served s calls
     served = (marks, (loads, (returns, tt)))
@@ -44,7 +44,7 @@ module _ (cs : List MarkedCall) (s : Session) (h : HandedBack cs s) (name batch 
             before = h.exchanges;
             marking = marking;
             between = loading ∷ [];
-            returning = exchange (return-to name) [] [] b;
+            returning = exchange (return_to name) [] [] b;
             later = [];
             calls_are = refl;
             marks = refl;

@@ -12,7 +12,7 @@ use Rattle.machine.specs.Sheet.{verdict_line, opening_line, walk_lines}
 use Rattle.machine.specs.Word.{TellsWalk}
 use Rattle.machine.specs.Calls.{load, close, round, reopen, verdict, print, expression, saved}
 use Rattle.machine.specs.Causes.{NotOpen}
-use Rattle.machine.specs.Marks.{unmarked, fresh_marked, MarkedCall, on, mark, return-to}
+use Rattle.machine.specs.Marks.{unmarked, fresh_marked, MarkedCall, on, mark, return_to}
 use Rattle.machine.specs.Statements.{after_calls}
 use Rattle.hoa_files.specs.Automata.{Buchi}
 use Rattle.hoa_files.specs.Files.{IsFileOf}
@@ -155,7 +155,7 @@ pub record SettlesFile (file old new : List ℕ) (r : FileSettled) : Type 0 wher
 
 -- after any calls a mark, a load that is disliked, and a return: request C-11 at them
 pub record TriedVariant (cs : List MarkedCall) (s : Session) (name batch : List ℕ) (r : Tried) : Type 0 where
-  pub handed : HandedBack (cs ++ (mark name ∷ on (load batch) ∷ return-to name ∷ [])) r.back.session
+  pub handed : HandedBack (cs ++ (mark name ∷ on (load batch) ∷ return_to name ∷ [])) r.back.session
   -- where the mark was done, the return is, and all but the marks is as it was at the mark
   pub back : r.marked ≡ Done → (r.back.answer ≡ Done) × (r.back.session ≡ with_marks r.back.session s)
 

@@ -1,7 +1,7 @@
 // Each call of a session, made by a caller: its promise is a link of a trace.
 ghost use Rattle.std.specs.Prelude.{length, []};
 ghost use Rattle.machine.specs.Calls.{load, withdraw, close, round, reopen, verdict, print, save, expression};
-ghost use Rattle.machine.specs.Marks.{on, mark, return-to};
+ghost use Rattle.machine.specs.Marks.{on, mark, return_to};
 ghost use Rattle.session.specs.Promise.{Fresh};
 ghost use Rattle.demands.specs.Trace.{Served, exchange};
 
@@ -77,7 +77,7 @@ pub fn call_mark(s: Session, name: &[u8]) -> Reply
 }
 
 pub fn call_return(s: Session, name: &[u8]) -> Reply
-    ensures { Served s (exchange (return-to name.now) [] [] result) }
+    ensures { Served s (exchange (return_to name.now) [] [] result) }
 {
     s.return_to(name)
 }

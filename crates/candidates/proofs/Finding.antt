@@ -53,12 +53,12 @@ module _ {g : Graph} {force : Claims} (i : ℕ) {inner : Claims} (is_inner : Inn
   pub finds_loop : {found : Bool} (r : ℕ) → ¬ Pieced g i → Decides found (Joined (Hop g inner P) P) → ((t : ℕ) → (t ∈ r) ↔ ((t ≡ i) × (found ≡ true))) → FoundHere r 0
   finds_loop r n d marks = (marks_iff i r loops_at_iff d marks, marks_none i (λ h. n (mixes_pieced h)))
 
-  module _ (m k : ℕ) (is_m : InSet g g.lefts i m) (is-k : InSet g g.rights i k) where
+  module _ (m k : ℕ) (is_m : InSet g g.lefts i m) (is_k : InSet g g.rights i k) where
     pub mixes_at_iff : Covered (Hop g inner P) m k P ↔ MixesAt g force i
     mixes_at_iff = (
-      (λ h. record { inner = inner; is_inner = is_inner; entrances = m; are_entrances = is_m; exits = k; are_exits = is-k; covered = h }),
+      (λ h. record { inner = inner; is_inner = is_inner; entrances = m; are_entrances = is_m; exits = k; are_exits = is_k; covered = h }),
       λ h. covered_map (same_hop h.is_inner) h.entrances h.exits m k P
-          (same_part (get_or g.lefts i 0) P h.entrances m h.are_entrances is_m) (same_part (get_or g.rights i 0) P h.exits k h.are_exits is-k) h.covered,
+          (same_part (get_or g.lefts i 0) P h.entrances m h.are_entrances is_m) (same_part (get_or g.rights i 0) P h.exits k h.are_exits is_k) h.covered,
     )
 
     -- with them, where it does not mix, it does not loop
@@ -68,13 +68,13 @@ module _ {g : Graph} {force : Claims} (i : ℕ) {inner : Claims} (is_inner : Inn
         loops_cover : Joined (Hop g inner P) P → Covered (Hop g inner P) m k P
         loops_cover = let e = p.entrance in let f = p.exit in
             joined_covers P m k e.0 f.0 (intersection_both (get_or g.lefts i 0) P m is_m e.0 e.2 e.1)
-            (intersection_both (get_or g.rights i 0) P k is-k f.0 f.2 f.1) e.1 f.1
+            (intersection_both (get_or g.rights i 0) P k is_k f.0 f.2 f.1) e.1 f.1
 
     pub finds_mix : {found : Bool} (r w : ℕ) → Covered (Hop g inner P) m k P → Decides found (Joined (Hop g inner P) P)
         → ((t : ℕ) → (t ∈ r) ↔ ((t ≡ i) × (found ≡ true))) → ((t : ℕ) → member t w ≡ (member t 0 || eqb t i)) → FoundHere r w
-    finds_mix r w c d marks is-w = (
+    finds_mix r w c d marks is_w = (
       marks_iff i r loops_at_iff d marks,
-      λ t. ((λ h. (with_none i w is-w t h, mixes_at_iff.0 c)), λ h. subst (λ (x : ℕ). x ∈ w) (sym h.0) (with_same 0 i w is-w)),
+      λ t. ((λ h. (with_none i w is_w t h, mixes_at_iff.0 c)), λ h. subst (λ (x : ℕ). x ∈ w) (sym h.0) (with_same 0 i w is_w)),
     )
 
 -- a set inside p that loops, where the claims about parts of p are in force

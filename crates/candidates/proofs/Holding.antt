@@ -76,15 +76,15 @@ module _ {g : Graph} {force : Claims} {rows : List Row} {claims : List Claim} {n
         let m = bit_and (get_or g.lefts i 0) P in
         let k = bit_and (get_or g.rights i 0) P in
         let is_m : (t : ℕ) → member t m ≡ (member t (get_or g.lefts i 0) && member t P) = λ t. member_and t (get_or g.lefts i 0) P in
-        let is-k : (t : ℕ) → member t k ≡ (member t (get_or g.rights i 0) && member t P) = λ t. member_and t (get_or g.rights i 0) P in
+        let is_k : (t : ℕ) → member t k ≡ (member t (get_or g.rights i 0) && member t P) = λ t. member_and t (get_or g.rights i 0) P in
         record {
           inner = x.0;
           is_inner = x.1;
           entrances = m;
           are_entrances = is_m;
           exits = k;
-          are_exits = is-k;
-          covered = (mixes_iff is.masked is.forced P x.1 m k (entrance_iff is.masked i m l is_m) (exit_iff is.masked i k l is-k)).1 h.1;
+          are_exits = is_k;
+          covered = (mixes_iff is.masked is.forced P x.1 m k (entrance_iff is.masked i m l is_m) (exit_iff is.masked i k l is_k)).1 h.1;
         },
   )
 

@@ -21,10 +21,10 @@ module _ {g : Graph} {force : Claims} {places : ℕ} where
       → PiecedAmong g pieces places → piece ≡ member low pieces → FindsAt g force piece low new
       → ((t : ℕ) → member t loop' ≡ (member t loop || member t new.loops)) → ((t : ℕ) → member t mix' ≡ (member t mix || member t new.mixes))
       → FoundSoFar g force places rest' loop' mix'
-  found_more {low = low} pieces loop mix new loop' mix' taken now pieced is finds is-l is_m =
+  found_more {low = low} pieces loop mix new loop' mix' taken now pieced is finds is_l is_m =
       let p = pieced low (now.looping.through.left low taken.is) in
       let here = finds (record { to = λ e. p.0 (sym is ∙ e); of = λ h. is ∙ p.1 h }) in
-      record { looping = gather_more loop new.loops loop' taken now.looping here.0 is-l; mixing = gather_more mix new.mixes mix' taken now.mixing here.1 is_m }
+      record { looping = gather_more loop new.loops loop' taken now.looping here.0 is_l; mixing = gather_more mix new.mixes mix' taken now.mixing here.1 is_m }
 
   pub found_end : {rest loop mix : ℕ} → FoundSoFar g force places rest loop mix → rest ≡ 0 → FoundAmong g force places (record { loops = loop; mixes = mix })
   found_end now none = record { loop_iff = here_end (LoopsAt g force) now.looping none; mix_iff = here_end (MixesAt g force) now.mixing none }

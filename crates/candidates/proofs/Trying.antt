@@ -39,28 +39,28 @@ module _ {l back : List ℕ} {force : Claims} {fresh pieces places : ℕ} {to fr
   )
 
 module _ {l back : List ℕ} {force : Claims} {fresh pieces places : ℕ} {to from : List ℕ} (h : Handed l back force fresh pieces places to from) {n : ℕ} (pieced : PiecedBelow (graph_of l) n pieces)
-    (tried : ℕ) (is-tried : Unstuck places to from tried) {found : Claims} (is_found : FoundAmong (graph_of l) force tried found)
-    (due : ℕ) (is-due : (t : ℕ) → member t due ≡ (member t force.mixes && not (member t force.loops)))
-    (r : ℕ) (is-r : (t : ℕ) → member t r ≡ (member t due || member t found.loops)) where
+    (tried : ℕ) (is_tried : Unstuck places to from tried) {found : Claims} (is_found : FoundAmong (graph_of l) force tried found)
+    (due : ℕ) (is_due : (t : ℕ) → member t due ≡ (member t force.mixes && not (member t force.loops)))
+    (r : ℕ) (is_r : (t : ℕ) → member t r ≡ (member t due || member t found.loops)) where
   loop_opens : Awaited (graph_of l) force n places → (i : ℕ) → (i ∈ r) ↔ ((i < n) × LoopsAt (graph_of l) force i × ¬ (i ∈ force.loops))
   loop_opens await i = (
-    (λ k. ⊎_elim (λ x. let m = difference_left force.mixes force.loops due is-due i x in
-        (await.paired.low i m, await.paired.due i m, difference_not force.mixes force.loops due is-due i x))
-        (λ x. let y = (is_found.loop_iff i).0 x in let z = await.live i ((is-tried i).0 y.0).0 in (z.0, y.1, z.1)) (union_cases due found.loops r is-r i k)),
-    λ (low, x, out). ⊎_elim (λ k. let u = loops_unstuck h i k x in union_right due found.loops r is-r i ((is_found.loop_iff i).1 ((is-tried i).1 (k, u.0, u.1), x)))
-        (λ k. union_left due found.loops r is-r i (⊎_elim (λ o. absurd (out o)) (λ o. o) (difference_cases force.mixes force.loops due is-due i k)))
+    (λ k. ⊎_elim (λ x. let m = difference_left force.mixes force.loops due is_due i x in
+        (await.paired.low i m, await.paired.due i m, difference_not force.mixes force.loops due is_due i x))
+        (λ x. let y = (is_found.loop_iff i).0 x in let z = await.live i ((is_tried i).0 y.0).0 in (z.0, y.1, z.1)) (union_cases due found.loops r is_r i k)),
+    λ (low, x, out). ⊎_elim (λ k. let u = loops_unstuck h i k x in union_right due found.loops r is_r i ((is_found.loop_iff i).1 ((is_tried i).1 (k, u.0, u.1), x)))
+        (λ k. union_left due found.loops r is_r i (⊎_elim (λ o. absurd (out o)) (λ o. o) (difference_cases force.mixes force.loops due is_due i k)))
         (await.loop_at i low x out),
   )
 
   mix_opens : Awaited (graph_of l) force n places → (i : ℕ) → (i ∈ found.mixes) ↔ ((i < n) × MixesAt (graph_of l) force i × ¬ (i ∈ force.mixes))
   mix_opens await i = (
-    (λ k. let y = (is_found.mix_iff i).0 k in let z = await.live i ((is-tried i).0 y.0).0 in (z.0, y.1, z.2)),
+    (λ k. let y = (is_found.mix_iff i).0 k in let z = await.live i ((is_tried i).0 y.0).0 in (z.0, y.1, z.2)),
     λ (low, x, out). let k = await.mix_at i low x out in let u = mixes_unstuck h i k x ((pieced i).1 (low, mixes_pieced x)) in
-        (is_found.mix_iff i).1 ((is-tried i).1 (k, u.0, u.1), x),
+        (is_found.mix_iff i).1 ((is_tried i).1 (k, u.0, u.1), x),
   )
 
   pub opens_tried : OpensAwaited (graph_of l) force n places (record { loops = r; mixes = found.mixes })
   opens_tried = record {
     opens = λ await. record { loop_iff = loop_opens await; mix_iff = mix_opens await };
-    tested = λ i k out. ⊎_elim (λ x. absurd (out (difference_left force.mixes force.loops due is-due i x))) (λ x. ((is_found.loop_iff i).0 x).1) (union_cases due found.loops r is-r i k);
+    tested = λ i k out. ⊎_elim (λ x. absurd (out (difference_left force.mixes force.loops due is_due i x))) (λ x. ((is_found.loop_iff i).0 x).1) (union_cases due found.loops r is_r i k);
   }

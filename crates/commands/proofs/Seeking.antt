@@ -13,6 +13,7 @@ use native.Mathlib.Omega.{arith}
 use borrow.Author.Tests.{eq-eqb, ne_eqb, lt-ltb, le-ltb, leb-true}
 use Rattle.lists.specs.Tests.{all}
 use Rattle.lists.proofs.Deciding.{test_decides, and_decides}
+use types.Run.{OneOf}
 use Rattle.commands.specs.declared.Change.{Change}
 use Rattle.commands.specs.declared.Report.{Report}
 use Rattle.commands.specs.declared.Naming.{Naming}
@@ -144,6 +145,16 @@ tells l r e =
     let p = finds l words 0 refl in
     let q : p.0 ≡ (seek l (table words) 0 0).place = omega (arith, p.1) in
     rw e (record { within = p.2; told = λ room. p.3 room ∙ ap (λ n. behind (alone_at words n) room (drop (seek l (table words) 0 0).end l)) q })
+
+-- none of the numbers below n
+unfoldable pub Past : ℕ → ℕ → Type 0
+Past zero k = Unit {0}
+Past (suc n) k = Past n k × (OneOf (n ∷ []) k → ⊥)
+
+pub at_least : (n k : ℕ) → Past n k → n ≤ k
+unfolding Past
+at_least zero k p = omega arith
+at_least (suc n) k p = let h = at_least n k p.0 in let g = p.1 in omega arith
 
 pub past_words : (ws : List Word) (k : ℕ) → length ws ≤ k → alone_at ws k ≡ unknown
 past_words [] k h = refl

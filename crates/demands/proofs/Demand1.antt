@@ -6,7 +6,7 @@ use lib.ListN.{length, drop, length-append, length-drop}
 use native.Mathlib.Omega.{arith}
 use Rattle.machine.specs.declared.Answer.TheVariants.{Refused}
 use Rattle.machine.specs.Calls.{Call, load, withdraw, close, round, reopen, verdict, print, save, expression, Outcome, done, wrote, decided, refused, returned, call, buffer_after}
-use Rattle.machine.specs.Marks.{Marked, MarkedCall, on, mark, return-to, MarkedNext, marked_call}
+use Rattle.machine.specs.Marks.{Marked, MarkedCall, on, mark, return_to, MarkedNext, marked_call}
 use Rattle.machine.specs.Causes.{Writes, sheets, saves, expresses}
 use Rattle.machine.proofs.Answers.{answer_of, answer_by, refused_by}
 use Rattle.machine.proofs.Outcomes.{comes}
@@ -34,7 +34,7 @@ same_buffer (on (print size)) old new l e = (l, ap length e ∙ l)
 same_buffer (on (save size)) old new l e = (l, ap length e ∙ l)
 same_buffer (on (expression size)) old new l e = (l, ap length e ∙ l)
 same_buffer (mark name) old new l e = let f = empty old l in (f, e ∙ f)
-same_buffer (return-to name) old new l e = let f = empty old l in (f, e ∙ f)
+same_buffer (return_to name) old new l e = let f = empty old l in (f, e ∙ f)
 
 module _ (x : Marked) where
   -- a text in it leaves its length
@@ -56,8 +56,8 @@ module _ (x : Marked) where
   buffered (came_misnamed c name i k) old new l j = same_buffer c old new l j
   buffered (came_marked name k h) old new l j = same_buffer (mark name) old new l j
   buffered (came_full name k h) old new l j = same_buffer (mark name) old new l j
-  buffered (came_back name m k h) old new l j = same_buffer (return-to name) old new l j
-  buffered (came_absent name k h) old new l j = same_buffer (return-to name) old new l j
+  buffered (came_back name m k h) old new l j = same_buffer (return_to name) old new l j
+  buffered (came_absent name k h) old new l j = same_buffer (return_to name) old new l j
 
 answered : (x : Marked) (s : Session) (e : Exchange MarkedCall Reply) → Stands x s e → Answered x s e
 answered x s e h = record {

@@ -6,7 +6,7 @@ use Prim.Native.Nat.{ℕ}
 use Rattle.machine.specs.Machine.{Machine}
 use Rattle.machine.specs.Calls.{done, returned, second}
 use Rattle.machine.specs.WellFormed.{WellFormed}
-use Rattle.machine.specs.Marks.{Marked, fresh_marked, MarkedCall, mark, return-to, MarkedNext, marked_call, marked_run}
+use Rattle.machine.specs.Marks.{Marked, fresh_marked, MarkedCall, mark, return_to, MarkedNext, marked_call, marked_run}
 use Rattle.machine.specs.Statements.{Returns}
 use Rattle.machine.proofs.Answers.{done_by, answer_of, answer_by}
 use Rattle.machine.proofs.Statements.{second_is}
@@ -61,7 +61,7 @@ module _ (s : Session) (f : Fresh s) (es : List (Exchange MarkedCall Reply)) (t 
   returns : Returns then r.name at_last
   returns = subst (Returns then r.name) (sym last_is) (every_return then r.name (map (λ e. e.asked) r.between) mark_done r.none_marks)
 
-  handed_back : r.returning.reply.session ≡ record_of (marked_call at_last (return-to r.name)).machine
+  handed_back : r.returning.reply.session ≡ record_of (marked_call at_last (return_to r.name)).machine
   handed_back = (does at_return).session_is ∙ ap (λ (c : MarkedCall). record_of (marked_call at_last c).machine) r.returns
 
   back_again : BackAgain s r
@@ -74,7 +74,7 @@ module _ (s : Session) (f : Fresh s) (es : List (Exchange MarkedCall Reply)) (t 
         ∙ returns.now_is;
     same = λ e. let i : at_last ≡ (marked_call then (mark r.name)).machine = last_is ∙ ap (λ (l : List (Exchange MarkedCall Reply)). marked_run (marked_call then (mark r.name)).machine (map (λ e. e.asked) l)) e in
         handed_back
-        ∙ ap (λ (x : Marked). record_of (marked_call x (return-to r.name)).machine) i
+        ∙ ap (λ (x : Marked). record_of (marked_call x (return_to r.name)).machine) i
         ∙ ap record_of (mark_and_return then r.name mark_done)
         ∙ ap (λ (c : MarkedCall). record_of (marked_call then c).machine) (sym r.marks)
         ∙ sym (does at_mark).session_is;

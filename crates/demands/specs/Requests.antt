@@ -11,7 +11,7 @@ use Rattle.machine.specs.declared.Phase.TheVariants.{Open, Running, Settled}
 use Rattle.machine.specs.Machine.{Machine}
 use Rattle.machine.specs.Word.{TellsWalk}
 use Rattle.machine.specs.Calls.{round, verdict, print, expression, second}
-use Rattle.machine.specs.Marks.{MarkedCall, on, mark, return-to}
+use Rattle.machine.specs.Marks.{MarkedCall, on, mark, return_to}
 use Rattle.machine.specs.Statements.{RoundsEnd, Said, SaysNoLess, SheetSays, SecondWorks, Expresses}
 use Rattle.session.specs.declared.Session.{Session}
 use Rattle.session.specs.declared.Reply.{Reply}
@@ -102,7 +102,7 @@ pub record ReturnLater (s : Session) (es : List (Exchange MarkedCall Reply)) : T
   pub marks : marking.asked ≡ mark name
   pub accepted : marking.reply.answer ≡ Done
   pub none_marks : ¬ (mark name among map (λ e. e.asked) between)
-  pub returns : returning.asked ≡ return-to name
+  pub returns : returning.asked ≡ return_to name
 
 -- the return is accepted, and all that was marked is back: rows, phase, verdict, round count and openings with their rounds; the marks stay
 pub record BackAgain (s : Session) {es : List (Exchange MarkedCall Reply)} (r : ReturnLater s es) : Type 0 where

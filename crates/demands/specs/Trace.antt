@@ -1,7 +1,7 @@
 -- Lists of calls: what their callers brought, and what came back.
 use Rattle.std.specs.Prelude.{ℕ, ◌≡◌, List, [], ◌∷◌, map, length}
 use Rattle.machine.specs.Calls.{load, withdraw, close, round, reopen, verdict, print, save, expression}
-use Rattle.machine.specs.Marks.{Marked, fresh_marked, MarkedCall, on, mark, return-to, marked_run, MarkedBrings}
+use Rattle.machine.specs.Marks.{Marked, fresh_marked, MarkedCall, on, mark, return_to, marked_run, MarkedBrings}
 use Rattle.session.specs.declared.Session.{Session}
 use Rattle.session.specs.declared.Reply.{Reply}
 use Rattle.session.specs.Promise.{Keeps}
@@ -37,7 +37,7 @@ lent (on (print size)) = size
 lent (on (save size)) = size
 lent (on (expression size)) = size
 lent (mark name) = 0
-lent (return-to name) = 0
+lent (return_to name) = 0
 
 -- print, save and expression have a buffer of the length that they name, before and after; the other calls have none
 abbrev pub Buffered : MarkedCall → List ℕ → List ℕ → Type 0
@@ -51,7 +51,7 @@ Buffered (on (print size)) old new = (length old ≡ size) × (length new ≡ si
 Buffered (on (save size)) old new = (length old ≡ size) × (length new ≡ size)
 Buffered (on (expression size)) old new = (length old ≡ size) × (length new ≡ size)
 Buffered (mark name) old new = (old ≡ []) × (new ≡ [])
-Buffered (return-to name) old new = (old ≡ []) × (new ≡ [])
+Buffered (return_to name) old new = (old ≡ []) × (new ≡ [])
 
 -- one call with its buffer before and after and its reply
 abbrev pub exchange : MarkedCall → List ℕ → List ℕ → Reply → Exchange MarkedCall Reply

@@ -159,7 +159,7 @@ module _ {m : Machine} {g : Graph} {words heads links : List ℕ} {n : ℕ} {bac
   }) (s.round_is ∙ sym round)
 
   tour_frames : (i q : ℕ) (r : Frame) → i < k → q ∈ set i → loops (set i) among open_claims m → SetFrame back k opened (Tour q) i (get_or opened i 0) r → Frames m g k r
-  tour_frames i q r h q-in o s = set_frames i (Tour q) (loops (set i)) r h refl refl (q-in, o) (subst (λ (j : ℕ). SetFrame back k opened (Tour q) i j r) (loop_round i h) s)
+  tour_frames i q r h q_in o s = set_frames i (Tour q) (loops (set i)) r h refl refl (q_in, o) (subst (λ (j : ℕ). SetFrame back k opened (Tour q) i j r) (loop_round i h) s)
 
   -- no state of a set with an open claim is struck
   unstruck : (c : Claim) → c among open_claims m → (s : ℕ) → s ∈ set_of c → Unstruck m.rows (s ∷ members (set_of c))
@@ -204,8 +204,8 @@ module _ {m : Machine} {g : Graph} {words heads links : List ℕ} {n : ℕ} {bac
 
   tour_claim : (q P i : ℕ) (r : Frame) → q ∈ P → loops P among open_claims m → FindsSet back.sets k P i → SetFrame back k opened (Tour q) i (get_or opened i 0) r
       → Frames m g k r × (r.shape ≡ Tour q) × (r.set ≡ P)
-  tour_claim q P i r q-in o f s = let p = found_set (loops P) o i f in (
-    tour_frames i q r p.0 (subst (λ (Q : ℕ). q ∈ Q) (sym p.1) q-in) (subst (λ (Q : ℕ). loops Q among open_claims m) (sym p.1) o) s,
+  tour_claim q P i r q_in o f s = let p = found_set (loops P) o i f in (
+    tour_frames i q r p.0 (subst (λ (Q : ℕ). q ∈ Q) (sym p.1) q_in) (subst (λ (Q : ℕ). loops Q among open_claims m) (sym p.1) o) s,
     s.shape_is,
     s.set_is ∙ (held.turned.sets_are i ∙ p.1),
   )
@@ -258,8 +258,8 @@ module _ (b : Graph) (k : ℕ) (opened : List ℕ) (slot : ℕ) (r : Frame) wher
   none_place h e m g words heads links n held noted o =
       let l = loop_below held noted slot h o in
       let c = loops (get_or g.sets slot 0) in
-      let open-here : c among open_claims m = (open_iff held noted c).0 (omega (arith, o, loop_round held noted slot l)) in
-      absurd (omega (arith, e, held.turned.sets_are slot, (set_fits m.rows held.formed.table.fit (set_of c) (open_holds m.rows m.openings (grounded m held.formed) c open-here).0).0))
+      let open_here : c among open_claims m = (open_iff held noted c).0 (omega (arith, o, loop_round held noted slot l)) in
+      absurd (omega (arith, e, held.turned.sets_are slot, (set_fits m.rows held.formed.table.fit (set_of c) (open_holds m.rows m.openings (grounded m held.formed) c open_here).0).0))
 
   pub pieces_place : 64 ≤ slot → slot < 128 → SetFrame b k opened Pieces (slot - 64) (get_or opened slot 0) r → PlaceFrame b k opened slot r
   pieces_place h h' s m g words heads links n held noted o =

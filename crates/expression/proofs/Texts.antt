@@ -132,10 +132,10 @@ joined_some : (c : ℕ) (x : List ℕ) (l : List (List ℕ)) → 0 < length x �
 joined_some c x [] h = h
 joined_some c x (y ∷ l) h = omega (arith, length-append x (c ∷ joined c (y ∷ l)))
 
-module _ (R : Step → List ℕ) (some-step : (t : Step) → 0 < length (R t)) where
+module _ (R : Step → List ℕ) (some_step : (t : Step) → 0 < length (R t)) where
   walk_some : (w : Walk) → 0 < length (walk_text R w)
   walk_some [] = omega arith
-  walk_some (t ∷ w) = joined_some 46 (R t) (map R w) (some-step t)
+  walk_some (t ∷ w) = joined_some 46 (R t) (map R w) (some_step t)
 
   legs_some : (s : ℕ) (ws : List Walk) → ws ≢ [] → 0 < length (gather (part_text R) (parts_of 0 (suc s) ws))
   legs_some s [] n = absurd (n refl)

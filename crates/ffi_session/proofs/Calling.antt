@@ -12,7 +12,7 @@ use Rattle.lists.specs.Tests.{gather}
 use Rattle.machine.specs.declared.Answer.{Answer}
 use Rattle.machine.specs.declared.Answer.TheVariants.{Done}
 use Rattle.machine.specs.Calls.{Outcome, done, wrote, decided, refused, buffer_after, due}
-use Rattle.machine.specs.Marks.{MarkedCall, mark, return-to, marked_call, MarkedBrings}
+use Rattle.machine.specs.Marks.{MarkedCall, mark, return_to, marked_call, MarkedBrings}
 use Rattle.machine.proofs.Marks.{marked_formed, fresh_formed}
 use Rattle.session.specs.declared.Session.{Session}
 use Rattle.session.specs.declared.Reply.{Reply}
@@ -66,10 +66,10 @@ module _ (batch : List ℕ) (size b : ℕ) where
   marks_named g h = let e : b ≡ 49 + (b - 49) = omega arith in let l : b - 49 < 4 = omega arith in
       subst (λ (x : ℕ). call_of batch size x ≡ mark ((x + 48) ∷ []) ∷ []) (sym e) (four (λ d. call_of batch size (49 + d) ≡ mark ((49 + d + 48) ∷ []) ∷ []) refl refl refl refl (b - 49) l)
 
-  pub returns_named : 53 ≤ b → b ≤ 56 → call_of batch size b ≡ return-to ((b + 44) ∷ []) ∷ []
+  pub returns_named : 53 ≤ b → b ≤ 56 → call_of batch size b ≡ return_to ((b + 44) ∷ []) ∷ []
   unfolding call_of words
   returns_named g h = let e : b ≡ 53 + (b - 53) = omega arith in let l : b - 53 < 4 = omega arith in
-      subst (λ (x : ℕ). call_of batch size x ≡ return-to ((x + 44) ∷ []) ∷ []) (sym e) (four (λ d. call_of batch size (53 + d) ≡ return-to ((53 + d + 44) ∷ []) ∷ []) refl refl refl refl (b - 53) l)
+      subst (λ (x : ℕ). call_of batch size x ≡ return_to ((x + 44) ∷ []) ∷ []) (sym e) (four (λ d. call_of batch size (53 + d) ≡ return_to ((53 + d + 44) ∷ []) ∷ []) refl refl refl refl (b - 53) l)
 
   -- a byte beside the table
   pub none_named : ¬ (b ≡ 108) → ¬ (b ≡ 119) → ¬ (b ≡ 99) → ¬ (b ≡ 114) → ¬ (b ≡ 111) → ¬ (b ≡ 118) → ¬ (b ≡ 112) → ¬ (b ≡ 115) → ¬ (b ≡ 101)

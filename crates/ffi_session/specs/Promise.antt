@@ -3,7 +3,7 @@ use Rattle.std.specs.Prelude.{ℕ, ◌≡◌, cond, List, [], ◌∷◌, eqb, le
 use Rattle.lists.specs.Tests.{gather}
 use Rattle.machine.specs.declared.Answer.{Answer}
 use Rattle.machine.specs.Calls.{load, withdraw, close, round, reopen, verdict, print, save, expression, Outcome, done, returned, due, buffer_after}
-use Rattle.machine.specs.Marks.{Marked, fresh_marked, MarkedCall, on, mark, return-to, marked_call}
+use Rattle.machine.specs.Marks.{Marked, fresh_marked, MarkedCall, on, mark, return_to, marked_call}
 use Rattle.session.specs.declared.Reply.{Reply}
 use Rattle.session.specs.Record.{Represents}
 use Rattle.codes.specs.Coding.{Coded}
@@ -28,10 +28,10 @@ words batch size =
     ∷ says 50 (mark (98 ∷ []))
     ∷ says 51 (mark (99 ∷ []))
     ∷ says 52 (mark (100 ∷ []))
-    ∷ says 53 (return-to (97 ∷ []))
-    ∷ says 54 (return-to (98 ∷ []))
-    ∷ says 55 (return-to (99 ∷ []))
-    ∷ says 56 (return-to (100 ∷ []))
+    ∷ says 53 (return_to (97 ∷ []))
+    ∷ says 54 (return_to (98 ∷ []))
+    ∷ says 55 (return_to (99 ∷ []))
+    ∷ says 56 (return_to (100 ∷ []))
     ∷ []
 
 -- the call that a table names by a byte, or none

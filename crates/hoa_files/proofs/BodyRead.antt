@@ -34,17 +34,17 @@ module _ {l : List ℕ} {n s at count marked edges : ℕ} (b : BodyRead l n s at
   pub body_within : (at ≤ length l) × (count ≤ n) × (n ≤ 6)
   body_within = (part_within b.part, omega (arith, b.count_is, b.part.inside.no_more), b.part.inside.at_most_six)
 
-  pub body_state : (is-marked : Bool) (length_of new : ℕ) → count < n → TakesLine (drop at l) (state_line count is-marked) length_of → MarksOne marked count is-marked new
+  pub body_state : (is_marked : Bool) (length_of new : ℕ) → count < n → TakesLine (drop at l) (state_line count is_marked) length_of → MarksOne marked count is_marked new
       → BodyRead l n s (at + length_of) (count + 1) new edges
-  body_state is-marked length_of new h (stands, length_is) one =
+  body_state is_marked length_of new h (stands, length_is) one =
       let e = b.count_is in
       record {
-        states = b.states ++ (state_with is-marked [] ∷ []);
-        part = subst (λ k. PartRead l n s (at + k) (b.states ++ (state_with is-marked [] ∷ []))) (ap (λ k. length (line (state_line k is-marked))) (sym e) ∙ sym length_is)
-            (part_state b.part (omega arith) is-marked (subst (λ k. drop at l begin_with line (state_line k is-marked)) e stands));
-        count_is = ap (λ k. k + 1) e ∙ sym (one_longer b.states (state_with is-marked []));
-        marked_in = marked_state b.states marked new is-marked b.marked_in (subst (λ k. MarksOne marked k is-marked new) e one);
-        edges_in = edges_state b.states edges is-marked b.edges_in;
+        states = b.states ++ (state_with is_marked [] ∷ []);
+        part = subst (λ k. PartRead l n s (at + k) (b.states ++ (state_with is_marked [] ∷ []))) (ap (λ k. length (line (state_line k is_marked))) (sym e) ∙ sym length_is)
+            (part_state b.part (omega arith) is_marked (subst (λ k. drop at l begin_with line (state_line k is_marked)) e stands));
+        count_is = ap (λ k. k + 1) e ∙ sym (one_longer b.states (state_with is_marked []));
+        marked_in = marked_state b.states marked new is_marked b.marked_in (subst (λ k. MarksOne marked k is_marked new) e one);
+        edges_in = edges_state b.states edges is_marked b.edges_in;
       }
 
   pub body_edge : (q length_of new : ℕ) → 0 < count → q < n → TakesLine (drop at l) (edge_line q) length_of → ((t : ℕ) → member t new ≡ (member t edges || eqb t (6 * (count - 1) + q)))

@@ -69,7 +69,7 @@ same_place : (ls ms : List (List ℕ)) → ls ≡ ms → length (gather line ls)
 same_place ls ms e = ap (λ (t : List (List ℕ)). length (gather line t)) e
 
 pub cause_once : (l : List ℕ) (n n' place place' : ℕ) → FileCause l n place → FileCause l n' place' → (n ≡ n') × (place ≡ place')
-cause_once l n n' place place' (other_form ls r e w no_file none) (other_form ms s e' w' no-file' none') =
+cause_once l n n' place place' (other_form ls r e w no_file none) (other_form ms s e' w' no_file' none') =
     (refl, same_place ls ms (stops_once l r s ls ms (stops_20 l r ls e w none) (stops_20 l s ms e' w' none')))
 cause_once l n n' place place' (other_form ls r e w no_file none) (number_outside ms next more e' w' f out) =
     absurd (found_or_not l r next more ls ms (stops_once l r _ ls ms (stops_20 l r ls e w none) (stops_21 l next more ms e' w' f out)) e e' none f)

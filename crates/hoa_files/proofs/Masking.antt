@@ -28,7 +28,7 @@ EdgesIn sts m = (p q : ℕ) → p < 6 → q < 6 → (edge_place p q ∈ m) ↔ E
 -- ---- a state more
 
 pub marked_state : (l : List BuchiState) (old new : ℕ) (b : Bool) → MarkedIn l old → MarksOne old (length l) b new → MarkedIn (l ++ (state_with b [] ∷ [])) new
-marked_state l old new b in-old one t = (to, of)
+marked_state l old new b in_old one t = (to, of)
   where
     x : BuchiState
     x = state_with b []
@@ -37,7 +37,7 @@ marked_state l old new b in-old one t = (to, of)
     to h = ⊎_elim before now (or_cases (member t old) (b && eqb t (length l)) (sym (one t) ∙ h))
       where
         before : t ∈ old → IsMarked (with_states (l ++ (x ∷ []))) t
-        before g = let (s, i, m) = (in-old t).0 g in (s, at_old l (x ∷ []) t s i, m)
+        before g = let (s, i, m) = (in_old t).0 g in (s, at_old l (x ∷ []) t s i, m)
 
         now : (b && eqb t (length l)) ≡ true → IsMarked (with_states (l ++ (x ∷ []))) t
         now g = let (m, e) = (and-eq-true_iff b (eqb t (length l))).0 g in (x, at_new l x t ((eqb_decides t (length l)).to e), m)
@@ -46,27 +46,27 @@ marked_state l old new b in-old one t = (to, of)
     of (s, i, m) = one t ∙ ⊎_elim before now (at_either l x t s i)
       where
         before : IsState (with_states l) t s → (member t old || (b && eqb t (length l))) ≡ true
-        before j = rw ((in-old t).1 (s, j, m))
+        before j = rw ((in_old t).1 (s, j, m))
 
         now : (t ≡ length l) × (s ≡ x) → (member t old || (b && eqb t (length l))) ≡ true
         now (e, f) = let g : b ≡ true = sym (ap (λ (y : BuchiState). y.marked) f) ∙ m in rw (g, (eqb_decides t (length l)).of e) (or-true (member t old))
 
 pub edges_state : (l : List BuchiState) (m : ℕ) (b : Bool) → EdgesIn l m → EdgesIn (l ++ (state_with b [] ∷ [])) m
-edges_state l m b in-old p q h k = (to, of)
+edges_state l m b in_old p q h k = (to, of)
   where
     x : BuchiState
     x = state_with b []
 
     to : edge_place p q ∈ m → Edge (with_states (l ++ (x ∷ []))) p q
-    to g = let (s, i, e) = (in-old p q h k).0 g in (s, at_old l (x ∷ []) p s i, e)
+    to g = let (s, i, e) = (in_old p q h k).0 g in (s, at_old l (x ∷ []) p s i, e)
 
     of : Edge (with_states (l ++ (x ∷ []))) p q → edge_place p q ∈ m
-    of (s, i, e) = ⊎_elim (λ j. (in-old p q h k).1 (s, j, e)) (λ (j : (p ≡ length l) × (s ≡ x)). absurd (Memᴰ.not-nil (subst (λ (y : BuchiState). q among y.edges) j.1 e))) (at_either l x p s i)
+    of (s, i, e) = ⊎_elim (λ j. (in_old p q h k).1 (s, j, e)) (λ (j : (p ≡ length l) × (s ≡ x)). absurd (Memᴰ.not-nil (subst (λ (y : BuchiState). q among y.edges) j.1 e))) (at_either l x p s i)
 
 -- ---- an edge more of the last state
 
 pub marked_edge : (l : List BuchiState) (m : ℕ) (b : Bool) (qs rs : List ℕ) → MarkedIn (l ++ (state_with b qs ∷ [])) m → MarkedIn (l ++ (state_with b rs ∷ [])) m
-marked_edge l m b qs rs in-old t = (λ g. over qs rs ((in-old t).0 g), λ g. (in-old t).1 (over rs qs g))
+marked_edge l m b qs rs in_old t = (λ g. over qs rs ((in_old t).0 g), λ g. (in_old t).1 (over rs qs g))
   where
     -- the edges do not matter
     over : (qs rs : List ℕ) → IsMarked (with_states (l ++ (state_with b qs ∷ []))) t → IsMarked (with_states (l ++ (state_with b rs ∷ []))) t
@@ -80,7 +80,7 @@ marked_edge l m b qs rs in-old t = (λ g. over qs rs ((in-old t).0 g), λ g. (in
 
 pub edges_edge : (l : List BuchiState) (old new : ℕ) (b : Bool) (qs : List ℕ) (q : ℕ) → length l < 6 → q < 6 → EdgesIn (l ++ (state_with b qs ∷ [])) old
     → ((t : ℕ) → member t new ≡ (member t old || eqb t (edge_place (length l) q))) → EdgesIn (l ++ (state_with b (qs ++ (q ∷ [])) ∷ [])) new
-edges_edge l old new b qs q few small in-old one p r h k = (to, of)
+edges_edge l old new b qs q few small in_old one p r h k = (to, of)
   where
     x : BuchiState
     x = state_with b qs
@@ -96,7 +96,7 @@ edges_edge l old new b qs q few small in-old one p r h k = (to, of)
         same (j, f) = (y, at_new l y p j, Memᴰ.append_left (q ∷ []) (subst (λ (z : BuchiState). r among z.edges) f e))
 
     to : edge_place p r ∈ new → Edge (with_states (l ++ (y ∷ []))) p r
-    to g = ⊎_elim (λ i. wider ((in-old p r h k).0 i)) now (or_cases (member (edge_place p r) old) (eqb (edge_place p r) (edge_place (length l) q)) (sym (one (edge_place p r)) ∙ g))
+    to g = ⊎_elim (λ i. wider ((in_old p r h k).0 i)) now (or_cases (member (edge_place p r) old) (eqb (edge_place p r) (edge_place (length l) q)) (sym (one (edge_place p r)) ∙ g))
       where
         now : eqb (edge_place p r) (edge_place (length l) q) ≡ true → Edge (with_states (l ++ (y ∷ []))) p r
         now e =
@@ -109,7 +109,7 @@ edges_edge l old new b qs q few small in-old one p r h k = (to, of)
     of (s, i, e) = one (edge_place p r) ∙ ⊎_elim before last (at_either l y p s i)
       where
         had : Edge (with_states (l ++ (x ∷ []))) p r → (member (edge_place p r) old || eqb (edge_place p r) (edge_place (length l) q)) ≡ true
-        had f = rw ((in-old p r h k).1 f)
+        had f = rw ((in_old p r h k).1 f)
 
         before : IsState (with_states l) p s → (member (edge_place p r) old || eqb (edge_place p r) (edge_place (length l) q)) ≡ true
         before j = had (s, at_old l (x ∷ []) p s j, e)

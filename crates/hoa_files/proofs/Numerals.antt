@@ -11,7 +11,7 @@ use lib.Seq.{append_snoc, drop-cons, length-take-le, get_or-take, get_or-drop, d
 use native.Mathlib.Nat.{add-zero, eq-or-lt_of_le}
 use native.Mathlib.Omega.{arith}
 use Rattle.lists.specs.Tests.{◌among◌}
-use Rattle.lists.proofs.Places.{getD_among, held_place}
+use Rattle.lists.proofs.Places.{get_or_among, held_place}
 use Rattle.machine.specs.Text.{digit, number_text}
 use Rattle.machine.proofs.Text.{digits_only, number_some, no_leading_zero, digit_low}
 use Rattle.texts.proofs.Digits.{number_one, number_more, number_longer}
@@ -137,7 +137,7 @@ pub digit_first : (l : List ℕ) (at count : ℕ) → CountsDigits (drop at l) c
 digit_first l at count k h =
     let p = k.is_number h in
     let d : get_or (number_text p.0) 0 0 ≡ get_or l at 0 = ap (λ (m : List ℕ). get_or m 0 0) (sym p.1) ∙ get_or-take count (drop at l) 0 0 h ∙ first_at l at in
-    let f = number_digits p.0 (get_or (number_text p.0) 0 0) (getD_among (number_text p.0) 0 0 (number_some p.0)) in
+    let f = number_digits p.0 (get_or (number_text p.0) 0 0) (get_or_among (number_text p.0) 0 0 (number_some p.0)) in
     omega arith
 
 -- the first digit and how many there are tell the number up to ten
@@ -188,7 +188,7 @@ module _ (file word tail : List ℕ) (at : ℕ) (some : 0 < length tail) (no_dig
             n (begin_nearer file tail (at + length word) count
             (subst (λ (k : ℕ). drop k (drop (at + length word) file) begin_with tail) (sym e) (begin_behind (drop (at + length word) file) (number_text x) tail q)))
 
-    module _ (word-Stands : drop at file begin_with word) (tail-stands : drop (at + length word + count) file begin_with tail) (several : 0 < count)
+    module _ (word_stands : drop at file begin_with word) (tail_stands : drop (at + length word + count) file begin_with tail) (several : 0 < count)
         (length_is : r.length ≡ length word + count + length tail) (tells : TellsNumber (get_or file (at + length word) 0) count r.number) where
       number_found : (x : ℕ) → take count (drop (at + length word) file) ≡ number_text x → IsNumbered word tail (drop at file) x r
       number_found x e =
@@ -197,11 +197,11 @@ module _ (file word tail : List ℕ) (at : ℕ) (some : 0 < length tail) (no_dig
           let first : get_or file (at + length word) 0 ≡ get_or (number_text x) 0 0 =
           sym (first_at file (at + length word)) ∙ sym (get_or-take count l 0 0 several) ∙ ap (λ (m : List ℕ). get_or m 0 0) e in
           let digits : l begin_with number_text x = begin_all l (number_text x) (subst (λ (n : ℕ). take n l ≡ number_text x) k e) in
-          let behind : drop (length (number_text x)) l begin_with tail = subst (λ (n : ℕ). drop n l begin_with tail) k (begin_further file tail (at + length word) count tail-stands) in
+          let behind : drop (length (number_text x)) l begin_with tail = subst (λ (n : ℕ). drop n l begin_with tail) k (begin_further file tail (at + length word) count tail_stands) in
           let both : l begin_with (number_text x ++ tail) = begin_both l (number_text x) tail digits behind in
           let told : TellsNumber (get_or (number_text x) 0 0) (length (number_text x)) r.number = subst (λ (n : ℕ). TellsNumber (get_or (number_text x) 0 0) n r.number) k (subst (λ (d : ℕ). TellsNumber d count r.number) first tells) in
           record {
-            stands = begin_both (drop at file) word (number_text x ++ tail) word-Stands (begin_further file (number_text x ++ tail) at (length word) both);
+            stands = begin_both (drop at file) word (number_text x ++ tail) word_stands (begin_further file (number_text x ++ tail) at (length word) both);
             length_is = simp length-append (omega arith);
             number_is = tells_up_to_ten x r.number told;
           }

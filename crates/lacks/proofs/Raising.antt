@@ -20,12 +20,12 @@ module _ (sets : List ℕ) (places p : ℕ) where
   -- by has the places whose sets have the lowest state
   pub raised_more : {rest low rest' : ℕ} (r by r' : ℕ) → TakesLowest rest low rest' → Raised rest r
       → ((i : ℕ) → i < 64 → member i by ≡ member low (get_or sets i 0)) → ((t : ℕ) → member t r' ≡ (member t r && member t by)) → Raised rest' r'
-  raised_more {rest} {low} {rest'} r by r' taken (sub, now) is-by is = (
+  raised_more {rest} {low} {rest'} r by r' taken (sub, now) is_by is = (
     (λ s h. sub s ((taken.others s).0 h).0),
     λ i. (
       (λ h. let x = (now i).0 (intersection_left r by r' is i h) in
-          (x.0, passed_more taken x.1 (λ s n k. k) (sym (is-by i (member_lt i r' h)) ∙ intersection_right r by r' is i h))),
-      λ h. intersection_both r by r' is i ((now i).1 (h.0, before h.1)) (is-by i (member_lt i places h.0) ∙ here h.1),
+          (x.0, passed_more taken x.1 (λ s n k. k) (sym (is_by i (member_lt i r' h)) ∙ intersection_right r by r' is i h))),
+      λ h. intersection_both r by r' is i ((now i).1 (h.0, before h.1)) (is_by i (member_lt i places h.0) ∙ here h.1),
     ),
   )
     where

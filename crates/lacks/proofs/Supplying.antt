@@ -72,12 +72,12 @@ module _ (g : Graph) (new : Claims) (led live : ℕ) where
       → ((j : ℕ) → (j ∈ new.loops) ⊎ (j ∈ new.mixes) → length before ≡ 64 → Freed g new led live after j) → Supplies g new led live before after
   supplies size fewer freed = record {
     length_is = size;
-    lacks = λ e old force pieces places is sub is-led was i q h k. let w = was i q (sub i h) (fewer e q i k) in record {
+    lacks = λ e old force pieces places is sub is_led was i q h k. let w = was i q (sub i h) (fewer e q i k) in record {
       has = w.has;
       unled = λ inner is_inner a s. let x = olds g is is_inner in let y = olds_inner g is is_inner in ⊎_elim (w.unled x y a)
           (λ n. ⊎_elim
           (λ f. freed n.0 n.1 e i q a h n.2 k s.start (unless n.0 a q f n.3))
-          (λ f. by_led n.0 a q n.3 (λ b. let z = led_inside g n.0 (is-led n.0 f) n.2 y q b in w.unled x y z.0 z.1)
+          (λ f. by_led n.0 a q n.3 (λ b. let z = led_inside g n.0 (is_led n.0 f) n.2 y q b in w.unled x y z.0 z.1)
           (freed n.0 n.1 e i q a h n.2 k s.start)) (apart n.0)) (step_cases g is is_inner a q s);
       unspared = w.unspared;
     };
@@ -138,15 +138,15 @@ module _ (g : Graph) (new : Claims) (led live : ℕ) where
   -- of a set to each of whose states a step leads, only its limits
   pub claim_led : {before after : List ℕ} (j left up : ℕ) → j ∈ led → get_or g.lefts j 0 ≡ left → ((i : ℕ) → i ∈ live → get_or g.sets j 0 ⊆ get_or g.sets i 0 → i ∈ up)
       → TakenOut left up before after → SuppliesClaim g new led live j before after
-  claim_led j left up is-led is-left over out = record {
+  claim_led j left up is_led is_left over out = record {
     length_is = out.length_is;
     fewer = λ e q i h. (out.left e q i h).0;
-    freed = λ e i q a h s k b. ⊎_elim (λ x. ⊎_elim (λ y. (out.left e q i k).1 (moved q is-left y.1) (over i h s)) (λ y. y.0 is-led) x.1)
-        (λ x. (out.left e q i k).1 (moved q is-left x.2) (over i h s));
+    freed = λ e i q a h s k b. ⊎_elim (λ x. ⊎_elim (λ y. (out.left e q i k).1 (moved q is_left y.1) (over i h s)) (λ y. y.0 is_led) x.1)
+        (λ x. (out.left e q i k).1 (moved q is_left x.2) (over i h s));
   }
 
   module _ (j : ℕ) (sets : List ℕ) {p left right : ℕ} (up : ℕ) {looping : Bool} (is : looping ≡ member j new.loops)
-      (sets_are : (i : ℕ) → get_or g.sets i 0 ≡ get_or sets i 0) (is_set : get_or g.sets j 0 ≡ p) (is-left : get_or g.lefts j 0 ≡ left)
+      (sets_are : (i : ℕ) → get_or g.sets i 0 ≡ get_or sets i 0) (is_set : get_or g.sets j 0 ≡ p) (is_left : get_or g.lefts j 0 ≡ left)
       (is_right : get_or g.rights j 0 ≡ right) (over : (i : ℕ) → i ∈ live → get_or g.sets j 0 ⊆ get_or g.sets i 0 → i ∈ up) where
     pub claim_supplied : {before after : List ℕ} → Leads sets p left right up looping before after → SuppliesClaim g new led live j before after
     claim_supplied out = record {
@@ -154,9 +154,9 @@ module _ (g : Graph) (new : Claims) (led live : ℕ) where
       fewer = out.fewer;
       freed = λ e i q a h s k b. ⊎_elim
           (λ x. ⊎_elim
-          (λ y. out.omega_step e (is ∙ x.0) q i (over i h s) k (moved q is-left y.1))
+          (λ y. out.omega_step e (is ∙ x.0) q i (over i h s) k (moved q is_left y.1))
           (λ y. out.back_step e (is ∙ x.0) q i a (over i h s) k (moved a is_right y.1) (moved a (sets_are i) b) (moved q is_set y.2)) x.1)
-          (λ x. out.mix_step e q i a (over i h s) k (moved a is_right x.1) (moved a (sets_are i) b) (moved q is-left x.2));
+          (λ x. out.mix_step e q i a (over i h s) k (moved a is_right x.1) (moved a (sets_are i) b) (moved q is_left x.2));
     }
 
 -- the same set is above in the graph turned round

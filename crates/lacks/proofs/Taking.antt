@@ -80,11 +80,11 @@ module _ (g : Graph) where
   pub sparing_more : {pieces rest low rest' : ℕ} {before mid after : List ℕ} → TakesLowest rest low rest' → Sparing pieces rest before mid → (m w : ℕ)
       → ((t : ℕ) → member t m ≡ (member t (get_or g.sets low 0) && member t (get_or g.lefts low 0)))
       → ((t : ℕ) → member t w ≡ (member t 0 || eqb t low)) → TakenOut m w mid after → Sparing pieces rest' before after
-  sparing_more {low = low} taken now m w is_m is-w out = record {
+  sparing_more {low = low} taken now m w is_m is_w out = record {
     length_is = out.length_is ∙ now.length_is;
     fewer = λ e q i h. now.fewer e q i (out.left (now.length_is ∙ e) q i h).0;
     spared = passed_more taken now.spared (λ i n f e q h. f e q (out.left (now.length_is ∙ e) q i h).0)
-        (λ e q h s t. (out.left (now.length_is ∙ e) q low h).1 (intersection_both (get_or g.sets low 0) (get_or g.lefts low 0) m is_m q s t) (with_same 0 low w is-w));
+        (λ e q h s t. (out.left (now.length_is ∙ e) q low h).1 (intersection_both (get_or g.sets low 0) (get_or g.lefts low 0) m is_m q s t) (with_same 0 low w is_w));
   }
 
   pub sparing_end : {pieces rest : ℕ} {before after : List ℕ} → Sparing pieces rest before after → rest ≡ 0 → Spares g pieces before after

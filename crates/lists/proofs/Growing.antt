@@ -12,9 +12,9 @@ use Rattle.lists.specs.Growing.{grow, grown}
 use Rattle.lists.proofs.Deciding.{or_decides, has_decides, test_decides, keep_decides}
 use Rattle.lists.proofs.Counting.{keep_length, keep_grows}
 
-module _ {A : Type 0} {eq : A → A → Bool} (eq· : (x y : A) → Decides (eq x y) (x ≡ y)) (all : List A) (test : List A → A → Bool) where
+module _ {A : Type 0} {eq : A → A → Bool} (eq_decides : (x y : A) → Decides (eq x y) (x ≡ y)) (all : List A) (test : List A → A → Bool) where
   in_decides : (l : List A) (x : A) → Decides (any (eq x) l || test l x) (x among l ⊎ (test l x ≡ true))
-  in_decides l x = or_decides (has_decides eq· x l) (test_decides (test l x))
+  in_decides l x = or_decides (has_decides eq_decides x l) (test_decides (test l x))
 
   pub grow_iff : (l : List A) (x : A) → x among grow eq all test l ↔ (x among all × (x among l ⊎ (test l x ≡ true)))
   grow_iff l x = keep_decides (in_decides l) all x

@@ -1,4 +1,4 @@
--- What stands at a place of a list (`get_d_map`, `held_at`), the place of what stands in it (`place_of`, `held_place`), and the order of places in
+-- What stands at a place of a list (`get_or_map`, `held_at`), the place of what stands in it (`place_of`, `held_place`), and the order of places in
 -- a sorted list (`sorted_at`, `rising`, `rising_sorted`).
 use Prim.Native.Nat.{ℕ, zero, suc, ◌+◌, ◌≤◌, ◌<◌}
 use mathlib.Core.Path.{◌≡◌, refl, ap, sym, ◌∙◌, subst}
@@ -14,15 +14,15 @@ use Rattle.lists.specs.Tests.{◌among◌, Once, gather}
 use Rattle.lists.specs.Order.{before, ◌≺◌, Sorted}
 use Rattle.lists.proofs.Sorting.{before_decides, ≺_connex}
 
-pub getD_among : {A : Type 0} (l : List A) (i : ℕ) (d : A) → i < length l → get_or l i d among l
-getD_among [] i d h = absurd (omega arith)
-getD_among (x ∷ l) zero d h = Memᴰ.head refl
-getD_among (x ∷ l) (suc i) d h = Memᴰ.tail (getD_among l i d (omega arith))
+pub get_or_among : {A : Type 0} (l : List A) (i : ℕ) (d : A) → i < length l → get_or l i d among l
+get_or_among [] i d h = absurd (omega arith)
+get_or_among (x ∷ l) zero d h = Memᴰ.head refl
+get_or_among (x ∷ l) (suc i) d h = Memᴰ.tail (get_or_among l i d (omega arith))
 
-pub get_d_map : {A B : Type 0} (f : A → B) (l : List A) (i : ℕ) (d : A) (e : B) → i < length l → get_or (map f l) i e ≡ f (get_or l i d)
-get_d_map f [] i d e h = absurd (omega arith)
-get_d_map f (x ∷ l) zero d e h = refl
-get_d_map f (x ∷ l) (suc i) d e h = get_d_map f l i d e (omega arith)
+pub get_or_map : {A B : Type 0} (f : A → B) (l : List A) (i : ℕ) (d : A) (e : B) → i < length l → get_or (map f l) i e ≡ f (get_or l i d)
+get_or_map f [] i d e h = absurd (omega arith)
+get_or_map f (x ∷ l) zero d e h = refl
+get_or_map f (x ∷ l) (suc i) d e h = get_or_map f l i d e (omega arith)
 
 -- what stands at a place of a part of a list, and behind its first places
 pub part_at : {A : Type 0} (n k : ℕ) (l : List A) (i : ℕ) (d : A) → i < n → get_or (take n (drop k l)) i d ≡ get_or l (k + i) d
@@ -98,7 +98,7 @@ sorted_at key d [] apart s o i j g h = absurd (omega arith)
 sorted_at key d (x ∷ l) apart s o i zero g h = absurd (omega arith)
 sorted_at {A} key d (x ∷ l) apart s o zero (suc j) g h =
     let y = get_or l j d in
-    let m : y among l = getD_among l j d (omega arith) in
+    let m : y among l = get_or_among l j d (omega arith) in
     comes_first (key x) (key y) (s.0 y m)
     (λ e. o.0 (subst (λ (z : A). z among l) (sym (apart x y (Memᴰ.head refl) (Memᴰ.tail m) e)) m))
 sorted_at key d (x ∷ l) apart s o (suc i) (suc j) g h =

@@ -49,10 +49,10 @@ module _ (rule : Row → List Row → Turn (List Row)) (Stands : List Row → Li
       record { table = d.table; stands = rw append_assoc at d.stands; none_fails = none r b s u i a ts h d.none_fails })
     where
       none : (r : Row) (b s u : List Row) → rule r s ≡ go u → (a : List Row) → Table s → Stands a s → NoneFails (a ++ (r ∷ [])) b → NoneFails a (r ∷ b)
-      none r b s u i a ts h later-pass [] later now x k e st p = let j : x ≡ r = cc in let st' = rw append-nil at st in
+      none r b s u i a ts h later_pass [] later now x k e st p = let j : x ≡ r = cc in let st' = rw append-nil at st in
           let q = (stops x s k ts).1 (alike a x now s k st' h p) in let q' : rule r s ≡ stop k = rw j at q in let z : ◌≡◌ {A = ℕ} 0 1 = cc in omega arith
-      none r b s u i a ts h later-pass (y ∷ before) later now x k e st p = let j : y ≡ r = cc in let o : b ≡ before ++ (x ∷ later) = cc in
-          later-pass before later now x k o (rw append_assoc (rw j at st)) p
+      none r b s u i a ts h later_pass (y ∷ before) later now x k e st p = let j : y ≡ r = cc in let o : b ≡ before ++ (x ∷ later) = cc in
+          later_pass before later now x k o (rw append_assoc (rw j at st)) p
 
   runs : (b a s : List Row) → AllFit b → Table s → Stands a s → NoneFails a b → (t : List Row) × (run_rows rule s b ≡ go t)
   runs [] a s f ts h none = (s, refl)
@@ -96,7 +96,7 @@ module _ (rule : Row → List Row → Turn (List Row)) (Stands : List Row → Li
   )
 
 -- what refuses a row depends on which rows stand, and not on how they are listed
-stops_alike : {max-rows max-sets n : ℕ} (s t : List Row) (r : Row) → Once s → Once t → s part_of t → t part_of s → AdmitStops max-rows max-sets s r n → AdmitStops max-rows max-sets t r n
+stops_alike : {max_rows max_sets n : ℕ} (s t : List Row) (r : Row) → Once s → Once t → s part_of t → t part_of s → AdmitStops max_rows max_sets s r n → AdmitStops max_rows max_sets t r n
 stops_alike s t r a b p q (full k l) = full (λ m. k (q r m)) (omega (arith, once_length s t a p))
 stops_alike s t r a b p q (sets_full P k l i j o) = let e = sets_same s t p q in
     sets_full P (λ m. k (q r m)) (omega (arith, once_length t s b q)) i (λ m. j (rw e m)) (omega (arith, ap length e))

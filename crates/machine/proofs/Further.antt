@@ -22,7 +22,7 @@ use Rattle.machine.specs.Text.{text, hex, decimal}
 use Rattle.machine.specs.Sheet.{sheet}
 use Rattle.machine.specs.Calls.{Call, load, withdraw, close, round, reopen, verdict, print, save, Outcome, done, wrote, decided, refused, verdict_of, call_in, call, run}
 use Rattle.machine.specs.Program.{after_load, batch_verdict, program}
-use Rattle.machine.specs.Marks.{name?, Marked, fresh_marked, MarkedCall, on, mark, return-to, marked_call}
+use Rattle.machine.specs.Marks.{name?, Marked, fresh_marked, MarkedCall, on, mark, return_to, marked_call}
 
 abbrev on_rows : List Row → List ℕ
 on_rows rows = program (batch_of rows)
@@ -233,16 +233,16 @@ answers x (c ∷ cs) = (marked_call x c).answer ∷ answers (marked_call x c).ma
 
 -- four names and no fifth, the same name anew at four; 14 before 15 and 16; no other call is needed between
 pub marks : answers fresh_marked
-    (return-to (text "a") ∷ mark (text "a") ∷ mark (text "b") ∷ mark (text "c") ∷ mark (text "d") ∷ mark (text "e") ∷ mark (text "a") ∷ mark (text "A") ∷ return-to (text "e") ∷ return-to [] ∷ return-to (text "d") ∷ [])
+    (return_to (text "a") ∷ mark (text "a") ∷ mark (text "b") ∷ mark (text "c") ∷ mark (text "d") ∷ mark (text "e") ∷ mark (text "a") ∷ mark (text "A") ∷ return_to (text "e") ∷ return_to [] ∷ return_to (text "d") ∷ [])
     ≡ refused 15 0 ∷ done ∷ done ∷ done ∷ done ∷ refused 16 0 ∷ done ∷ refused 14 0 ∷ refused 15 0 ∷ refused 14 0 ∷ done ∷ []
 unfolding name? marked_call
 marks = refl
 
 -- what is marked when open, running and settled is back from every phase, with its rows, its rounds and its openings; a sheet then is that of these rows
 pub returns : answers fresh_marked
-    (mark (text "o") ∷ on (load (1 ∷ 0 ∷ 2 ∷ 0 ∷ [])) ∷ on close ∷ mark (text "s") ∷ return-to (text "o") ∷ on (save 4) ∷ on close ∷ mark (text "r") ∷ return-to (text "s") ∷ on (print 99)
-    ∷ return-to (text "r") ∷ on (print 99) ∷ on round ∷ on (print 99) ∷ return-to (text "s") ∷ on (save 4) ∷ return-to (text "o") ∷ on (print 99)
-    ∷ on (load (batch_of (Successor 0 7 0 ∷ LeftLimit 1 1 ∷ []))) ∷ on close ∷ on round ∷ on round ∷ mark (text "e") ∷ on (print 99) ∷ return-to (text "s") ∷ return-to (text "e") ∷ on (print 99) ∷ [])
+    (mark (text "o") ∷ on (load (1 ∷ 0 ∷ 2 ∷ 0 ∷ [])) ∷ on close ∷ mark (text "s") ∷ return_to (text "o") ∷ on (save 4) ∷ on close ∷ mark (text "r") ∷ return_to (text "s") ∷ on (print 99)
+    ∷ return_to (text "r") ∷ on (print 99) ∷ on round ∷ on (print 99) ∷ return_to (text "s") ∷ on (save 4) ∷ return_to (text "o") ∷ on (print 99)
+    ∷ on (load (batch_of (Successor 0 7 0 ∷ LeftLimit 1 1 ∷ []))) ∷ on close ∷ on round ∷ on round ∷ mark (text "e") ∷ on (print 99) ∷ return_to (text "s") ∷ return_to (text "e") ∷ on (print 99) ∷ [])
     ≡ done ∷ done ∷ done ∷ done ∷ done ∷ wrote [] ∷ done ∷ done ∷ done ∷ wrote (text "verdict nonempty rounds 0\nstart 0\n")
     ∷ done ∷ refused 11 0 ∷ done ∷ wrote (text "verdict empty rounds 1\n") ∷ done ∷ wrote (1 ∷ 0 ∷ 2 ∷ 0 ∷ []) ∷ done ∷ refused 9 0
     ∷ done ∷ done ∷ done ∷ done ∷ done ∷ wrote (text "verdict empty rounds 2\nopen 1 loop 0000000000000001\n") ∷ done ∷ done ∷ wrote (text "verdict empty rounds 2\nopen 1 loop 0000000000000001\n") ∷ []
@@ -251,7 +251,7 @@ returns = refl
 
 -- the same name marks anew: what was kept under it is gone, and other names keep theirs
 pub marks_anew : answers fresh_marked
-    (mark (text "b") ∷ mark (text "a") ∷ on (load (1 ∷ 3 ∷ [])) ∷ mark (text "a") ∷ on (load (2 ∷ 3 ∷ [])) ∷ return-to (text "a") ∷ on (save 9) ∷ return-to (text "b") ∷ on (save 9) ∷ [])
+    (mark (text "b") ∷ mark (text "a") ∷ on (load (1 ∷ 3 ∷ [])) ∷ mark (text "a") ∷ on (load (2 ∷ 3 ∷ [])) ∷ return_to (text "a") ∷ on (save 9) ∷ return_to (text "b") ∷ on (save 9) ∷ [])
     ≡ done ∷ done ∷ done ∷ done ∷ done ∷ done ∷ wrote (1 ∷ 3 ∷ []) ∷ done ∷ wrote [] ∷ []
 unfolding ℕ_discrete member row_bytes standing_sets same_row set_at row_at row_cause read_row on_turn on_read feed_from feed load_row call_in name? marked_call
 marks_anew = refl

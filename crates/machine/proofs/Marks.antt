@@ -18,7 +18,7 @@ use Rattle.rows.proofs.Same.{same_numbers_decides}
 use Rattle.machine.specs.Machine.{Machine}
 use Rattle.machine.specs.Calls.{Call, done, refused, call, run}
 use Rattle.machine.specs.WellFormed.{WellFormed}
-use Rattle.machine.specs.Marks.{most_marks, longest_name, Name, name?, Mark, Marked, fresh_marked, names, kept_under, mark_under, MarkedCall, on, mark, return-to, MarkedNext, accept_marked, refuse_marked, call_now, marks_to, brings_back, marked_call, marked_run, MarkedBrings, BringsName, marking, returning, MarkedCause, by_table, no_name, no_mark, fifth_name, MarkedFormed}
+use Rattle.machine.specs.Marks.{most_marks, longest_name, Name, name?, Mark, Marked, fresh_marked, names, kept_under, mark_under, MarkedCall, on, mark, return_to, MarkedNext, accept_marked, refuse_marked, call_now, marks_to, brings_back, marked_call, marked_run, MarkedBrings, BringsName, marking, returning, MarkedCause, by_table, no_name, no_mark, fifth_name, MarkedFormed}
 use Rattle.machine.specs.Statements.{AllBring, after_calls, EveryReturn, MarkAndReturn}
 use Rattle.machine.proofs.Tables.{no_rows}
 use Rattle.machine.proofs.Outcomes.{refused_keeps}
@@ -135,8 +135,8 @@ pub data Came (x : Marked) : MarkedCall → MarkedNext → Type 0 where
   came_misnamed : (c : MarkedCall) (name : List ℕ) → BringsName c name → ¬ Name name → Came x c (refuse_marked x 14)
   came_marked : (name : List ℕ) → Name name → length (mark_under name x.now x.marks) ≤ most_marks → Came x (mark name) (accept_marked (record { now = x.now; marks = mark_under name x.now x.marks }))
   came_full : (name : List ℕ) → Name name → ¬ (length (mark_under name x.now x.marks) ≤ most_marks) → Came x (mark name) (refuse_marked x 16)
-  came_back : (name : List ℕ) (m : Machine) → Name name → kept_under name x.marks ≡ some m → Came x (return-to name) (accept_marked (record { now = m; marks = x.marks }))
-  came_absent : (name : List ℕ) → Name name → ¬ (name among names x.marks) → Came x (return-to name) (refuse_marked x 15)
+  came_back : (name : List ℕ) (m : Machine) → Name name → kept_under name x.marks ≡ some m → Came x (return_to name) (accept_marked (record { now = m; marks = x.marks }))
+  came_absent : (name : List ℕ) → Name name → ¬ (name among names x.marks) → Came x (return_to name) (refuse_marked x 15)
 
 pub came : (x : Marked) (c : MarkedCall) → Came x c (marked_call x c)
 unfolding marked_call
@@ -151,15 +151,15 @@ came x (mark name) = by (name? name) (name_decides name)
     by : (b : Bool) → Decides b (Name name) → Came x (mark name) (cond b (marks_to x (mark_under name x.now x.marks)) (refuse_marked x 14))
     by true d = fits (leb (length (mark_under name x.now x.marks)) most_marks) (leb_decides (length (mark_under name x.now x.marks)) most_marks) (yes_decides d)
     by false d = came_misnamed (mark name) name (marking name) (no_decides d)
-came x (return-to name) = by (name? name) (name_decides name)
+came x (return_to name) = by (name? name) (name_decides name)
   where
-    found : (o : Option Machine) → kept_under name x.marks ≡ o → Name name → Came x (return-to name) (brings_back x o)
+    found : (o : Option Machine) → kept_under name x.marks ≡ o → Name name → Came x (return_to name) (brings_back x o)
     found none e n = came_absent name n (λ i. let k = kept_some name x.marks i in let f = k.1 in let z : ◌≡◌ {A = ℕ} 0 1 = cc in omega arith)
     found (some m) e n = came_back name m n e
 
-    by : (b : Bool) → Decides b (Name name) → Came x (return-to name) (cond b (brings_back x (kept_under name x.marks)) (refuse_marked x 14))
+    by : (b : Bool) → Decides b (Name name) → Came x (return_to name) (cond b (brings_back x (kept_under name x.marks)) (refuse_marked x 14))
     by true d = found (kept_under name x.marks) refl (yes_decides d)
-    by false d = came_misnamed (return-to name) name (returning name) (no_decides d)
+    by false d = came_misnamed (return_to name) name (returning name) (no_decides d)
 
 -- ---- calls make well-formed machines
 
@@ -226,11 +226,11 @@ module _ (x : Marked) (name : List ℕ) where
     unfolding marked_call
     fifth_is l = rw (so (name_decides name) n, not_so (leb_decides (length (mark_under name x.now x.marks)) most_marks) l) refl
 
-    pub return_is : (m : Machine) → kept_under name x.marks ≡ some m → marked_call x (return-to name) ≡ accept_marked (record { now = m; marks = x.marks })
+    pub return_is : (m : Machine) → kept_under name x.marks ≡ some m → marked_call x (return_to name) ≡ accept_marked (record { now = m; marks = x.marks })
     unfolding marked_call
     return_is m e = rw (so (name_decides name) n) (ap (brings_back x) e)
 
-    pub unmarked_is : kept_under name x.marks ≡ none → marked_call x (return-to name) ≡ refuse_marked x 15
+    pub unmarked_is : kept_under name x.marks ≡ none → marked_call x (return_to name) ≡ refuse_marked x 15
     unfolding marked_call
     unmarked_is e = rw (so (name_decides name) n) (ap (brings_back x) e)
 

@@ -169,10 +169,10 @@ module _ (G : List Step) (ends : List ℕ) where
         go (some g) i e below = let r = found_sound n f (i ∙ e) in (r.0, omega (arith, r.1))
         go none i e below = let r = below e in (r.0, omega (arith, r.1))
 
-    module _ (order : Sorted step_key G) (order-of-starts : Sorted (λ a. a ∷ []) starts) where
+    module _ (order : Sorted step_key G) (order_of_starts : Sorted (λ a. a ∷ []) starts) where
       found_least : (n : ℕ) (f : Found) → Runs f → length f.walk ≡ n → (g : Found) × (found_by n ≡ some g) × (¬ (walk_key f ≺ walk_key g))
       found_least n f h e = let w = walk_least order todo n f.start f.walk h.1 e in
-          let r = first_least (λ a. a ∷ []) (λ a. from_start a (walk_by G ends todo n a)) starts order-of-starts f.start h.0 (record { start = f.start; walk = w.0 }) (ap (from_start f.start) w.1) in
+          let r = first_least (λ a. a ∷ []) (λ a. from_start a (walk_by G ends todo n a)) starts order_of_starts f.start h.0 (record { start = f.start; walk = w.0 }) (ap (from_start f.start) w.1) in
           let b = begin_out n r.0 r.1 r.3 in (
             r.1,
             r.2,

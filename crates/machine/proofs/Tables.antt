@@ -35,16 +35,16 @@ abbrev pub with_row : Row → List Row → List Row
 with_row r rows = insert_by row_bytes r rows
 
 -- a row under any limits
-module _ (max-rows max-sets : ℕ) (r : Row) (rows : List Row) where
+module _ (max_rows max_sets : ℕ) (r : Row) (rows : List Row) where
   -- what admitting it comes to
   abbrev pub Admission : Turn (List Row) → Type 0
-  Admission (go rows') = ((r among rows) × (rows' ≡ rows)) ⊎ (¬ (r among rows) × (length rows < max-rows) × (length (standing_sets rows') ≤ max-sets) × (rows' ≡ with_row r rows))
-  Admission (stop n) = length (standing_sets rows) ≤ max-sets → AdmitStops max-rows max-sets rows r n
+  Admission (go rows') = ((r among rows) × (rows' ≡ rows)) ⊎ (¬ (r among rows) × (length rows < max_rows) × (length (standing_sets rows') ≤ max_sets) × (rows' ≡ with_row r rows))
+  Admission (stop n) = length (standing_sets rows) ≤ max_sets → AdmitStops max_rows max_sets rows r n
 
-  pub admission : Admission (admit_row max-rows max-sets r rows)
-  admission = by (stands? r rows) (ltb (length rows) max-rows) (leb (length (standing_sets (with_row r rows))) max-sets) (stands_decides r rows) (ltb_decides _ _) (leb_decides _ _)
+  pub admission : Admission (admit_row max_rows max_sets r rows)
+  admission = by (stands? r rows) (ltb (length rows) max_rows) (leb (length (standing_sets (with_row r rows))) max_sets) (stands_decides r rows) (ltb_decides _ _) (leb_decides _ _)
     where
-      by : (a b c : Bool) → Decides a (r among rows) → Decides b (length rows < max-rows) → Decides c (length (standing_sets (with_row r rows)) ≤ max-sets)
+      by : (a b c : Bool) → Decides a (r among rows) → Decides b (length rows < max_rows) → Decides c (length (standing_sets (with_row r rows)) ≤ max_sets)
           → Admission (cond a (go rows) (cond b (cond c (go (with_row r rows)) (stop 7)) (stop 6)))
       by true b c p q s = inl (yes_decides p, refl)
       by false true true p q s = inr (no_decides p, yes_decides q, yes_decides s, refl)
@@ -53,12 +53,12 @@ module _ (max-rows max-sets : ℕ) (r : Row) (rows : List Row) where
           (sets_new rows (with_row r rows) r (insert_iff row_bytes r rows)).1
 
   -- a row that stands
-  pub admitted_same : r among rows → admit_row max-rows max-sets r rows ≡ go rows
+  pub admitted_same : r among rows → admit_row max_rows max_sets r rows ≡ go rows
   admitted_same m = rw (so (stands_decides r rows) m)
 
   -- a row for which there is room
-  pub admitted_new : ¬ (r among rows) → length rows < max-rows → length (standing_sets (with_row r rows)) ≤ max-sets → admit_row max-rows max-sets r rows ≡ go (with_row r rows)
-  admitted_new n k s = rw (not_so (stands_decides r rows) n, so (ltb_decides (length rows) max-rows) k, so (leb_decides (length (standing_sets (with_row r rows))) max-sets) s)
+  pub admitted_new : ¬ (r among rows) → length rows < max_rows → length (standing_sets (with_row r rows)) ≤ max_sets → admit_row max_rows max_sets r rows ≡ go (with_row r rows)
+  admitted_new n k s = rw (not_so (stands_decides r rows) n, so (ltb_decides (length rows) max_rows) k, so (leb_decides (length (standing_sets (with_row r rows))) max_sets) s)
 
   -- a set that no row has is one more
   more_sets : (P : ℕ) → P among sets_of r → ¬ (P among standing_sets rows) → length (standing_sets rows) < length (standing_sets (with_row r rows))
@@ -68,13 +68,13 @@ module _ (max-rows max-sets : ℕ) (r : Row) (rows : List Row) where
       (Memᴰ.cases_cons m))
 
   -- a row that is refused
-  pub admit_stops : (n : ℕ) → length (standing_sets rows) ≤ max-sets → (admit_row max-rows max-sets r rows ≡ stop n) ↔ AdmitStops max-rows max-sets rows r n
+  pub admit_stops : (n : ℕ) → length (standing_sets rows) ≤ max_sets → (admit_row max_rows max_sets r rows ≡ stop n) ↔ AdmitStops max_rows max_sets rows r n
   admit_stops n h = ((λ e. subst Admission e admission h), of)
     where
-      of : {n : ℕ} → AdmitStops max-rows max-sets rows r n → admit_row max-rows max-sets r rows ≡ stop n
-      of (full k l) = rw (not_so (stands_decides r rows) k, not_so (ltb_decides (length rows) max-rows) (λ i. omega arith))
+      of : {n : ℕ} → AdmitStops max_rows max_sets rows r n → admit_row max_rows max_sets r rows ≡ stop n
+      of (full k l) = rw (not_so (stands_decides r rows) k, not_so (ltb_decides (length rows) max_rows) (λ i. omega arith))
       of (sets_full P k l i j s) =
-          rw (not_so (stands_decides r rows) k, so (ltb_decides (length rows) max-rows) l, not_so (leb_decides (length (standing_sets (with_row r rows))) max-sets) (λ q. omega (arith, more_sets P i j)))
+          rw (not_so (stands_decides r rows) k, so (ltb_decides (length rows) max_rows) l, not_so (leb_decides (length (standing_sets (with_row r rows))) max_sets) (λ q. omega (arith, more_sets P i j)))
 
 -- loading a row: under document 01's limits
 pub load_go : (r : Row) (rows rows' : List Row) → load_row r rows ≡ go rows' → Admission most_rows most_sets r rows (go rows')

@@ -43,9 +43,9 @@ pub data Writes (m : Machine) : Call → List ℕ → ℕ → Type 0 where
   expresses : (size : ℕ) → m.phase ≡ Settled NonEmpty → Writes m (expression size) (expression_of m) size
 
 -- 6: row not standing, as many stand as may; 7: a set more than there may be
-pub data AdmitStops (max-rows max-sets : ℕ) (rows : List Row) (r : Row) : ℕ → Type 0 where
-  full : ¬ (r among rows) → max-rows ≤ length rows → AdmitStops max-rows max-sets rows r 6
-  sets_full : (P : ℕ) → ¬ (r among rows) → length rows < max-rows → P among sets_of r → ¬ (P among standing_sets rows) → max-sets ≤ length (standing_sets rows) → AdmitStops max-rows max-sets rows r 7
+pub data AdmitStops (max_rows max_sets : ℕ) (rows : List Row) (r : Row) : ℕ → Type 0 where
+  full : ¬ (r among rows) → max_rows ≤ length rows → AdmitStops max_rows max_sets rows r 6
+  sets_full : (P : ℕ) → ¬ (r among rows) → length rows < max_rows → P among sets_of r → ¬ (P among standing_sets rows) → max_sets ≤ length (standing_sets rows) → AdmitStops max_rows max_sets rows r 7
 
 -- 6: row not standing, 256 stand; 7: a 65th set
 abbrev pub LoadStops : List Row → Row → ℕ → Type 0

@@ -49,9 +49,9 @@ longest_batch = 65536
 
 -- a row that stands already changes nothing; 6: as many rows as may stand do; 7: it would bring a set too many
 abbrev pub admit_row : ℕ → ℕ → Row → List Row → Turn (List Row)
-admit_row max-rows max-sets r rows = let new = insert_by row_bytes r rows in
+admit_row max_rows max_sets r rows = let new = insert_by row_bytes r rows in
     cond (stands? r rows) (go rows)
-    (cond (ltb (length rows) max-rows) (cond (leb (length (standing_sets new)) max-sets) (go new) (stop 7)) (stop 6))
+    (cond (ltb (length rows) max_rows) (cond (leb (length (standing_sets new)) max_sets) (go new) (stop 7)) (stop 6))
 
 -- 6: 256 stand; 7: a 65th set
 unfoldable pub load_row : Row → List Row → Turn (List Row)

@@ -59,7 +59,7 @@ mark_under name m (k ∷ l) = cond (same_numbers name k.name) (record { name = n
 -- a call of document 01 or of a later request on the machine as it is now, or one of the two on its marks, with the bytes of a name
 pub data MarkedCall : Type 0 where
   on : Call → MarkedCall
-  mark return-to : List ℕ → MarkedCall
+  mark return_to : List ℕ → MarkedCall
 
 pub record MarkedNext : Type 0 where
   pub machine : Marked
@@ -88,7 +88,7 @@ brings_back x (some m) = accept_marked (record { now = m; marks = x.marks })
 unfoldable pub marked_call : Marked → MarkedCall → MarkedNext
 marked_call x (on c) = call_now x c
 marked_call x (mark name) = cond (name? name) (marks_to x (mark_under name x.now x.marks)) (refuse_marked x 14)
-marked_call x (return-to name) = cond (name? name) (brings_back x (kept_under name x.marks)) (refuse_marked x 14)
+marked_call x (return_to name) = cond (name? name) (brings_back x (kept_under name x.marks)) (refuse_marked x 14)
 
 -- it is fed a list of calls in order
 abbrev pub marked_run : Marked → List MarkedCall → Marked
@@ -99,12 +99,12 @@ marked_run x (c ∷ cs) = marked_run (marked_call x c).machine cs
 abbrev pub MarkedBrings : MarkedCall → Type 0
 MarkedBrings (on c) = Brings c
 MarkedBrings (mark name) = Unit {0}
-MarkedBrings (return-to name) = Unit {0}
+MarkedBrings (return_to name) = Unit {0}
 
 -- the calls that bring a name
 pub data BringsName : MarkedCall → List ℕ → Type 0 where
   marking : (name : List ℕ) → BringsName (mark name) name
-  returning : (name : List ℕ) → BringsName (return-to name) name
+  returning : (name : List ℕ) → BringsName (return_to name) name
 
 -- the table of causes, with the numbers that the request adds, place 0
 pub data MarkedCause (x : Marked) : MarkedCall → ℕ → ℕ → Type 0 where
@@ -112,7 +112,7 @@ pub data MarkedCause (x : Marked) : MarkedCall → ℕ → ℕ → Type 0 where
   -- name of another form
   no_name : (c : MarkedCall) (name : List ℕ) → BringsName c name → ¬ Name name → MarkedCause x c 14 0
   -- return to a name without a mark
-  no_mark : (name : List ℕ) → Name name → ¬ (name among names x.marks) → MarkedCause x (return-to name) 15 0
+  no_mark : (name : List ℕ) → Name name → ¬ (name among names x.marks) → MarkedCause x (return_to name) 15 0
   -- a fifth name
   fifth_name : (name : List ℕ) → Name name → ¬ (name among names x.marks) → most_marks ≤ length x.marks → MarkedCause x (mark name) 16 0
 

@@ -18,7 +18,7 @@ use Rattle.machine.specs.Order.{Found}
 use Rattle.machine.specs.Sheet.{verdict_line, opening_line, walk_lines, sheet}
 use Rattle.machine.specs.Word.{numbers, Uses, TellsWalk}
 use Rattle.machine.specs.Calls.{load, round, verdict, print, expression, done, wrote, decided, refused, accept, call, second}
-use Rattle.machine.specs.Marks.{Marked, fresh_marked, MarkedCall, mark, return-to, marked_call, marked_run, MarkedBrings}
+use Rattle.machine.specs.Marks.{Marked, fresh_marked, MarkedCall, mark, return_to, marked_call, marked_run, MarkedBrings}
 
 -- a walk of zero or more steps, with letter steps and steps of the claims l, leads from an initial to a final state
 abbrev pub SomeWalk : List Row → List Claim → Type 0
@@ -119,9 +119,9 @@ after_calls cs = (marked_run fresh_marked cs).now
 
 -- request C-11, of a return on y to what was marked on x: it is accepted, brings back the whole machine, and keeps the marks
 pub record Returns (x : Marked) (name : List ℕ) (y : Marked) : Type 0 where
-  pub accepted : (marked_call y (return-to name)).answer ≡ done
-  pub now_is : (marked_call y (return-to name)).machine.now ≡ x.now
-  pub marks_are : (marked_call y (return-to name)).machine.marks ≡ y.marks
+  pub accepted : (marked_call y (return_to name)).answer ≡ done
+  pub now_is : (marked_call y (return_to name)).machine.now ≡ x.now
+  pub marks_are : (marked_call y (return_to name)).machine.marks ≡ y.marks
 
 -- after a mark, whatever is called but a mark under the same name
 abbrev pub EveryReturn : Type 0
@@ -131,7 +131,7 @@ EveryReturn = (x : Marked) (name : List ℕ) (cs : List MarkedCall) → (marked_
 -- mark and then return is the same
 abbrev pub MarkAndReturn : Type 0
 MarkAndReturn = (x : Marked) (name : List ℕ) → (marked_call x (mark name)).answer ≡ done
-    → (marked_call (marked_call x (mark name)).machine (return-to name)).machine ≡ (marked_call x (mark name)).machine
+    → (marked_call (marked_call x (mark name)).machine (return_to name)).machine ≡ (marked_call x (mark name)).machine
 
 -- request C-14, of a machine that calls make: rounds end, since every round but the last opens something
 pub record RoundsEnd (m : Machine) : Type 0 where

@@ -6,7 +6,7 @@ use native.Mathlib.Omega.{arith}
 use native.Mathlib.Numerals.{add-one}
 use lib.ListN.{length, get_or, take, set}
 use lib.Seq.{take-suc, take-suc-set}
-use Rattle.lists.proofs.Places.{getD_among}
+use Rattle.lists.proofs.Places.{get_or_among}
 use Rattle.rows.specs.declared.Row.{Row}
 use Rattle.rows.specs.Rows.{AllFit}
 use Rattle.rows.specs.Keys.{high, low}
@@ -25,7 +25,7 @@ module _ (rows : List Row) (fit : AllFit rows) (highs lows : List ℕ) (n : ℕ)
       let in_rows : i < length rows = omega (arith, k.count) in
       let few_rows : length rows ≤ 256 = omega (arith, k.count) in
       let word : get_or lows i 0 % 65536 ≡ low r =
-      ap (λ (x : ℕ). x % 65536) (part_at low lows rows n k.lows_are none i h k.count) ∙ omega (arith, low_short r (fit r (getD_among rows i none in_rows))) in (
+      ap (λ (x : ℕ). x % 65536) (part_at low lows rows n k.lows_are none i h k.count) ∙ omega (arith, low_short r (fit r (get_or_among rows i none in_rows))) in (
         rw (p.0, part_at high highs rows n k.highs_are none i h k.count) (fill_more 256 0 high rows i in_rows few_rows),
         rw (p.1, word) (fill_more 256 0 low rows i in_rows few_rows),
       )

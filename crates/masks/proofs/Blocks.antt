@@ -96,7 +96,7 @@ module _ (b g : ℕ) (old : List ℕ) where
   pub exchanging_more : (i : ℕ) (new : List ℕ) (v u : ℕ) → Width b → g % (2 * b) ≡ 0 → g + 2 * b ≤ 64 → i < b → Exchanging b g old i new
       → LowMask b (get_or new (g + i) 0) (get_or new (g + b + i) 0) v → HighMask b (get_or new (g + i) 0) (get_or new (g + b + i) 0) u
       → Exchanging b g old (i + 1) (set (set new (g + i) v) (g + b + i) u)
-  exchanging_more i new v u w even fits l now is-v is-u = record {
+  exchanging_more i new v u w even fits l now is_v is_u = record {
     length_is = length-set (set new (g + i) v) (g + b + i) u ∙ length-set new (g + i) v ∙ now.length_is;
     lows = λ e. below_more _ i (λ k h. subst (Exchanged b old (g + k)) (sym (same (g + k) (λ q. omega arith) (λ q. omega arith))) (now.lows e k h))
         (subst (Exchanged b old (g + i)) (sym (get_or-set_other (set new (g + i) v) (g + b + i) (g + i) u 0 (λ q. omega arith)
@@ -123,10 +123,10 @@ module _ (b g : ℕ) (old : List ℕ) where
       there = now.others (g + b + i) (λ a c. omega arith) (λ a c. omega arith) ∙ ap (λ (x : ℕ). get_or old x 0) (sym turn)
 
       low : LowMask b (get_or old (g + i) 0) (get_or old (g + i + b) 0) v
-      low = rw (here, there) at is-v
+      low = rw (here, there) at is_v
 
       high : HighMask b (get_or old (g + i) 0) (get_or old (g + i + b) 0) u
-      high = rw (here, there) at is-u
+      high = rw (here, there) at is_u
 
   pub exchanging_end : (new : List ℕ) → Exchanging b g old b new → RowsExchanged b g old new
   exchanging_end new now = record {

@@ -47,13 +47,13 @@ below_two P a b (suc (suc x)) h = absurd (omega arith)
 module _ (op : ℕ → ℕ → ℕ) (f : Bool → Bool → Bool)
     (shr : (a b k : ℕ) → op a b / 2 ^ k ≡ op (a / 2 ^ k) (b / 2 ^ k))
     (rem : (a b k : ℕ) → op a b % 2 ^ k ≡ op (a % 2 ^ k) (b % 2 ^ k))
-    (on-00 : eqb (op 0 0) 1 ≡ f false false) (on-01 : eqb (op 0 1) 1 ≡ f false true)
-    (on-10 : eqb (op 1 0) 1 ≡ f true false) (on-11 : eqb (op 1 1) 1 ≡ f true true) where
+    (on_00 : eqb (op 0 0) 1 ≡ f false false) (on_01 : eqb (op 0 1) 1 ≡ f false true)
+    (on_10 : eqb (op 1 0) 1 ≡ f true false) (on_11 : eqb (op 1 1) 1 ≡ f true true) where
   low : (x y : ℕ) → x < 2 → y < 2 → eqb (op x y) 1 ≡ f (eqb x 1) (eqb y 1)
   low x y hx =
       below_two (λ y. eqb (op x y) 1 ≡ f (eqb x 1) (eqb y 1))
-      (below_two (λ x. eqb (op x 0) 1 ≡ f (eqb x 1) false) on-00 on-10 x hx)
-      (below_two (λ x. eqb (op x 1) 1 ≡ f (eqb x 1) true) on-01 on-11 x hx) y
+      (below_two (λ x. eqb (op x 0) 1 ≡ f (eqb x 1) false) on_00 on_10 x hx)
+      (below_two (λ x. eqb (op x 1) 1 ≡ f (eqb x 1) true) on_01 on_11 x hx) y
 
   digit_op : (t a b : ℕ) → digit t (op a b) ≡ f (digit t a) (digit t b)
   unfolding digit

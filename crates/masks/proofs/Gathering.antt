@@ -54,9 +54,9 @@ here_end A {places} now none i = let all = gather_end now none i in (
 -- the lowest place is taken from the rest, and what it gives is added
 pub gather_more : {B : ℕ → ℕ → Type 0} {places rest low rest' : ℕ} (r g r' : ℕ) → TakesLowest rest low rest' → Gathered B places rest r
     → ((t : ℕ) → (t ∈ g) ↔ B low t) → ((t : ℕ) → member t r' ≡ (member t r || member t g)) → Gathered B places rest' r'
-gather_more {low} r g r' taken now gives is-r = record {
-  through = passed_more taken now.through (λ i n f t b. union_left r g r' is-r t (f t b)) (λ t b. union_right r g r' is-r t ((gives t).1 b));
-  sound = λ t h. ⊎_elim (now.sound t) (λ x. (low, now.through.left low taken.is, (gives t).0 x)) (union_cases r g r' is-r t h);
+gather_more {low} r g r' taken now gives is_r = record {
+  through = passed_more taken now.through (λ i n f t b. union_left r g r' is_r t (f t b)) (λ t b. union_right r g r' is_r t ((gives t).1 b));
+  sound = λ t h. ⊎_elim (now.sound t) (λ x. (low, now.through.left low taken.is, (gives t).0 x)) (union_cases r g r' is_r t h);
 }
 
 -- the lowest place gives nothing

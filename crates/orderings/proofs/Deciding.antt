@@ -218,9 +218,9 @@ module _ (rows : List Row) where
 -- the states that rows of one kind name and that are not struck, as lists
 only_one : (f : Row → List ℕ) (make : ℕ → Row) (rows : List Row) → ((s : ℕ) → s among f (make s)) → ((r : Row) (s : ℕ) → s among f r → r ≡ make s)
     → (a : ℕ) → a among keep (unstruck? rows) (gather f rows) ↔ (make a among rows × ¬ Struck rows a)
-only_one f make rows in-it is_it a = let k = keep_decides (unstruck_decides rows) (gather f rows) a in (
+only_one f make rows in_it is_it a = let k = keep_decides (unstruck_decides rows) (gather f rows) a in (
   (λ m. let r = gather_out f a rows (k.0 m).0 in (subst (λ x. x among rows) (is_it r.0 a r.2) r.1, (k.0 m).1)),
-  λ h. k.1 (gather_in f h.0 (in-it a), h.1),
+  λ h. k.1 (gather_in f h.0 (in_it a), h.1),
 )
 
 pub initials_iff : (rows : List Row) (a : ℕ) → a among initials rows ↔ IsInitial rows a

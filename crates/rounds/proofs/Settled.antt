@@ -74,27 +74,27 @@ closed_letters m given b r = closed_tested m given.table.few_sets b
 pub forced_of : (m : Machine) → WellFormed m → (g : Graph) (n : ℕ) → SetsIn m.rows g.sets n → (loop-rounds mix-rounds : List ℕ)
     → loop-rounds ≡ rounds_of m loops → mix-rounds ≡ rounds_of m mixes
     → (force : Claims) → OpenPlaces loop-rounds n force.loops → OpenPlaces mix-rounds n force.mixes → Forced (λ c. c among open_claims m) g n force
-forced_of m w g n d loop-rounds mix-rounds is-l is_m force f h =
+forced_of m w g n d loop-rounds mix-rounds is_l is_m force f h =
     forced_by m g n (sets_in_held m.rows g.sets n d) d.count (λ r. 0 < r) (λ c. c among open_claims m) (round_iff m.openings (grounded m w).low) force
-    (subst (λ (l : List ℕ). OpenPlaces l n force.loops) is-l f) (subst (λ (l : List ℕ). OpenPlaces l n force.mixes) is_m h)
+    (subst (λ (l : List ℕ). OpenPlaces l n force.loops) is_l f) (subst (λ (l : List ℕ). OpenPlaces l n force.mixes) is_m h)
 
 -- what a round comes to, with the claims in force, those that it opens, and both
-pub record Round (g : Graph) (initials finals n : ℕ) (force new all : Claims) (k : ℕ) (loop-rounds mix-rounds : List ℕ) (accepted vain : Bool) (loop-notes mix-notes : List ℕ) : Type 0 where
+pub record Round (g : Graph) (initials finals n : ℕ) (force new all : Claims) (k : ℕ) (loop-rounds mix-rounds : List ℕ) (accepted vain : Bool) (loop_notes mix_notes : List ℕ) : Type 0 where
   pub opens : OpensBelow g force n n new
   pub with_new : WithNew force new all
   pub tested : AcceptsRight g all initials finals accepted
   pub vain_iff : Decides vain ((t : ℕ) → (¬ (t ∈ new.loops)) × (¬ (t ∈ new.mixes)))
-  pub loop_noted : Notes loop-rounds new.loops (k + 1) loop-notes
-  pub mix_noted : Notes mix-rounds new.mixes (k + 1) mix-notes
+  pub loop_noted : Notes loop-rounds new.loops (k + 1) loop_notes
+  pub mix_noted : Notes mix-rounds new.mixes (k + 1) mix_notes
 
 module _ (m : Machine) {g : Graph} {initials finals n : ℕ} (given : Given m.rows g initials finals n)
     {force new all : Claims} {loop-rounds mix-rounds : List ℕ} {phase : Phase} {k : ℕ} (kept : Mirrors m loop-rounds mix-rounds phase k)
-    (forced : Forced (λ c. c among open_claims m) g n force) {accepted vain : Bool} {loop-notes mix-notes : List ℕ}
-    (r : Round g initials finals n force new all k loop-rounds mix-rounds accepted vain loop-notes mix-notes) where
+    (forced : Forced (λ c. c among open_claims m) g n force) {accepted vain : Bool} {loop_notes mix_notes : List ℕ}
+    (r : Round g initials finals n force new all k loop-rounds mix-rounds accepted vain loop_notes mix_notes) where
   notes : (claim : ℕ → Claim) (old now : List ℕ) (places : ℕ) → old ≡ rounds_of m claim → Notes old places (k + 1) now → Notes (rounds_of m claim) places (m.rounds + 1) now
   notes claim old now places is h = subst (λ (l : List ℕ). Notes l places (m.rounds + 1) now) is (subst (λ (i : ℕ). Notes old places (i + 1) now) kept.count_is h)
 
-  turn : Turn m g initials finals n force new all accepted vain loop-notes mix-notes
+  turn : Turn m g initials finals n force new all accepted vain loop_notes mix_notes
   turn = record {
     given = given;
     forced = forced;
@@ -102,13 +102,13 @@ module _ (m : Machine) {g : Graph} {initials finals n : ℕ} (given : Given m.ro
     with_new = r.with_new;
     tested = r.tested;
     vain_iff = r.vain_iff;
-    loop_noted = notes loops loop-rounds loop-notes new.loops kept.loops_are r.loop_noted;
-    mix_noted = notes mixes mix-rounds mix-notes new.mixes kept.mixes_are r.mix_noted;
+    loop_noted = notes loops loop-rounds loop_notes new.loops kept.loops_are r.loop_noted;
+    mix_noted = notes mixes mix-rounds mix_notes new.mixes kept.mixes_are r.mix_noted;
   }
 
-  pub next_kept : Mirrors (next_round m) loop-notes mix-notes (judged accepted vain) (k + 1)
+  pub next_kept : Mirrors (next_round m) loop_notes mix_notes (judged accepted vain) (k + 1)
   next_kept = let e : m.rounds + 1 ≡ k + 1 = omega (arith, kept.count_is) in
-      subst (Mirrors (next_round m) loop-notes mix-notes (judged accepted vain)) e (turn_kept turn)
+      subst (Mirrors (next_round m) loop_notes mix_notes (judged accepted vain)) e (turn_kept turn)
 
 -- ---- from round to round
 
@@ -147,7 +147,7 @@ module _ {g back : Graph} {n pieces : ℕ} {old : Claims} {fresh places : ℕ} {
   pub tracked_more : {new force : Claims} {to' from' : List ℕ} (fresh' live places' : ℕ) → TurnedGraph g back → WithNew old new force → OpensAwaited g old n places new → ((t : ℕ) → member t fresh' ≡ (member t new.loops && not (member t old.mixes)))
       → LiveBelow force n live → length to ≡ 64 → length from ≡ 64 → Supplies g new fresh' live to to' → Supplies back new fresh' live from from' → AboveNew g new live places'
       → Tracked g back n pieces force fresh' places' to' from'
-  tracked_more {new} {force} fresh' live places' turned is opens is-fresh is_live e f t b above = let fewer = live_fewer now.live live is now.live_is is_live in record {
+  tracked_more {new} {force} fresh' live places' turned is opens is_fresh is_live e f t b above = let fewer = live_fewer now.live live is now.live_is is_live in record {
     looping = λ i h. loops_more is (looped i h);
     live = live;
     live_is = is_live;
@@ -157,7 +157,7 @@ module _ {g back : Graph} {n pieces : ℕ} {old : Claims} {fresh places : ℕ} {
   }
     where
       looped : (i : ℕ) → i ∈ fresh' → LoopsAt g old i
-      looped i h = opens.tested i (difference_left new.loops old.mixes fresh' is-fresh i h) (difference_not new.loops old.mixes fresh' is-fresh i h)
+      looped i h = opens.tested i (difference_left new.loops old.mixes fresh' is_fresh i h) (difference_not new.loops old.mixes fresh' is_fresh i h)
 
 module _ (rows : List Row) {g : Graph} {initials finals n : ℕ} (given : Given rows g initials finals n) where
   pub stage_start : (b : Bool) → AcceptsRight g no_claims initials finals b → Stage rows g n no_claims (replicate 64 0) (replicate 64 0) (judged b false) 0
@@ -171,14 +171,14 @@ module _ (rows : List Row) {g : Graph} {initials finals n : ℕ} (given : Given 
   pub stage_paired : {force : Claims} {loop-rounds mix-rounds : List ℕ} {phase : Phase} {k : ℕ} → Stage rows g n force loop-rounds mix-rounds phase k → Paired g force n
   stage_paired {k = k} s = paired_by (record { masked = given.masked; forced = s.forced }) (sym given.sets_in.count) k (after_after rows k).claims
 
-  pub stage_more : {force new all : Claims} {loop-rounds mix-rounds : List ℕ} {phase : Phase} {k : ℕ} {accepted vain : Bool} {loop-notes mix-notes : List ℕ}
-      → Stage rows g n force loop-rounds mix-rounds phase k → phase ≡ Running → Round g initials finals n force new all k loop-rounds mix-rounds accepted vain loop-notes mix-notes
-      → Stage rows g n all loop-notes mix-notes (judged accepted vain) (k + 1)
-  stage_more {all = all} {k = k} {accepted} {vain} {loop-notes} {mix-notes} s running r =
+  pub stage_more : {force new all : Claims} {loop-rounds mix-rounds : List ℕ} {phase : Phase} {k : ℕ} {accepted vain : Bool} {loop_notes mix_notes : List ℕ}
+      → Stage rows g n force loop-rounds mix-rounds phase k → phase ≡ Running → Round g initials finals n force new all k loop-rounds mix-rounds accepted vain loop_notes mix_notes
+      → Stage rows g n all loop_notes mix_notes (judged accepted vain) (k + 1)
+  stage_more {all = all} {k = k} {accepted} {vain} {loop_notes} {mix_notes} s running r =
       let e : suc k ≡ k + 1 = omega arith in
       let here = subst (λ (l : List Row). Given l g initials finals n) (sym (after_after rows k).same_rows) given in
-      subst (λ (j : ℕ). Stage rows g n all loop-notes mix-notes (judged accepted vain) j) e (record {
-        kept = subst (Mirrors (next_round (after rows k)) loop-notes mix-notes (judged accepted vain)) (sym e) (next_kept (after rows k) here s.kept s.forced r);
+      subst (λ (j : ℕ). Stage rows g n all loop_notes mix_notes (judged accepted vain) j) e (record {
+        kept = subst (Mirrors (next_round (after rows k)) loop_notes mix_notes (judged accepted vain)) (sym e) (next_kept (after rows k) here s.kept s.forced r);
         forced = turn_forced (turn (after rows k) here s.kept s.forced r);
         before = below_next {P = λ i. (after rows i).phase ≡ Running} k s.before (sym s.kept.phase_is ∙ running);
       })
@@ -187,17 +187,17 @@ module _ (rows : List Row) {g : Graph} {initials finals n : ℕ} (given : Given 
 pub round_paired : (m : Machine) → WellFormed m → {g : Graph} {initials finals n : ℕ} → Given m.rows g initials finals n
     → (force : Claims) {loop-rounds mix-rounds : List ℕ} {phase : Phase} {k : ℕ} → Mirrors m loop-rounds mix-rounds phase k
     → OpenPlaces loop-rounds n force.loops → OpenPlaces mix-rounds n force.mixes → Paired g force n
-round_paired m w {g} {n = n} given force {loop-rounds} {mix-rounds} kept is-l is_m = let o = open_by m w in
-    paired_by (record { masked = given.masked; forced = forced_of m w g n given.sets_in loop-rounds mix-rounds kept.loops_are kept.mixes_are force is-l is_m })
+round_paired m w {g} {n = n} given force {loop-rounds} {mix-rounds} kept is_l is_m = let o = open_by m w in
+    paired_by (record { masked = given.masked; forced = forced_of m w g n given.sets_in loop-rounds mix-rounds kept.loops_are kept.mixes_are force is_l is_m })
     (sym given.sets_in.count) o.0 o.1
 
 -- a round of a machine that calls made, whose claims in force are read from the arrays
 pub round_kept : (m : Machine) → WellFormed m → {g : Graph} {initials finals n : ℕ} → Given m.rows g initials finals n
     → (force new all : Claims) {loop-rounds mix-rounds : List ℕ} {phase : Phase} {k : ℕ} → Mirrors m loop-rounds mix-rounds phase k
-    → OpenPlaces loop-rounds n force.loops → OpenPlaces mix-rounds n force.mixes → {accepted vain : Bool} {loop-notes mix-notes : List ℕ}
-    → Round g initials finals n force new all k loop-rounds mix-rounds accepted vain loop-notes mix-notes → Mirrors (next_round m) loop-notes mix-notes (judged accepted vain) (k + 1)
-round_kept m w {g} {n = n} given force new all {loop-rounds} {mix-rounds} kept is-l is_m r =
-    next_kept m given kept (forced_of m w g n given.sets_in loop-rounds mix-rounds kept.loops_are kept.mixes_are force is-l is_m) r
+    → OpenPlaces loop-rounds n force.loops → OpenPlaces mix-rounds n force.mixes → {accepted vain : Bool} {loop_notes mix_notes : List ℕ}
+    → Round g initials finals n force new all k loop-rounds mix-rounds accepted vain loop_notes mix_notes → Mirrors (next_round m) loop_notes mix_notes (judged accepted vain) (k + 1)
+round_kept m w {g} {n = n} given force new all {loop-rounds} {mix-rounds} kept is_l is_m r =
+    next_kept m given kept (forced_of m w g n given.sets_in loop-rounds mix-rounds kept.loops_are kept.mixes_are force is_l is_m) r
 
 -- running no more after k rounds, or as many done as were called for
 pub stage_end : {rows : List Row} {g : Graph} {n : ℕ} {force : Claims} {loop-rounds mix-rounds : List ℕ} {phase : Phase} {k : ℕ}

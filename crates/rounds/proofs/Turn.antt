@@ -61,19 +61,19 @@ walk_test rows {n = n} given claims b f r = alike
 -- ---- a round
 
 -- what a round does with the claims in force, and with the rounds of the claims
-pub record Turn (m : Machine) (g : Graph) (initials finals n : ℕ) (force new all : Claims) (accepted vain : Bool) (loop-notes mix-notes : List ℕ) : Type 0 where
+pub record Turn (m : Machine) (g : Graph) (initials finals n : ℕ) (force new all : Claims) (accepted vain : Bool) (loop_notes mix_notes : List ℕ) : Type 0 where
   pub given : Given m.rows g initials finals n
   pub forced : Forced (λ c. c among open_claims m) g n force
   pub opened : Opened g m.rows (open_claims m) n new
   pub with_new : WithNew force new all
   pub tested : AcceptsRight g all initials finals accepted
   pub vain_iff : Decides vain ((t : ℕ) → (¬ (t ∈ new.loops)) × (¬ (t ∈ new.mixes)))
-  pub loop_noted : Notes (rounds_of m loops) new.loops (m.rounds + 1) loop-notes
-  pub mix_noted : Notes (rounds_of m mixes) new.mixes (m.rounds + 1) mix-notes
+  pub loop_noted : Notes (rounds_of m loops) new.loops (m.rounds + 1) loop_notes
+  pub mix_noted : Notes (rounds_of m mixes) new.mixes (m.rounds + 1) mix_notes
 
 -- what it comes to: the rounds of the claims, the phase and the claims in force of the machine after the round
-module _ {m : Machine} {g : Graph} {initials finals n : ℕ} {force new all : Claims} {accepted vain : Bool} {loop-notes mix-notes : List ℕ}
-    (d : Turn m g initials finals n force new all accepted vain loop-notes mix-notes) where
+module _ {m : Machine} {g : Graph} {initials finals n : ℕ} {force new all : Claims} {accepted vain : Bool} {loop_notes mix_notes : List ℕ}
+    (d : Turn m g initials finals n force new all accepted vain loop_notes mix_notes) where
   -- the set at a place
   abbrev P : ℕ → ℕ
   P i = get_or g.sets i 0
@@ -139,11 +139,11 @@ module _ {m : Machine} {g : Graph} {initials finals n : ℕ} {force new all : Cl
       place : (i : ℕ) → (i ∈ mask) ↔ ((i < n) × claim (P i) among opened_next m) → (i ∈ mask) ↔ ((i < length (standing_sets m.rows)) × claim (set_at m i) among opened_next m)
       place i f = rw (d.given.sets_in.count, ap (λ (l : List ℕ). get_or l i 0) d.given.sets_in.sets_are) at f
 
-  pub turn_kept : Mirrors (next_round m) loop-notes mix-notes (judged accepted vain) (m.rounds + 1)
+  pub turn_kept : Mirrors (next_round m) loop_notes mix_notes (judged accepted vain) (m.rounds + 1)
   unfolding next_round
   turn_kept = record {
-    loops_are = notes_next loops new.loops loop-notes new_loops d.loop_noted;
-    mixes_are = notes_next mixes new.mixes mix-notes new_mixes d.mix_noted;
+    loops_are = notes_next loops new.loops loop_notes new_loops d.loop_noted;
+    mixes_are = notes_next mixes new.mixes mix_notes new_mixes d.mix_noted;
     phase_is = phase_next;
     count_is = omega arith;
   }

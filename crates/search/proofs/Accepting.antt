@@ -57,8 +57,8 @@ module _ {rows : List Row} (fit : AllFit rows) where
   walk_all In [] h = tt
   walk_all In (t ∷ w) h = (step_all t.from t.label t.to h.0.0, walk_all In w h.2)
 
-  module _ {g : Graph} {n : ℕ} (is-rows : Masked rows g n) {In : Claim → Type 0} {force : Claims} (forced : Forced In g n force)
-      (initials finals : ℕ) (is-initials : Initials rows initials) (is-finals : Finals rows finals) where
+  module _ {g : Graph} {n : ℕ} (is_rows : Masked rows g n) {In : Claim → Type 0} {force : Claims} (forced : Forced In g n force)
+      (initials finals : ℕ) (is_initials : Initials rows initials) (is_finals : Finals rows finals) where
     abbrev Accepted : Type 0
     Accepted = (w : Walk) × Accepting rows w × Allowed (timelines rows) In w
 
@@ -68,12 +68,12 @@ module _ {rows : List Row} (fit : AllFit rows) where
     accepted_iff seen both reached is d = iff_decides to of d
       where
         to : (t : ℕ) × (t ∈ both) × (t ∈ finals) → Accepted
-        to (t, h, k) = ⊎_elim (λ j. ([], (t, t, (is-initials t).0 j, (is-finals t).0 k, refl), tt))
-            (λ j. let x = (reached t).0 j in let w = (chain_iff is-rows forced all_mask (all_claims g force) x.0 t).0 x.2 in
-            (w.0, (x.0, t, (is-initials x.0).0 x.1, (is-finals t).0 k, w.2), w.1.1)) (union_cases initials seen both is t h)
+        to (t, h, k) = ⊎_elim (λ j. ([], (t, t, (is_initials t).0 j, (is_finals t).0 k, refl), tt))
+            (λ j. let x = (reached t).0 j in let w = (chain_iff is_rows forced all_mask (all_claims g force) x.0 t).0 x.2 in
+            (w.0, (x.0, t, (is_initials x.0).0 x.1, (is_finals t).0 k, w.2), w.1.1)) (union_cases initials seen both is t h)
 
         of : Accepted → (t : ℕ) × (t ∈ both) × (t ∈ finals)
         of (w, (a, b, ha, hb, leads), allowed) = ⊎_elim
-            (λ e. (a, union_left initials seen both is a ((is-initials a).1 ha), subst (λ (x : ℕ). x ∈ finals) (sym e) ((is-finals b).1 hb)))
-            (λ c. (b, union_right initials seen both is b ((reached b).1 (a, (is-initials a).1 ha, chain_map (step_hop is-rows forced all_mask (all_claims g force)) c)), (is-finals b).1 hb))
+            (λ e. (a, union_left initials seen both is a ((is_initials a).1 ha), subst (λ (x : ℕ). x ∈ finals) (sym e) ((is_finals b).1 hb)))
+            (λ c. (b, union_right initials seen both is b ((reached b).1 (a, (is_initials a).1 ha, chain_map (step_hop is_rows forced all_mask (all_claims g force)) c)), (is_finals b).1 hb))
             (rest_of rows In all_mask a w b (leads, allowed, walk_all In w allowed))

@@ -30,63 +30,63 @@ module _ (g : Graph) (force : Claims) (p omegas found : ℕ) where
   }
 
   module _ (last from at entered letter claim near inside next rest : ℕ) (now : Unentered g force.loops p omegas found)
-      (is-from : (t : ℕ) → member t from ≡ (member t last && member t p))
+      (is_from : (t : ℕ) → member t from ≡ (member t last && member t p))
       (is_at : (i : ℕ) → (i ∈ at) ↔ ((s : ℕ) × (s ∈ from) × (s ∈ get_or g.sets i 0)))
-      (is-entered : (t : ℕ) → member t entered ≡ (member t at && member t omegas))
-      (is-letter : Onward (Lettered g) from letter) (is-claim : Touched g force entered from claim)
-      (is-near : (t : ℕ) → member t near ≡ (member t letter || member t claim))
-      (is-inside : (t : ℕ) → member t inside ≡ (member t near && member t p))
-      (is-next : (t : ℕ) → member t next ≡ (member t inside && not (member t found)))
-      (is-rest : (t : ℕ) → member t rest ≡ (member t omegas && not (member t entered))) where
+      (is_entered : (t : ℕ) → member t entered ≡ (member t at && member t omegas))
+      (is_letter : Onward (Lettered g) from letter) (is_claim : Touched g force entered from claim)
+      (is_near : (t : ℕ) → member t near ≡ (member t letter || member t claim))
+      (is_inside : (t : ℕ) → member t inside ≡ (member t near && member t p))
+      (is_next : (t : ℕ) → member t next ≡ (member t inside && not (member t found)))
+      (is_rest : (t : ℕ) → member t rest ≡ (member t omegas && not (member t entered))) where
     abbrev Stepped : ℕ → Type 0
     Stepped t = (s : ℕ) × (s ∈ last) × Hop g force p s t
 
     step : (s t : ℕ) → s ∈ from → t ∈ p → Lettered g s t ⊎ Claimed g force s t → Stepped t
-    step s t h k e = (s, intersection_left last p from is-from s h, record { start = intersection_right last p from is-from s h; end = k; kind = e })
+    step s t h k e = (s, intersection_left last p from is_from s h, record { start = intersection_right last p from is_from s h; end = k; kind = e })
 
     by_claim : (t : ℕ) → t ∈ p → Target g.lefts entered t ⊎ ((s : ℕ) × (s ∈ from) × BackOrMix g force s t) → Stepped t
     by_claim t k = ⊎_elim
         (λ x. let i = x.source in
-        let y = (is_at i).0 (intersection_left at omegas entered is-entered i x.is) in
-        step y.0 t y.1 k (inr (inl (inl (i, now.in_force i (intersection_right at omegas entered is-entered i x.is), y.2, x.edge)))))
+        let y = (is_at i).0 (intersection_left at omegas entered is_entered i x.is) in
+        step y.0 t y.1 k (inr (inl (inl (i, now.in_force i (intersection_right at omegas entered is_entered i x.is), y.2, x.edge)))))
         (λ y. step y.0 t y.1 k (inr (⊎_elim (λ e. inl (inr e)) inr y.2)))
 
     sound : (t : ℕ) → t ∈ next → Stepped t
     sound t h =
-        let i = difference_left inside found next is-next t h in
-        let k = intersection_right near p inside is-inside t i in
-        ⊎_elim (λ x. let y = (is-letter t).0 x in step y.0 t y.1 k (inl y.2)) (λ x. by_claim t k ((is-claim t).0 x))
-        (union_cases letter claim near is-near t (intersection_left near p inside is-inside t i))
+        let i = difference_left inside found next is_next t h in
+        let k = intersection_right near p inside is_inside t i in
+        ⊎_elim (λ x. let y = (is_letter t).0 x in step y.0 t y.1 k (inl y.2)) (λ x. by_claim t k ((is_claim t).0 x))
+        (union_cases letter claim near is_near t (intersection_left near p inside is_inside t i))
 
     -- a state near, in p, is found or new
     lands : (t : ℕ) → t ∈ p → t ∈ near → (t ∈ found) ⊎ (t ∈ next)
-    lands t k h = difference_cases inside found next is-next t (intersection_both near p inside is-inside t h k)
+    lands t k h = difference_cases inside found next is_next t (intersection_both near p inside is_inside t h k)
 
     by_left : (i t : ℕ) → i ∈ entered → t ∈ get_or g.lefts i 0 → t ∈ near
-    by_left i t h e = union_right letter claim near is-near t ((is-claim t).1 (inl (record { source = i; is = h; edge = e })))
+    by_left i t h e = union_right letter claim near is_near t ((is_claim t).1 (inl (record { source = i; is = h; edge = e })))
 
     by_step : (s t : ℕ) → s ∈ from → t ∈ p → Lettered g s t ⊎ Claimed g force s t → (t ∈ found) ⊎ (t ∈ next)
     by_step s t h k = ⊎_elim
-        (λ e. lands t k (union_left letter claim near is-near t ((is-letter t).1 (s, h, e))))
+        (λ e. lands t k (union_left letter claim near is_near t ((is_letter t).1 (s, h, e))))
         (⊎_elim
         (⊎_elim
         (λ e. ⊎_elim
-        (λ o. lands t k (by_left e.0 t (intersection_both at omegas entered is-entered e.0 ((is_at e.0).1 (s, h, e.2)) o) e.3))
+        (λ o. lands t k (by_left e.0 t (intersection_both at omegas entered is_entered e.0 ((is_at e.0).1 (s, h, e.2)) o) e.3))
         inl (now.others e.0 t e.1 e.3 k))
         (λ e. other (inl e)))
         (λ e. other (inr e)))
       where
         other : BackOrMix g force s t → (t ∈ found) ⊎ (t ∈ next)
-        other e = lands t k (union_right letter claim near is-near t ((is-claim t).1 (inr (s, h, e))))
+        other e = lands t k (union_right letter claim near is_near t ((is_claim t).1 (inr (s, h, e))))
 
     pub adding : next < 2 ^ 64 → Adding g force p omegas found last next rest
     adding fits = record {
       fits = fits;
       targets = λ t. (
-        (λ h. (sound t h, difference_not inside found next is-next t h)),
+        (λ h. (sound t h, difference_not inside found next is_next t h)),
         λ x. let y = x.0 in let e = y.2 in
-            ⊎_elim (λ k. absurd (x.1 k)) (λ k. k) (by_step y.0 t (intersection_both last p from is-from y.0 y.1 e.start) e.end e.kind),
+            ⊎_elim (λ k. absurd (x.1 k)) (λ k. k) (by_step y.0 t (intersection_both last p from is_from y.0 y.1 e.start) e.end e.kind),
       );
-      fewer = difference_left omegas entered rest is-rest;
-      entered = λ i t h e k. ⊎_elim (λ x. inr (lands t k (by_left i t x e))) inl (difference_cases omegas entered rest is-rest i h);
+      fewer = difference_left omegas entered rest is_rest;
+      entered = λ i t h e k. ⊎_elim (λ x. inr (lands t k (by_left i t x e))) inl (difference_cases omegas entered rest is_rest i h);
     }

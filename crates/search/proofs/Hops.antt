@@ -26,14 +26,14 @@ module _ {g : Graph} {force : Claims} {p : ℕ} where
   pub onward_hop : (m near u r : ℕ) → ((t : ℕ) → member t near ≡ (member t m && member t p))
       → Onward (λ s t. Lettered g s t ⊎ Claimed g force s t) near u
       → ((t : ℕ) → member t r ≡ (member t u && member t p)) → Onward (Hop g force p) m r
-  onward_hop m near u r is-near f is t = (
+  onward_hop m near u r is_near f is t = (
     (λ h. let x = (f t).0 (intersection_left u p r is t h) in (
       x.0,
-      intersection_left m p near is-near x.0 x.1,
-      record { start = intersection_right m p near is-near x.0 x.1; end = intersection_right u p r is t h; kind = x.2 },
+      intersection_left m p near is_near x.0 x.1,
+      record { start = intersection_right m p near is_near x.0 x.1; end = intersection_right u p r is t h; kind = x.2 },
     )),
     λ x. let e = x.2 in
-        intersection_both u p r is t ((f t).1 (x.0, intersection_both m p near is-near x.0 x.1 e.start, e.kind)) e.end,
+        intersection_both u p r is t ((f t).1 (x.0, intersection_both m p near is_near x.0 x.1 e.start, e.kind)) e.end,
   )
 
 -- the two ends of a step by a place, read from other lists and turned round

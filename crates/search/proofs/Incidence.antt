@@ -192,58 +192,58 @@ module _ (l : List ℕ) (m : ℕ) where
   module _ (is : Indexed l) where
     pub enters : (entered : ℕ) → Targets (part l 256) m entered → (i : ℕ) → (i ∈ entered) ↔ ((s : ℕ) × (s ∈ m) × (s ∈ get_or (graph_of l).sets i 0))
     unfolding graph_of
-    enters entered is-entered = touched 64 256 entered is.by_sets is-entered
+    enters entered is_entered = touched 64 256 entered is.by_sets is_entered
 
     -- where the omega steps are those by all loops in force that the states enter, no step by a claim is left out
     pub all_touched : (force : Claims) (at entered r : ℕ) → Targets (part l 256) m at
         → ((t : ℕ) → member t entered ≡ (member t at && member t force.loops)) → Touched (graph_of l) force entered m r
         → Onward (Claimed (graph_of l) force) m r
-    all_touched force at entered r is_at is-entered is-r t = (
+    all_touched force at entered r is_at is_entered is_r t = (
       (λ h. ⊎_elim
           (λ x. let i = x.source in
-          let y = (enters at is_at i).0 (intersection_left at force.loops entered is-entered i x.is) in
-          (y.0, y.1, inl (inl (i, intersection_right at force.loops entered is-entered i x.is, y.2, x.edge))))
-          (λ y. (y.0, y.1, ⊎_elim (λ e. inl (inr e)) inr y.2)) ((is-r t).0 h)),
-      λ (s, h, e). (is-r t).1 (⊎_elim
+          let y = (enters at is_at i).0 (intersection_left at force.loops entered is_entered i x.is) in
+          (y.0, y.1, inl (inl (i, intersection_right at force.loops entered is_entered i x.is, y.2, x.edge))))
+          (λ y. (y.0, y.1, ⊎_elim (λ e. inl (inr e)) inr y.2)) ((is_r t).0 h)),
+      λ (s, h, e). (is_r t).1 (⊎_elim
           (⊎_elim
-          (λ o. inl (record { source = o.0; is = intersection_both at force.loops entered is-entered o.0 ((enters at is_at o.0).1 (s, h, o.2)) o.1; edge = o.3 }))
+          (λ o. inl (record { source = o.0; is = intersection_both at force.loops entered is_entered o.0 ((enters at is_at o.0).1 (s, h, o.2)) o.1; edge = o.3 }))
           (λ o. inr (s, h, inl o)))
           (λ o. inr (s, h, inr o)) e),
     )
 
-    module _ (force : Claims) (ω left : ℕ) (is-left : Targets (part l 384) m left)
-        (mix back : ℕ) (is-mix : (t : ℕ) → member t mix ≡ (member t left && member t force.mixes))
-        (is-back : (t : ℕ) → member t back ≡ (member t left && member t force.loops))
-        (both over under r : ℕ) (is-both : (t : ℕ) → member t both ≡ (member t ω || member t mix)) (is-over : Targets (part l 128) both over)
-        (is-under : Targets (part l 64) back under) (is-r : (t : ℕ) → member t r ≡ (member t over || member t under)) where
+    module _ (force : Claims) (ω left : ℕ) (is_left : Targets (part l 384) m left)
+        (mix back : ℕ) (is_mix : (t : ℕ) → member t mix ≡ (member t left && member t force.mixes))
+        (is_back : (t : ℕ) → member t back ≡ (member t left && member t force.loops))
+        (both over under r : ℕ) (is_both : (t : ℕ) → member t both ≡ (member t ω || member t mix)) (is_over : Targets (part l 128) both over)
+        (is_under : Targets (part l 64) back under) (is_r : (t : ℕ) → member t r ≡ (member t over || member t under)) where
       leaves : (i : ℕ) → (i ∈ left) ↔ ((s : ℕ) × (s ∈ m) × (s ∈ get_or (part l 192) i 0))
       unfolding graph_of
-      leaves = touched 192 384 left is.by_rights is-left
+      leaves = touched 192 384 left is.by_rights is_left
 
       pub claims_lead : Touched (graph_of l) force ω m r
       unfolding graph_of
-      claims_lead t = ((λ h. ⊎_elim to_left to_set (union_cases over under r is-r t h)), ⊎_elim (λ x. by_left x.source (union_left ω mix both is-both x.source x.is) x.edge) from)
+      claims_lead t = ((λ h. ⊎_elim to_left to_set (union_cases over under r is_r t h)), ⊎_elim (λ x. by_left x.source (union_left ω mix both is_both x.source x.is) x.edge) from)
         where
           to_left : t ∈ over → Target (part l 128) ω t ⊎ ((s : ℕ) × (s ∈ m) × BackOrMix (graph_of l) force s t)
-          to_left h = let x = is-over.sound t h in let i = x.source in ⊎_elim
+          to_left h = let x = is_over.sound t h in let i = x.source in ⊎_elim
               (λ k. inl (record { source = i; is = k; edge = x.edge }))
-              (λ k. let y = (leaves i).0 (intersection_left left force.mixes mix is-mix i k) in
-              inr (y.0, y.1, inr (i, intersection_right left force.mixes mix is-mix i k, y.2, x.edge)))
-              (union_cases ω mix both is-both i x.is)
+              (λ k. let y = (leaves i).0 (intersection_left left force.mixes mix is_mix i k) in
+              inr (y.0, y.1, inr (i, intersection_right left force.mixes mix is_mix i k, y.2, x.edge)))
+              (union_cases ω mix both is_both i x.is)
 
           to_set : t ∈ under → Target (part l 128) ω t ⊎ ((s : ℕ) × (s ∈ m) × BackOrMix (graph_of l) force s t)
-          to_set h = let x = is-under.sound t h in let i = x.source in
-              let y = (leaves i).0 (intersection_left left force.loops back is-back i x.is) in
-              inr (y.0, y.1, inl (i, intersection_right left force.loops back is-back i x.is, y.2, x.edge))
+          to_set h = let x = is_under.sound t h in let i = x.source in
+              let y = (leaves i).0 (intersection_left left force.loops back is_back i x.is) in
+              inr (y.0, y.1, inl (i, intersection_right left force.loops back is_back i x.is, y.2, x.edge))
 
           by_left : (i : ℕ) → i ∈ both → t ∈ get_or (part l 128) i 0 → t ∈ r
-          by_left i k e = union_left over under r is-r t (is-over.complete t (record { source = i; is = k; edge = e }))
+          by_left i k e = union_left over under r is_r t (is_over.complete t (record { source = i; is = k; edge = e }))
 
           from : (p : (s : ℕ) × (s ∈ m) × BackOrMix (graph_of l) force s t) → t ∈ r
           from (s, h, e) = ⊎_elim
-              (λ p. union_right over under r is-r t (is-under.complete t (record {
+              (λ p. union_right over under r is_r t (is_under.complete t (record {
                 source = p.0;
-                is = intersection_both left force.loops back is-back p.0 ((leaves p.0).1 (s, h, p.2)) p.1;
+                is = intersection_both left force.loops back is_back p.0 ((leaves p.0).1 (s, h, p.2)) p.1;
                 edge = p.3;
               })))
-              (λ p. by_left p.0 (union_right ω mix both is-both p.0 (intersection_both left force.mixes mix is-mix p.0 ((leaves p.0).1 (s, h, p.2)) p.1)) p.3) e
+              (λ p. by_left p.0 (union_right ω mix both is_both p.0 (intersection_both left force.mixes mix is_mix p.0 ((leaves p.0).1 (s, h, p.2)) p.1)) p.3) e

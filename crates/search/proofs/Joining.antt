@@ -12,12 +12,12 @@ use Rattle.search.proofs.Chains.{chain_append, chain_back, chain_end}
 
 -- a search inside p from one state s
 pub from_one : {E : ℕ → ℕ → Type 0} (s w r : ℕ) → ((t : ℕ) → member t w ≡ (member t 0 || eqb t s)) → Onward (Chain E) w r → (t : ℕ) → t ∈ r → Chain E s t
-from_one {E} s w r is-w is t h = let x = (is t).0 h in subst (λ (y : ℕ). Chain E y t) (with_none s w is-w x.0 x.1) x.2
+from_one {E} s w r is_w is t h = let x = (is t).0 h in subst (λ (y : ℕ). Chain E y t) (with_none s w is_w x.0 x.1) x.2
 
 -- from states one of which is s
 pub reaches_all : {E : ℕ → ℕ → Type 0} (p s w r : ℕ) → s ∈ w → Onward (Chain E) w r → ((a b : ℕ) → E a b → b ∈ p) → p < 2 ^ 64 → r < 2 ^ 64
     → ((t : ℕ) → t ∈ p → Chain E s t) → r ≡ p
-reaches_all p s w r here is to-p hp hr all = same r p hr hp (λ t h. chain_end p to-p ((is t).0 h).2) (λ t h. (is t).1 (s, here, all t h))
+reaches_all p s w r here is to_p hp hr all = same r p hr hp (λ t h. chain_end p to_p ((is t).0 h).2) (λ t h. (is t).1 (s, here, all t h))
 
 -- from a state of m to each state of a set whose states chains join, and on to one of n
 pub joined_covers : {E : ℕ → ℕ → Type 0} (p m n a b : ℕ) → a ∈ m → b ∈ n → a ∈ p → b ∈ p → Joined E p → Covered E m n p
@@ -60,10 +60,10 @@ module _ {E F : ℕ → ℕ → Type 0} (back : (a b : ℕ) → F a b → E b a)
       chain_append (chain_back back x.2) (chain_append (j x.0 y.0 x.1 y.1) y.2)
 
   -- forward from m and backward from n: the states on chains from m to n, and those in both
-  module _ (turn : (a b : ℕ) → E a b → F b a) (m n after before x y z : ℕ) (is_after : Onward (Chain E) m after) (is-before : Onward (Chain F) n before)
+  module _ (turn : (a b : ℕ) → E a b → F b a) (m n after before x y z : ℕ) (is_after : Onward (Chain E) m after) (is_before : Onward (Chain F) n before)
       (is_x : (t : ℕ) → member t x ≡ (member t m || member t after))
       (is_y : (t : ℕ) → member t y ≡ (member t n || member t before))
-      (is-z : (t : ℕ) → member t z ≡ (member t x && member t y)) where
+      (is_z : (t : ℕ) → member t z ≡ (member t x && member t y)) where
     begun_iff : (s : ℕ) → (s ∈ x) ↔ Begun E m s
     begun_iff s = (
       (λ h. ⊎_elim inl (λ g. inr ((is_after s).0 g)) (union_cases m after x is_x s h)),
@@ -72,8 +72,8 @@ module _ {E F : ℕ → ℕ → Type 0} (back : (a b : ℕ) → F a b → E b a)
 
     ended_iff : (s : ℕ) → (s ∈ y) ↔ Ended E n s
     ended_iff s = (
-      (λ h. ⊎_elim inl (λ g. let b = (is-before s).0 g in inr (b.0, b.1, chain_back back b.2)) (union_cases n before y is_y s h)),
-      ⊎_elim (union_left n before y is_y s) (λ c. union_right n before y is_y s ((is-before s).1 (c.0, c.1, chain_back turn c.2))),
+      (λ h. ⊎_elim inl (λ g. let b = (is_before s).0 g in inr (b.0, b.1, chain_back back b.2)) (union_cases n before y is_y s h)),
+      ⊎_elim (union_left n before y is_y s) (λ c. union_right n before y is_y s ((is_before s).1 (c.0, c.1, chain_back turn c.2))),
     )
 
     on_both : (s : ℕ) → Begun E m s → Ended E n s → OnChain E m n s ⊎ ((s ∈ m) × (s ∈ n))
@@ -84,6 +84,6 @@ module _ {E F : ℕ → ℕ → Type 0} (back : (a b : ℕ) → F a b → E b a)
 
     pub covered_iff : (s : ℕ) → (s ∈ z) ↔ (OnChain E m n s ⊎ ((s ∈ m) × (s ∈ n)))
     covered_iff s = (
-      (λ h. on_both s ((begun_iff s).0 (intersection_left x y z is-z s h)) ((ended_iff s).0 (intersection_right x y z is-z s h))),
-      λ o. let k = both_on m n s o in intersection_both x y z is-z s ((begun_iff s).1 k.0) ((ended_iff s).1 k.1),
+      (λ h. on_both s ((begun_iff s).0 (intersection_left x y z is_z s h)) ((ended_iff s).0 (intersection_right x y z is_z s h))),
+      λ o. let k = both_on m n s o in intersection_both x y z is_z s ((begun_iff s).1 k.0) ((ended_iff s).1 k.1),
     )

@@ -24,9 +24,9 @@ use Rattle.search.proofs.Walks.{chain_leg, rest_of}
 
 -- the targets that are not found yet
 pub new_letters : {E : ℕ → ℕ → Type 0} (found last near next : ℕ) → Onward E last near → ((t : ℕ) → member t next ≡ (member t near && not (member t found))) → NewTargets E found last next
-new_letters found last near next is is-next t = (
-  (λ h. ((is t).0 (difference_left near found next is-next t h), difference_not near found next is-next t h)),
-  λ x. ⊎_elim (λ k. absurd (x.1 k)) (λ k. k) (difference_cases near found next is-next t ((is t).1 x.0)),
+new_letters found last near next is is_next t = (
+  (λ h. ((is t).0 (difference_left near found next is_next t h), difference_not near found next is_next t h)),
+  λ x. ⊎_elim (λ k. absurd (x.1 k)) (λ k. k) (difference_cases near found next is_next t ((is t).1 x.0)),
 )
 
 -- no claim is in force
@@ -50,15 +50,15 @@ module _ {rows : List Row} (fit : AllFit rows) (g : Graph) (letters : HasLetters
   pub letters_accepted : (initials finals : ℕ) → Initials rows initials → Finals rows finals → (seen both : ℕ) {b : Bool} → Onward (Chain (Lettered g)) initials seen
       → ((t : ℕ) → member t both ≡ (member t initials || member t seen)) → Decides b ((t : ℕ) × (t ∈ both) × (t ∈ finals))
       → Decides b ((w : Walk) × Accepting rows w × Allowed (timelines rows) None w)
-  letters_accepted initials finals is-initials is-finals seen both reached is d = iff_decides to of d
+  letters_accepted initials finals is_initials is_finals seen both reached is d = iff_decides to of d
     where
       to : (t : ℕ) × (t ∈ both) × (t ∈ finals) → (w : Walk) × Accepting rows w × Allowed (timelines rows) None w
-      to (t, h, k) = ⊎_elim (λ j. ([], (t, t, (is-initials t).0 j, (is-finals t).0 k, refl), tt))
+      to (t, h, k) = ⊎_elim (λ j. ([], (t, t, (is_initials t).0 j, (is_finals t).0 k, refl), tt))
           (λ j. let x = (reached t).0 j in let w = chain_leg rows None all_mask x.0 t (chain_map letter_step x.2) in
-          (w.0, (x.0, t, (is-initials x.0).0 x.1, (is-finals t).0 k, w.2), w.1.1)) (union_cases initials seen both is t h)
+          (w.0, (x.0, t, (is_initials x.0).0 x.1, (is_finals t).0 k, w.2), w.1.1)) (union_cases initials seen both is t h)
 
       of : (w : Walk) × Accepting rows w × Allowed (timelines rows) None w → (t : ℕ) × (t ∈ both) × (t ∈ finals)
       of (w, (a, b, ha, hb, leads), allowed) = ⊎_elim
-          (λ e. (a, union_left initials seen both is a ((is-initials a).1 ha), subst (λ (x : ℕ). x ∈ finals) (sym e) ((is-finals b).1 hb)))
-          (λ c. (b, union_right initials seen both is b ((reached b).1 (a, (is-initials a).1 ha, chain_map step_letter c)), (is-finals b).1 hb))
+          (λ e. (a, union_left initials seen both is a ((is_initials a).1 ha), subst (λ (x : ℕ). x ∈ finals) (sym e) ((is_finals b).1 hb)))
+          (λ c. (b, union_right initials seen both is b ((reached b).1 (a, (is_initials a).1 ha, chain_map step_letter c)), (is_finals b).1 hb))
           (rest_of rows None all_mask a w b (leads, allowed, walk_all fit None w allowed))

@@ -7,7 +7,7 @@ use mathlib.Core.List.{List}
 use native.Mathlib.Omega.{arith}
 use lib.ListN.{length, get_or}
 use Rattle.lists.specs.Tests.{Decides}
-use Rattle.lists.proofs.Places.{getD_among, held_at}
+use Rattle.lists.proofs.Places.{get_or_among, held_at}
 use Rattle.masks.specs.Mask.{member, ◌∈◌}
 use Rattle.masks.proofs.Member.{in_none, lt_or_le, union_left, union_right, union_cases}
 use Rattle.rows.specs.declared.Row.{Row}
@@ -19,7 +19,7 @@ use Rattle.search.specs.Masked.{Masked}
 -- at each place below n is a set of the rows
 pub set_here : {rows : List Row} {g : Graph} {n : ℕ} → Masked rows g n → length (standing_sets rows) ≡ n → (i : ℕ) → i < n → SetOf rows (get_or g.sets i 0)
 set_here {rows} {g} {n} is count i l =
-    (sets_iff rows (get_or g.sets i 0)).0 (rw (held_at n g.sets (standing_sets rows) is.sets_are i 0 l) (getD_among (standing_sets rows) i 0 (omega arith)))
+    (sets_iff rows (get_or g.sets i 0)).0 (rw (held_at n g.sets (standing_sets rows) is.sets_are i 0 l) (get_or_among (standing_sets rows) i 0 (omega arith)))
 
 -- the place i alone, where a test passes that asks for A, which is B
 pub marks_iff : {found : Bool} {A B : Type 0} (i r : ℕ) → A ↔ B → Decides found A → ((t : ℕ) → (t ∈ r) ↔ ((t ≡ i) × (found ≡ true))) → (t : ℕ) → (t ∈ r) ↔ ((t ≡ i) × B)

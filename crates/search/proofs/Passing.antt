@@ -31,7 +31,7 @@ new_same f g found last next is t = (
   λ x. (is t).1 ((x.0.0, x.0.1, g x.0.0 t x.0.2), x.1),
 )
 
-module _ {E : ℕ → ℕ → Type 0} (found last next : ℕ) (is-next : NewTargets E found last next) where
+module _ {E : ℕ → ℕ → Type 0} (found last next : ℕ) (is_next : NewTargets E found last next) where
   -- where next has a state, so has the sum one that was not found
   module _ (sum : ℕ) (is_sum : (t : ℕ) → member t sum ≡ (member t found || member t next)) (fits : next < 2 ^ 64) (some : next ≡ 0 → ⊥) where
     pub pass_adds : FindsMore found sum
@@ -42,7 +42,7 @@ module _ {E : ℕ → ℕ → Type 0} (found last next : ℕ) (is-next : NewTarg
         by (suc n) e l =
             let t = count_trailing_zeros 64 (suc n) in
             let h : t ∈ next = subst (λ (x : ℕ). t ∈ x) (sym e) (lowest_is (suc n) (zero-lt-suc n) l).0 in
-            (t, union_right found next sum is_sum t h, ((is-next t).0 h).1)
+            (t, union_right found next sum is_sum t h, ((is_next t).0 h).1)
 
     pub pass_grows : found < 2 ^ 64 → sum < 2 ^ 64 → ones found < ones sum
     pass_grows hf hs = ones_grows found sum hf hs (union_left found next sum is_sum)
@@ -51,7 +51,7 @@ module _ {E : ℕ → ℕ → Type 0} (found last next : ℕ) (is-next : NewTarg
   module _ (m : ℕ) (now : Followed E m found last) where
     -- a step from the start, or from a state found
     lands : (a b : ℕ) → (a ∈ m) ⊎ (a ∈ found) → E a b → (b ∈ found) ⊎ (b ∈ next)
-    lands a b g e = ⊎_elim (λ h. ⊎_elim inl (λ n. inr ((is-next b).1 ((a, h, e), λ k. not_both k n))) (true_or_false (member b found))) inl (now.others a b g e)
+    lands a b g e = ⊎_elim (λ h. ⊎_elim inl (λ n. inr ((is_next b).1 ((a, h, e), λ k. not_both k n))) (true_or_false (member b found))) inl (now.others a b g e)
 
     pub pass_vain : next ≡ 0 → Pass E m found found
     pass_vain none t = (
@@ -65,7 +65,7 @@ module _ {E : ℕ → ℕ → Type 0} (found last next : ℕ) (is-next : NewTarg
 
       pub pass_more : Pass E m found sum
       pass_more t = (
-        (λ h. ⊎_elim inl (λ k. let x = ((is-next t).0 k).0 in inr (x.0, now.within x.0 x.1, x.2)) (union_cases found next sum is_sum t h)),
+        (λ h. ⊎_elim inl (λ k. let x = ((is_next t).0 k).0 in inr (x.0, now.within x.0 x.1, x.2)) (union_cases found next sum is_sum t h)),
         ⊎_elim (λ h. gain t (inl h)) (λ x. gain t (lands x.0 t x.1 x.2)),
       )
 
@@ -85,16 +85,16 @@ Going E found₀ last₀ found last made = (m : ℕ) → Followed E m found₀ l
 pub going_start : (E : ℕ → ℕ → Type 0) (found last : ℕ) → Going E found last found last 0
 going_start E found last m start = (no_pass, start)
 
-module _ {E : ℕ → ℕ → Type 0} (found₀ last₀ found last next made : ℕ) (is-next : NewTargets E found last next)
+module _ {E : ℕ → ℕ → Type 0} (found₀ last₀ found last next made : ℕ) (is_next : NewTargets E found last next)
     (now : Going E found₀ last₀ found last made) where
   pub going_more : (sum : ℕ) → ((t : ℕ) → member t sum ≡ (member t found || member t next)) → next < 2 ^ 64 → (next ≡ 0 → ⊥)
       → Going E found₀ last₀ sum next (made + 1)
   going_more sum is_sum fits some m start = let x = now m start in
-      (one_more x.0 (pass_more found last next is-next m x.1 sum is_sum) (pass_adds found last next is-next sum is_sum fits some), followed_more found last next is-next m x.1 sum is_sum)
+      (one_more x.0 (pass_more found last next is_next m x.1 sum is_sum) (pass_adds found last next is_next sum is_sum fits some), followed_more found last next is_next m x.1 sum is_sum)
 
   pub going_end : next ≡ 0 → (m : ℕ) → Followed E m found₀ last₀ → PassesToEnd E m found₀ (made + 1) found
   going_end none m start = let x = now m start in
-      record { before = made; count_is = refl; passes = x.0; vain = pass_vain found last next is-next m x.1 none }
+      record { before = made; count_is = refl; passes = x.0; vain = pass_vain found last next is_next m x.1 none }
 
 -- ---- what passes find
 
@@ -114,16 +114,16 @@ pub passes_onward : {E : ℕ → ℕ → Type 0} {m first count r : ℕ} → Led
 passes_onward {m = m} {r = r} led p t =
     (passes_led led p.passes t, λ y. chain_in m r (λ a b g e. (p.vain b).1 (inr (a, g, e))) y.1 y.2)
 
-module _ {E : ℕ → ℕ → Type 0} (m found last next : ℕ) (is-next : NewTargets E found last next) (now : Followed E m found last) (led : Led E m found) where
+module _ {E : ℕ → ℕ → Type 0} (m found last next : ℕ) (is_next : NewTargets E found last next) (now : Followed E m found last) (led : Led E m found) where
   -- a first pass that adds nothing is the last
   pub onward_same : next ≡ 0 → Onward (Chain E) m found
-  onward_same none = passes_onward led (record { before = 0; count_is = refl; passes = no_pass; vain = pass_vain found last next is-next m now none })
+  onward_same none = passes_onward led (record { before = 0; count_is = refl; passes = no_pass; vain = pass_vain found last next is_next m now none })
 
   -- else passes go on
   pub onward_now : (sum : ℕ) → ((t : ℕ) → member t sum ≡ (member t found || member t next)) → {count r : ℕ}
       → ((k : ℕ) → Followed E k sum next → PassesToEnd E k sum count r) → Onward (Chain E) m r
   onward_now sum is_sum made =
-      passes_onward (pass_led m found sum led (pass_more found last next is-next m now sum is_sum)) (made m (followed_more found last next is-next m now sum is_sum))
+      passes_onward (pass_led m found sum led (pass_more found last next is_next m now sum is_sum)) (made m (followed_more found last next is_next m now sum is_sum))
 
 -- the states to start from are found, and the steps of all are to be followed
 pub followed_all : (E : ℕ → ℕ → Type 0) (m : ℕ) → Followed E m m m

@@ -17,20 +17,20 @@ use Rattle.search.proofs.Passing.{Led, onward_same, onward_now}
 
 -- next are the states to which the new claims lead from the start and from what was seen, and are new
 module _ (g : Graph) (force new : Claims) (initials seen : ℕ) (old : SeenBefore g force new initials seen) (from near next : ℕ)
-    (is-from : (t : ℕ) → member t from ≡ (member t initials || member t seen)) (is-near : Onward (Claimed g new) from near)
-    (is-next : (t : ℕ) → member t next ≡ (member t near && not (member t seen))) where
+    (is_from : (t : ℕ) → member t from ≡ (member t initials || member t seen)) (is_near : Onward (Claimed g new) from near)
+    (is_next : (t : ℕ) → member t next ≡ (member t near && not (member t seen))) where
   abbrev Now : ℕ → ℕ → Type 0
   Now = Hop g force all_mask
 
   -- a step by an old claim leads to a state seen
   seen_old : (a b : ℕ) → a ∈ from → Hop g old.old all_mask a b → b ∈ seen
   seen_old a b h e = (old.reached b).1
-      (⊎_elim (λ k. (a, k, one e)) (λ k. let y = (old.reached a).0 k in (y.0, y.1, more y.2 e)) (union_cases initials seen from is-from a h))
+      (⊎_elim (λ k. (a, k, one e)) (λ k. let y = (old.reached a).0 k in (y.0, y.1, more y.2 e)) (union_cases initials seen from is_from a h))
 
   -- so the targets of all of them that are new are those by new claims
   targets_new : NewTargets Now seen from next
   targets_new t = (
-    (λ h. let x = (is-near t).0 (difference_left near seen next is-next t h) in (
+    (λ h. let x = (is_near t).0 (difference_left near seen next is_next t h) in (
       (
         x.0,
         x.1,
@@ -40,17 +40,17 @@ module _ (g : Graph) (force new : Claims) (initials seen : ℕ) (old : SeenBefor
           kind = inr (claimed_new g old.with_new x.0 t x.2);
         },
       ),
-      difference_not near seen next is-next t h,
+      difference_not near seen next is_next t h,
     )),
     λ x. ⊎_elim (λ e. absurd (x.1 (seen_old x.0.0 t x.0.1 e)))
-        (λ e. ⊎_elim (λ h. absurd (x.1 h)) (λ h. h) (difference_cases near seen next is-next t ((is-near t).1 (x.0.0, x.0.1, e))))
+        (λ e. ⊎_elim (λ h. absurd (x.1 h)) (λ h. h) (difference_cases near seen next is_next t ((is_near t).1 (x.0.0, x.0.1, e))))
         (hop_either g old.with_new all_mask x.0.0 t x.0.2),
   )
 
   followed_from : Followed Now initials seen from
   followed_from = record {
-    within = union_cases initials seen from is-from;
-    others = λ a b h e. inl (⊎_elim (union_left initials seen from is-from a) (union_right initials seen from is-from a) h);
+    within = union_cases initials seen from is_from;
+    others = λ a b h e. inl (⊎_elim (union_left initials seen from is_from a) (union_right initials seen from is_from a) h);
   }
 
   seen_led : Led Now initials seen

@@ -73,21 +73,21 @@ module _ {rows : List Row} {g : Graph} {n : ℕ} (is : Masked rows g n) where
     pub mixes_iff : (m k : ℕ) → ((e : ℕ) → (e ∈ m) ↔ (Entrance rows p e × Unstruck rows (members p)))
         → ((f : ℕ) → (f ∈ k) ↔ (Exit rows p f × Unstruck rows (members p)))
         → Covered Links m k p ↔ Mixes rows (AtHand (timelines rows) In) p
-    mixes_iff m k is_m is-k = (
+    mixes_iff m k is_m is_k = (
       (λ h. record {
-        covered = λ s i. ⊎_elim (λ o. inl (on_piece s o)) (λ g. let e = (is_m s).0 g.0 in inr (e.0, ((is-k s).0 g.1).0, e.1 s ((members_iff p s).1 i))) (h.states s i);
-        stepped = let c = h.chain in (c.0, c.1, ((is_m c.0).0 c.2).0, ((is-k c.1).0 c.3).0, (chain_iff c.0 c.1).0 c.4);
+        covered = λ s i. ⊎_elim (λ o. inl (on_piece s o)) (λ g. let e = (is_m s).0 g.0 in inr (e.0, ((is_k s).0 g.1).0, e.1 s ((members_iff p s).1 i))) (h.states s i);
+        stepped = let c = h.chain in (c.0, c.1, ((is_m c.0).0 c.2).0, ((is_k c.1).0 c.3).0, (chain_iff c.0 c.1).0 c.4);
       }),
       λ h. let u = mixes_unstruck rows In p h in record {
-        states = λ s i. ⊎_elim (λ o. inl (on_chain u s o)) (λ g. inr ((is_m s).1 (g.0, u), (is-k s).1 (g.1, u))) (h.covered s i);
-        chain = let o = h.stepped in (o.0, o.1, (is_m o.0).1 (o.2, u), (is-k o.1).1 (o.3, u), (chain_iff o.0 o.1).1 o.4);
+        states = λ s i. ⊎_elim (λ o. inl (on_chain u s o)) (λ g. inr ((is_m s).1 (g.0, u), (is_k s).1 (g.1, u))) (h.covered s i);
+        chain = let o = h.stepped in (o.0, o.1, (is_m o.0).1 (o.2, u), (is_k o.1).1 (o.3, u), (chain_iff o.0 o.1).1 o.4);
       },
     )
       where
         on_piece : (s : ℕ) → OnChain Links m k s → OnPiece rows (AtHand (timelines rows) In) p s
         on_piece s o = let t = between_leg rows In p o.0 o.1 s (between_map to_step o.0 o.1 s o.4) in
-            ((o.0, o.1, ((is_m o.0).0 o.2).0, ((is-k o.1).0 o.3).0, t.0), t.1)
+            ((o.0, o.1, ((is_m o.0).0 o.2).0, ((is_k o.1).0 o.3).0, t.0), t.1)
 
         on_chain : Unstruck rows (members p) → (s : ℕ) → OnPiece rows (AtHand (timelines rows) In) p s → OnChain Links m k s
         on_chain u s (o, i) =
-            (o.0, o.1, (is_m o.0).1 (o.2, u), (is-k o.1).1 (o.3, u), between_map of_step o.0 o.1 s (leg_between rows In p o.0 o.1 s (o.4, i)))
+            (o.0, o.1, (is_m o.0).1 (o.2, u), (is_k o.1).1 (o.3, u), between_map of_step o.0 o.1 s (leg_between rows In p o.0 o.1 s (o.4, i)))

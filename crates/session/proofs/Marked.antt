@@ -20,7 +20,7 @@ use Rattle.machine.specs.Calls.{close, round, run}
 use Rattle.machine.specs.Causes.{NotOpen, running, settled}
 use Rattle.machine.specs.WellFormed.{Made, WellFormed}
 use Rattle.machine.specs.WellFormed as WellFormed
-use Rattle.machine.specs.Marks.{Name, Marked, mark_under, kept_under, MarkedCall, mark, return-to, MarkedNext, accept_marked, refuse_marked, marked_call, BringsName}
+use Rattle.machine.specs.Marks.{Name, Marked, mark_under, kept_under, MarkedCall, mark, return_to, MarkedNext, accept_marked, refuse_marked, marked_call, BringsName}
 use Rattle.machine.proofs.Answers.{tells_as, tells_refused}
 use Rattle.machine.proofs.Tables.{no_rows}
 use Rattle.machine.proofs.Outcomes.{rows_kept, rounds_no_batch}
@@ -219,17 +219,17 @@ module _ (s : Session) (g : Ranged s) where
     kept_at : (x : Marked) → Represents x s → Place name x.marks
     kept_at x p = place_kept name x.marks
 
-    pub unmarked_refused : {r : Reply} → at ≡ s.marks.count → r ≡ reply s (Refused 15 0) → Promised s (return-to name) [] [] r
+    pub unmarked_refused : {r : Reply} → at ≡ s.marks.count → r ≡ reply s (Refused 15 0) → Promised s (return_to name) [] [] r
     unmarked_refused e made = refuses_marked made (λ x p. unmarked_is x name n (by x p (kept_at x p)))
       where
         by : (x : Marked) → Represents x s → Place name x.marks → kept_under name x.marks ≡ none
         by x p (new_place i j) = j
         by x p (mark_place m i j) = absurd (omega (arith, at_place x p, mark_count_of x s p))
 
-    pub returns_done : ¬ (at ≡ s.marks.count) → (kept : Kept) → HoldsKept s.marks at kept → {r : Reply} → BringsBack s kept r → Promised s (return-to name) [] [] r
+    pub returns_done : ¬ (at ≡ s.marks.count) → (kept : Kept) → HoldsKept s.marks at kept → {r : Reply} → BringsBack s kept r → Promised s (return_to name) [] [] r
     returns_done d kept holds {r} back = promised g refl (λ x p. by x p (kept_at x p))
       where
-        by : (x : Marked) → Represents x s → Place name x.marks → Does x (return-to name) [] [] r
+        by : (x : Marked) → Represents x s → Place name x.marks → Does x (return_to name) [] [] r
         by x p (new_place i j) = absurd (d (omega (arith, at_place x p, mark_count_of x s p)))
         by x p (mark_place m i j) = does_accept x (return_is x name n m j)
             (back x p m (back_formed x p.formed name m j) (holds x.marks name m (marks_stand x s p) (at_place x p) j))

@@ -1,6 +1,6 @@
 // The calls mark and return_to.
 ghost use Rattle.std.specs.Prelude.{◌≡◌, [], ◌≤◌};
-ghost use Rattle.machine.specs.Marks.{mark, return-to};
+ghost use Rattle.machine.specs.Marks.{mark, return_to};
 ghost use Rattle.session.specs.Promise.{Ranged, HasState, Promised};
 ghost use Rattle.session.specs.Standing.{Contents, emptied, WorkedOn, ReworkedTo, Reloads, BringsBack};
 
@@ -139,7 +139,7 @@ impl Session {
     // To a name of any bytes, in any phase.
     fn return_under(self, name: &[u8]) -> Reply
         requires { Ranged self }
-        ensures { Promised self (return-to name.now) [] [] result }
+        ensures { Promised self (return_to name.now) [] [] result }
     {
         let marks = self.marks;
         let place = marks.place(name);
@@ -166,7 +166,7 @@ impl Session {
 
     // Return: all that is kept under the name is back; the marks stay.
     pub fn return_to(self, name: &[u8]) -> Reply
-        ensures { Promised self (return-to name.now) [] [] result }
+        ensures { Promised self (return_to name.now) [] [] result }
     {
         match self.state() {
             State::Foreign => self.refuse(FOREIGN_RECORD),

@@ -191,18 +191,18 @@ module _ {m : Machine} {g back : Graph} {words heads links : List ℕ} {n k : �
 
   -- the sets from and to have a alone and b alone
   module _ (a b : ℕ) (ha : a ∈ P) (hb : b ∈ P) (from to : ℕ)
-      (is-from : (t : ℕ) → member t from ≡ (member t 0 || eqb t a)) (is-to : (t : ℕ) → member t to ≡ (member t 0 || eqb t b)) where
+      (is_from : (t : ℕ) → member t from ≡ (member t 0 || eqb t a)) (is_to : (t : ℕ) → member t to ≡ (member t 0 || eqb t b)) where
     to_between : (f : Found) → Goes held framed from to f → Between m.rows m.openings P a b f
     to_between f c = (
-      with_none a from is-from f.start c.0,
-      subst (Leads f.start f.walk) (with_none b to is-to c.1.0 c.1.1) c.1.2,
+      with_none a from is_from f.start c.0,
+      subst (Leads f.start f.walk) (with_none b to is_to c.1.0 c.1.1) c.1.2,
       (c.2, allowed_more (timelines m.rows) listed f.walk c.3, c.4),
     )
 
     of_between : (f : Found) → Between m.rows m.openings P a b f → Goes held framed from to f
     of_between f c = (
-      subst (λ (x : ℕ). x ∈ from) (sym c.0) (with_same 0 a from is-from),
-      (b, with_same 0 b to is-to, c.1),
+      subst (λ (x : ℕ). x ∈ from) (sym c.0) (with_same 0 a from is_from),
+      (b, with_same 0 b to is_to, c.1),
       c.2.0,
       allowed_more (timelines m.rows) in_list f.walk c.2.1,
       c.2.2,
@@ -217,4 +217,4 @@ module _ {m : Machine} {g back : Graph} {words heads links : List ℕ} {n k : �
         (λ l. let h = l.1 in let f = found r.start h.0 in
         down_same (Down words n back force layers r) (Between m.rows m.openings P a b) (λ f c. (b, c.1)) f (found a (neighbour P a b m)) (foremost_of f to_between of_between h.2) nearest h.1)
         (λ z. absurd (z.2 (found a (neighbour P a b m)) (of_between (found a (neighbour P a b m)) nearest.is)))
-        (one_lies held framed from to layers r (λ t h. open_free held framed (loops P) framed.about.1 t (subst (λ (x : ℕ). x ∈ P) (sym (with_none b to is-to t h)) hb)) s o)
+        (one_lies held framed from to layers r (λ t h. open_free held framed (loops P) framed.about.1 t (subst (λ (x : ℕ). x ∈ P) (sym (with_none b to is_to t h)) hb)) s o)

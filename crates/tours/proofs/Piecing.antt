@@ -102,12 +102,12 @@ module _ {m : Machine} {g back : Graph} {words heads links : List ℕ} {n k : �
   exits_free t h = set_free t ((framed.about.2 t).0 h).0
 
   -- the set alone has s and no other state
-  module _ (alone : ℕ) (is-alone : (t : ℕ) → member t alone ≡ (member t 0 || eqb t s)) where
+  module _ (alone : ℕ) (is_alone : (t : ℕ) → member t alone ≡ (member t 0 || eqb t s)) where
     s_alone : s ∈ alone
-    s_alone = with_same 0 s alone is-alone
+    s_alone = with_same 0 s alone is_alone
 
     alone_s : (t : ℕ) → t ∈ alone → t ≡ s
-    alone_s = with_none s alone is-alone
+    alone_s = with_none s alone is_alone
 
     alone_free : (t : ℕ) → t ∈ alone → Free m.rows P t
     alone_free t h = set_free t (subst (λ (x : ℕ). x ∈ P) (sym (alone_s t h)) here)
@@ -140,12 +140,12 @@ module _ {m : Machine} {g back : Graph} {words heads links : List ℕ} {n k : �
             (subst (λ (x : ℕ). Descends (Way words n back force) (SetsRise back force) layers x on.steps w) at d)) to.steps to.start v e leads)
 
     -- s is an entrance and an exit, and others are the other entrances
-    module _ (enters : s ∈ starts) (leaves : s ∈ ends) (others : ℕ) (is-others : (t : ℕ) → member t others ≡ (member t starts && not (member t alone))) where
+    module _ (enters : s ∈ starts) (leaves : s ∈ ends) (others : ℕ) (is_others : (t : ℕ) → member t others ≡ (member t starts && not (member t alone))) where
       but : (t : ℕ) → t ∈ others → (t ∈ starts) × (t ≢ s)
-      but t h = (difference_left starts alone others is-others t h, λ e. difference_not starts alone others is-others t h (subst (λ (x : ℕ). x ∈ alone) (sym e) s_alone))
+      but t h = (difference_left starts alone others is_others t h, λ e. difference_not starts alone others is_others t h (subst (λ (x : ℕ). x ∈ alone) (sym e) s_alone))
 
       other : (t : ℕ) → t ∈ starts → t ≢ s → t ∈ others
-      other t h i = ⊎_elim (λ j. absurd (i (alone_s t j))) (λ j. j) (difference_cases starts alone others is-others t h)
+      other t h i = ⊎_elim (λ j. absurd (i (alone_s t j))) (λ j. j) (difference_cases starts alone others is_others t h)
 
       -- the leg on from s, and the leg to s from another entrance
       module _ (layers layers' : List ℕ) (on to : Leg) (o : OneOrMore (Ahead back force P) alone ends s layers on) (t : OneOrMore (Ahead back force P) others alone s layers' to) where

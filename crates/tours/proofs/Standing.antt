@@ -106,7 +106,7 @@ module _ (m : Machine) (words : List ℕ) (n : ℕ) (back : Graph) (f : Frame) (
       (subst (λ (x : ℕ). Descends W Ordered layers c.state x w.0) two w.1) in
       let e : p ∷ l ≡ part_of c.before (some d.0) ∷ (dotted d.1 ++ tail) = w.2 ∙ ap (λ (x : Walk). leg_parts c.before x ++ tail) d.2 in
       let is : p ≡ part_of c.before (some d.0) = cc in
-      let rest-is : l ≡ dotted d.1 ++ tail = cc in
+      let rest_is : l ≡ dotted d.1 ++ tail = cc in
       let at : d.0.to ≡ to = subst (λ (x : Part). LeadsTo to x.step) is leads in
       record {
         ended = λ x. absurd (true≢false x);
@@ -115,7 +115,7 @@ module _ (m : Machine) (words : List ℕ) (n : ℕ) (back : Graph) (f : Frame) (
           d.1,
           subst (λ (x : ℕ). Descends W Ordered layers to x d.1) one
               (subst (λ (x : ℕ). Descends W Ordered layers x (suc (c.steps - 2)) d.1) at d.3),
-          rest-is
+          rest_is
               ∙ ap (λ (x : List Part). x ++ tail) (parts_more W Ordered layers d.0.to (c.steps - 2) d.1 d.3)
               ∙ ap (λ (x : List Walk). leg_parts 46 d.1 ++ parts_of sep sep x) (next_left m f.shape f.set c to),
         );

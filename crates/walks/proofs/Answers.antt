@@ -35,17 +35,17 @@ use Rattle.walks.proofs.Standing.{Free, sets_rise_in}
 use Rattle.walks.proofs.Descending.{follows_descends}
 use Rattle.walks.proofs.Courses.{lay_none, lay_foremost}
 
-module _ (rows : List Row) (claims : List Claim) (initials finals : ℕ) (is-initials : Initials rows initials) (is-finals : Finals rows finals) (table : Table rows) where
+module _ (rows : List Row) (claims : List Claim) (initials finals : ℕ) (is_initials : Initials rows initials) (is_finals : Finals rows finals) (table : Table rows) where
   -- inside the set of all states, from an initial to a final state
   abbrev pub FromInitial : Found → Type 0
   FromInitial = Leading rows (λ c. c among claims) all_mask (λ s. s ∈ initials) (λ s. s ∈ finals)
 
   of_leading : (f : Found) → FromInitial f → Candidate rows claims f
-  of_leading f c = ((is-initials f.start).0 c.0, (c.1.0, (is-finals c.1.0).0 c.1.1, c.1.2), c.3)
+  of_leading f c = ((is_initials f.start).0 c.0, (c.1.0, (is_finals c.1.0).0 c.1.1, c.1.2), c.3)
 
   -- every walk with letter steps and claims is inside that set
   pub to_leading : (f : Found) → Candidate rows claims f → FromInitial f
-  to_leading f c = ((is-initials f.start).1 c.0, (c.1.0, (is-finals c.1.0).1 c.1.1, c.1.2), walk_all table.fit (λ c. c among claims) f.walk c.2, c.2)
+  to_leading f c = ((is_initials f.start).1 c.0, (c.1.0, (is_finals c.1.0).1 c.1.1, c.1.2), walk_all table.fit (λ c. c among claims) f.walk c.2, c.2)
 
   -- the first of the shortest of these is the sheet's
   pub leading_best : (f : Found) → Foremost FromInitial f → Best rows claims f
@@ -53,7 +53,7 @@ module _ (rows : List Row) (claims : List Claim) (initials finals : ℕ) (is-ini
 
   -- no end is struck
   pub final_free : (s : ℕ) → s ∈ finals → Free rows all_mask s
-  final_free s m = (has_all s (member_lt s finals m), ((is-finals s).0 m).1)
+  final_free s m = (has_all s (member_lt s finals m), ((is_finals s).0 m).1)
 
   -- a state that is initial and final, the lowest, is a walk of no steps
   pub answer_here : (w : FoundWalk) (start : ℕ) → w.found ≡ true → w.start ≡ start → w.count ≡ 0 → start ∈ initials → start ∈ finals

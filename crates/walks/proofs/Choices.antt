@@ -31,11 +31,11 @@ module _ (layers here there : List ℕ) (places a layer : ℕ) where
   -- the lowest place left with a step, and its lowest target
   pub pass_first : (rest i met t k : ℕ) → Gathered Enters places rest 0 → i ∈ rest → ((j : ℕ) → j ∈ rest → i ≤ j) → ((u : ℕ) → (u ∈ met) ↔ Enters i u)
       → ((u : ℕ) → u ∈ met → t ≤ u) → RisingAt layers places → First layer (PassAt layers here there places a) (Taken k (get_or layers i 0) t)
-  pass_first rest i met t k g is-i low is-met low-t rising P u r m = ⊎_elim
+  pass_first rest i met t k g is_i low is_met low_t rising P u r m = ⊎_elim
       (λ h. ⊎_elim
-      (λ l. inl (rw r.2 (rising i r.0 (g.through.left i is-i) r.1 l)))
+      (λ l. inl (rw r.2 (rising i r.0 (g.through.left i is_i) r.1 l)))
       (λ l. let e : r.0 ≡ i = omega (arith, low r.0 h) in
-      inr (rw (r.2, e), low-t u ((is-met u).1 (subst (λ (x : ℕ). a ∈ get_or here x 0) e r.3, subst (λ (x : ℕ). u ∈ get_or there x 0) e r.4, m))))
+      inr (rw (r.2, e), low_t u ((is_met u).1 (subst (λ (x : ℕ). a ∈ get_or here x 0) e r.3, subst (λ (x : ℕ). u ∈ get_or there x 0) e r.4, m))))
       (lt_or_le i r.0))
       (λ f. absurd (in_none u (f u (r.3, r.4, m))))
       (g.through.passed r.0 r.1)
@@ -100,37 +100,37 @@ module _ (layer : ℕ) (W : Label → ℕ → Type 0) (Ordered : Type 0) where
       all v t ord f (mix x) u w m = inl (omega arith)
 
   pub choose_omega : (Ordered → Lacks 0) → (r : Choice) → (r ≡ Nothing → ⊥) → {O : Type 0} → (Ordered → O) → Picked layer (λ v t. W (ω v) t) 1 O r → Chooses layer W Ordered r
-  choose_omega no-letter r n o p = choose 1 (λ v. (refl, refl)) r n o p all
+  choose_omega no_letter r n o p = choose 1 (λ v. (refl, refl)) r n o p all
     where
       all : (v t : ℕ) → Ordered → First layer (λ v t. W (ω v) t) (Taken 1 v t) → Leads_all 1 v t
-      all v t ord f (letter x) u w m = absurd (no-letter ord x u w m)
+      all v t ord f (letter x) u w m = absurd (no_letter ord x u w m)
       all v t ord f (ω x) u w m = inr (refl, f x u w m)
       all v t ord f (back x) u w m = inl (omega arith)
       all v t ord f (mix x) u w m = inl (omega arith)
 
   pub choose_back : (Ordered → Lacks 0) → (Ordered → Lacks 1) → (r : Choice) → (r ≡ Nothing → ⊥) → {O : Type 0} → (Ordered → O) → Picked layer (λ v t. W (back v) t) 2 O r → Chooses layer W Ordered r
-  choose_back no-letter no-omega r n o p = choose 2 (λ v. (refl, refl)) r n o p all
+  choose_back no_letter no_omega r n o p = choose 2 (λ v. (refl, refl)) r n o p all
     where
       all : (v t : ℕ) → Ordered → First layer (λ v t. W (back v) t) (Taken 2 v t) → Leads_all 2 v t
-      all v t ord f (letter x) u w m = absurd (no-letter ord x u w m)
-      all v t ord f (ω x) u w m = absurd (no-omega ord x u w m)
+      all v t ord f (letter x) u w m = absurd (no_letter ord x u w m)
+      all v t ord f (ω x) u w m = absurd (no_omega ord x u w m)
       all v t ord f (back x) u w m = inr (refl, f x u w m)
       all v t ord f (mix x) u w m = inl (omega arith)
 
   pub choose_mix : (Ordered → Lacks 0) → (Ordered → Lacks 1) → (Ordered → Lacks 2) → (r : Choice) → {O : Type 0} → (Ordered → O) → Picked layer (λ v t. W (mix v) t) 3 O r → Chooses layer W Ordered r
-  choose_mix no-letter no-omega no-back Nothing o p = all
+  choose_mix no_letter no_omega no_back Nothing o p = all
     where
       all : Ordered → (l : Label) (u : ℕ) → W l u → u ∈ layer → ⊥
-      all ord (letter x) u w m = no-letter ord x u w m
-      all ord (ω x) u w m = no-omega ord x u w m
-      all ord (back x) u w m = no-back ord x u w m
+      all ord (letter x) u w m = no_letter ord x u w m
+      all ord (ω x) u w m = no_omega ord x u w m
+      all ord (back x) u w m = no_back ord x u w m
       all ord (mix x) u w m = p.first (o ord) x u w m
-  choose_mix no-letter no-omega no-back (Taken k v t) o p = choose 3 (λ v. (refl, refl)) (Taken k v t) (λ e. let z : ◌≡◌ {A = ℕ} 0 1 = cc in omega arith) o p all
+  choose_mix no_letter no_omega no_back (Taken k v t) o p = choose 3 (λ v. (refl, refl)) (Taken k v t) (λ e. let z : ◌≡◌ {A = ℕ} 0 1 = cc in omega arith) o p all
     where
       all : (v t : ℕ) → Ordered → First layer (λ v t. W (mix v) t) (Taken 3 v t) → Leads_all 3 v t
-      all v t ord f (letter x) u w m = absurd (no-letter ord x u w m)
-      all v t ord f (ω x) u w m = absurd (no-omega ord x u w m)
-      all v t ord f (back x) u w m = absurd (no-back ord x u w m)
+      all v t ord f (letter x) u w m = absurd (no_letter ord x u w m)
+      all v t ord f (ω x) u w m = absurd (no_omega ord x u w m)
+      all v t ord f (back x) u w m = absurd (no_back ord x u w m)
       all v t ord f (mix x) u w m = inr (refl, f x u w m)
 
 -- ---- letters first

@@ -43,19 +43,19 @@ laying_start layers e = record {
 
 -- a pass finds the states `near` that have a step to the last layer, and those of the starts among them
 module _ {E : ℕ → ℕ → Type 0} {starts ends : ℕ} (layers : List ℕ) (k seen near met : ℕ) (now : Laying E starts ends layers k seen)
-    (is-near : Onward (λ t s. E s t) (get_or layers k 0) near) (is-met : (t : ℕ) → member t met ≡ (member t near && member t starts)) where
+    (is_near : Onward (λ t s. E s t) (get_or layers k 0) near) (is_met : (t : ℕ) → member t met ≡ (member t near && member t starts)) where
   in_near : (s t : ℕ) → E s t → t ∈ get_or layers k 0 → s ∈ near
-  in_near s t e m = (is-near s).1 (t, m, e)
+  in_near s t e m = (is_near s).1 (t, m, e)
 
   in_met : (s t : ℕ) → s ∈ starts → E s t → t ∈ get_or layers k 0 → s ∈ met
-  in_met s t h e m = intersection_both near starts met is-met s (in_near s t e m) h
+  in_met s t h e m = intersection_both near starts met is_met s (in_near s t e m) h
 
   -- what has a step to a state that was seen is not found before something is seen
   pub near_seen : (s : ℕ) → s ∈ near → (t : ℕ) × (t ∈ seen)
-  near_seen s h = let r = (is-near s).0 h in (r.0, now.in_seen k r.0 (omega arith) r.1)
+  near_seen s h = let r = (is_near s).0 h in (r.0, now.in_seen k r.0 (omega arith) r.1)
 
   pub met_near : (s : ℕ) → s ∈ met → s ∈ near
-  met_near = intersection_left near starts met is-met
+  met_near = intersection_left near starts met is_met
 
   -- a start that was seen is an end, since a step leads down from every other state that was
   seen_end : (s : ℕ) → s ∈ starts → s ∈ seen → s ∈ ends
@@ -76,8 +76,8 @@ module _ {E : ℕ → ℕ → Type 0} {starts ends : ℕ} (layers : List ℕ) (k
   pub laying_met : (start : ℕ) → start ∈ met → ((s : ℕ) → s ∈ met → start ≤ s) → seen < 2 ^ 64 → k < ones seen → Lays E starts ends layers (From start (k + 1))
   laying_met start h low fits count =
       let z : (k + 1) - 1 ≡ k = omega arith in
-      let m = intersection_right near starts met is-met start h in
-      let r = (is-near start).0 (met_near start h) in
+      let m = intersection_right near starts met is_met start h in
+      let r = (is_near start).0 (met_near start h) in
       record {
         some = omega arith;
         few = omega (arith, ones-le 64 seen fits);
@@ -91,10 +91,10 @@ module _ {E : ℕ → ℕ → Type 0} {starts ends : ℕ} (layers : List ℕ) (k
       }
 
   -- there are none, and the states `next` are those that are in no layer
-  module _ (none-met : met ≡ 0) (next : ℕ) (is-next : (t : ℕ) → member t next ≡ (member t near && not (member t seen))) where
+  module _ (none_met : met ≡ 0) (next : ℕ) (is_next : (t : ℕ) → member t next ≡ (member t near && not (member t seen))) where
     unmet_to : Unmet E starts layers (suc k)
     unmet_to j s t h g e m = ⊎_elim (λ l. now.unmet j s t l g e m)
-        (λ q. in_none s (subst (λ (x : ℕ). s ∈ x) none-met (in_met s t g e (subst (λ (x : ℕ). t ∈ get_or layers x 0) q m)))) (upto j k h)
+        (λ q. in_none s (subst (λ (x : ℕ). s ∈ x) none_met (in_met s t g e (subst (λ (x : ℕ). t ∈ get_or layers x 0) q m)))) (upto j k h)
 
     -- a step to a layer starts in a layer, or is new
     entered : (j s t : ℕ) → j < suc k → E s t → t ∈ get_or layers j 0 → ((i : ℕ) × (i ≤ suc j) × (i ≤ k) × (s ∈ get_or layers i 0)) ⊎ ((j ≡ k) × (s ∈ next))
@@ -103,7 +103,7 @@ module _ {E : ℕ → ℕ → Type 0} {starts ends : ℕ} (layers : List ℕ) (k
         (λ q. ⊎_elim
         (λ g. let r = now.seen_in s g in inl (r.0, omega (arith, r.1), r.1, r.2))
         (λ g. inr (q, g))
-        (difference_cases near seen next is-next s ((is-near s).1 (t, subst (λ (x : ℕ). t ∈ get_or layers x 0) q m, e))))
+        (difference_cases near seen next is_next s ((is_near s).1 (t, subst (λ (x : ℕ). t ∈ get_or layers x 0) q m, e))))
         (upto j k h)
 
     -- where there is none, no step enters what is seen
@@ -123,7 +123,7 @@ module _ {E : ℕ → ℕ → Type 0} {starts ends : ℕ} (layers : List ℕ) (k
       pub laying_grows : seen < 2 ^ 64 → next < 2 ^ 64 → sum < 2 ^ 64 → (next ≡ 0 → ⊥) → ones seen < ones sum
       laying_grows hf hn hs n =
           ones_grows seen sum hf hs (union_left seen next sum is_sum)
-          (λ e. n (none next hn (λ t h. difference_not near seen next is-next t h
+          (λ e. n (none next hn (λ t h. difference_not near seen next is_next t h
           (subst (λ (x : ℕ). t ∈ x) (sym e) (union_right seen next sum is_sum t h)))))
 
       -- one layer more
@@ -139,7 +139,7 @@ module _ {E : ℕ → ℕ → Type 0} {starts ends : ℕ} (layers : List ℕ) (k
 
         -- no new state is in a layer before
         fresh : (j s : ℕ) → j ≤ k → s ∈ next → s ∈ get_or layers' j 0 → ⊥
-        fresh j s h n m = difference_not near seen next is-next s n (now.in_seen j s h (old j s h m))
+        fresh j s h n m = difference_not near seen next is_next s n (now.in_seen j s h (old j s h m))
 
         sides : (j : ℕ) → j ≤ suc k → (j ≤ k) ⊎ (j ≡ suc k)
         sides j h = ⊎_elim (λ g. inl (omega arith)) inr (upto j (suc k) (omega arith))
@@ -161,7 +161,7 @@ module _ {E : ℕ → ℕ → Type 0} {starts ends : ℕ} (layers : List ℕ) (k
             sound : (j s : ℕ) → j < suc k → s ∈ get_or layers' (suc j) 0 → (t : ℕ) × E s t × (t ∈ get_or layers' j 0)
             sound j s h m = ⊎_elim
                 (λ l. let r = now.is.sound j s l (old (suc j) s l m) in (r.0, r.1, keep j r.0 (omega arith) r.2))
-                (λ e. let r = (is-near s).0 (difference_left near seen next is-next s (new (suc j) s (omega arith) m)) in
+                (λ e. let r = (is_near s).0 (difference_left near seen next is_next s (new (suc j) s (omega arith) m)) in
                 (r.0, r.2, keep j r.0 (omega arith) (subst (λ (x : ℕ). r.0 ∈ get_or layers x 0) (sym e) r.1)))
                 (upto j k h)
 

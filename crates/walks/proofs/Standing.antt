@@ -9,7 +9,7 @@ use native.Mathlib.Omega.{arith}
 use lib.ListN.{length, get_or, length-map}
 use Rattle.lists.specs.Tests.{◌among◌}
 use Rattle.lists.proofs.Deciding.{map_in}
-use Rattle.lists.proofs.Places.{getD_among, place_of, held_at}
+use Rattle.lists.proofs.Places.{get_or_among, place_of, held_at}
 use Rattle.masks.specs.Mask.{◌∈◌, ◌⊆◌}
 use Rattle.rows.specs.declared.Row.{Row}
 use Rattle.rows.specs.declared.Row.TheVariants.{Successor, LeftLimit, RightLimit}
@@ -52,7 +52,7 @@ keyed_letters {rows} {highs} {lows} {n} keyed table = record { letter_iff = λ a
   where
     to : (a x t : ℕ) → LetterAt highs n a x t → Successor a x t among rows
     to a x t (j, hj, e) = let r = (row_at rows highs lows n keyed table j hj).0 in
-        subst (λ (y : Row). y among rows) (sym r ∙ letter_low (get_or highs j 0) (get_or lows j 0) e) (getD_among rows j none (omega (arith, keyed.count)))
+        subst (λ (y : Row). y among rows) (sym r ∙ letter_low (get_or highs j 0) (get_or lows j 0) e) (get_or_among rows j none (omega (arith, keyed.count)))
 
     of : (a x t : ℕ) → Successor a x t among rows → LetterAt highs n a x t
     of a x t m =

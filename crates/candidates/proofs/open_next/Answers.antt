@@ -4,7 +4,7 @@ use Rattle.candidates.proofs.open_next.Goals as goal
 
 pub returns : goal.returns
 returns c n pieced low =
-    let is-tried = c.unstuck-tried.ensures in
-    opens_tried c.requires pieced c.unstuck-tried.result is-tried
-    (c.found_among-found.ensures (pieced_among c.args.pieces c.unstuck-tried.result pieced (λ i h. low i ((is-tried i).0 h).0)))
+    let is_tried = c.unstuck-tried.ensures in
+    opens_tried c.requires pieced c.unstuck-tried.result is_tried
+    (c.found_among-found.ensures (pieced_among c.args.pieces c.unstuck-tried.result pieced (λ i h. low i ((is_tried i).0 h).0)))
     c.difference-due.result c.difference-due.ensures c.union.result c.union.ensures

@@ -5,7 +5,7 @@ use mathlib.Core.Path.{refl}
 use mathlib.Core.List.{[], ◌∷◌}
 use Rattle.rows.proofs.Reading.{all_bytes}
 use Rattle.machine.specs.Calls.{load, withdraw, close, round, reopen, verdict, print, save, expression}
-use Rattle.machine.specs.Marks.{on, mark, return-to}
+use Rattle.machine.specs.Marks.{on, mark, return_to}
 use Rattle.ffi_session.specs.Promise.{words, call_of}
 use Rattle.ffi_session.proofs.Calling.{makes, makes_in, makes_none, marks_named, returns_named, none_named}
 use Rattle.ffi_session.proofs.make_call.Goals as goal
@@ -58,7 +58,7 @@ returns-in-53-to-56 c =
     let b = c.args.byte in
     let l : 53 ≤ b = omega arith in
     let h : b ≤ 56 = omega arith in
-    makes _ _ b (return-to ((b + 44) ∷ [])) tt (returns_named _ _ b l h) refl c.return_to.ensures
+    makes _ _ b (return_to ((b + 44) ∷ [])) tt (returns_named _ _ b l h) refl c.return_to.ensures
 
 pub returns-in_default : goal.returns-in_default
 returns-in_default c = makes_none _ _ _ (none_named _ _ _ (λ e. omega (arith, e)) (λ e. omega (arith, e)) (λ e. omega (arith, e)) (λ e. omega (arith, e)) (λ e. omega (arith, e)) (λ e. omega (arith, e)) (λ e. omega (arith, e)) (λ e. omega (arith, e)) (λ e. omega (arith, e)) (λ d h e. omega (arith, h, e)))

@@ -34,11 +34,11 @@ returns-then-has c =
     let a = c.args in
     let g = graph_of a.graph.now in
     let up = c.above-up.result in
-    let is-led = sym c.has.ensures ∙ c.if-has.true in
-    let is-left = sym c.lefts_at-left.ensures in
+    let is_led = sym c.has.ensures ∙ c.if-has.true in
+    let is_left = sym c.lefts_at-left.ensures in
     let is_right = sym c.rights_at-right.ensures in record {
-      forward = claim_led g a.new a.led a.live a.i _ up is-led is-left (over (goal.at.returns-then-has c).After-above-up) c.take_out.ensures;
-      backward = (λ back turned. claim_led back a.new a.led a.live a.i _ up is-led (turned.lefts_are a.i ∙ is_right) (over_turned turned a.live a.i up (over (goal.at.returns-then-has c).After-above-up)) c.take_out-then-has.ensures);
+      forward = claim_led g a.new a.led a.live a.i _ up is_led is_left (over (goal.at.returns-then-has c).After-above-up) c.take_out.ensures;
+      backward = (λ back turned. claim_led back a.new a.led a.live a.i _ up is_led (turned.lefts_are a.i ∙ is_right) (over_turned turned a.live a.i up (over (goal.at.returns-then-has c).After-above-up)) c.take_out-then-has.ensures);
       above = raised (goal.at.returns-then-has c).After-above-up;
     }
 
@@ -48,10 +48,10 @@ returns c =
     let g = graph_of a.graph.now in
     let up = c.above-up.result in
     let is_set = sym c.set_at-p.ensures in
-    let is-left = sym c.lefts_at-left.ensures in
+    let is_left = sym c.lefts_at-left.ensures in
     let is_right = sym c.rights_at-right.ensures in record {
-      forward = claim_supplied g a.new a.led a.live a.i g.sets up c.has-looping.ensures (λ i. refl) is_set is-left is_right (over (goal.at.returns c).After-above-up) c.lead.ensures;
+      forward = claim_supplied g a.new a.led a.live a.i g.sets up c.has-looping.ensures (λ i. refl) is_set is_left is_right (over (goal.at.returns c).After-above-up) c.lead.ensures;
       backward = (λ back turned. claim_supplied back a.new a.led a.live a.i g.sets up c.has-looping.ensures turned.sets_are (turned.sets_are a.i ∙ is_set)
-          (turned.lefts_are a.i ∙ is_right) (turned.rights_are a.i ∙ is-left) (over_turned turned a.live a.i up (over (goal.at.returns c).After-above-up)) c.lead-2.ensures);
+          (turned.lefts_are a.i ∙ is_right) (turned.rights_are a.i ∙ is_left) (over_turned turned a.live a.i up (over (goal.at.returns c).After-above-up)) c.lead-2.ensures);
       above = raised (goal.at.returns c).After-above-up;
     }

@@ -4,7 +4,7 @@ use borrow.Author.Count.{below_more}
 use Rattle.lists.proofs.Deciding.{says_yes, says_no, denied}
 use Rattle.std.proofs.lemmas.Bool.{not_from_false}
 use Rattle.machine.specs.Marks.{Name}
-use Rattle.lists.proofs.Places.{getD_among, place_of}
+use Rattle.lists.proofs.Places.{get_or_among, place_of}
 use Rattle.marks.proofs.is_name.Goals as goal
 
 pub returns-then-name-eq0 : goal.returns-then-name-eq0
@@ -18,7 +18,7 @@ loop-i-init c = (omega arith, λ j h. absurd (omega arith))
 
 pub returns-then-not-is_letter : goal.returns-then-not-is_letter
 returns-then-not-is_letter c =
-    says_no (λ n. denied c.is_letter.ensures (not_from_false _ c.if-not-is_letter.true) (n.letters _ (getD_among _ c.loop-i.i 0 (omega arith))))
+    says_no (λ n. denied c.is_letter.ensures (not_from_false _ c.if-not-is_letter.true) (n.letters _ (get_or_among _ c.loop-i.i 0 (omega arith))))
 
 pub loop-i-preserved : goal.loop-i-preserved
 loop-i-preserved c = (omega arith, below_more _ _ c.loop-i.invariant.1 (c.is_letter.ensures.to c.if-not-is_letter.false))

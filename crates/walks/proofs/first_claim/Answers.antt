@@ -19,13 +19,13 @@ ordered back force = SetsRise (graph_of back) force
 abbrev lacking : List ℕ → Claims → ℕ → ℕ → ℕ → Type 0
 lacking back force a layer k = ordered back force → Lacks layer (ways back force a) (ordered back force) k
 
-no-omega : (c : In-Nothing) → let a = c.args in lacking a.back.now a.force a.a a.layer 1
+no_omega : (c : In-Nothing) → let a = c.args in lacking a.back.now a.force a.a a.layer 1
 unfolding graph_of
-no-omega c o = let a = c.args in lacks a.layer (ways a.back.now a.force a.a) (ordered a.back.now a.force) 1 c.in-Nothing.is c.first_pass-by_omega.ensures o.0
+no_omega c o = let a = c.args in lacks a.layer (ways a.back.now a.force a.a) (ordered a.back.now a.force) 1 c.in-Nothing.is c.first_pass-by_omega.ensures o.0
 
-no-back : (c : In-Nothing-by_back) → let a = c.args in lacking a.back.now a.force a.a a.layer 2
+no_back : (c : In-Nothing-by_back) → let a = c.args in lacking a.back.now a.force a.a a.layer 2
 unfolding graph_of
-no-back c o = let a = c.args in lacks a.layer (ways a.back.now a.force a.a) (ordered a.back.now a.force) 2 c.in-Nothing-by_back.is c.first_pass-by_back.ensures o.0
+no_back c o = let a = c.args in lacks a.layer (ways a.back.now a.force a.a) (ordered a.back.now a.force) 2 c.in-Nothing-by_back.is c.first_pass-by_back.ensures o.0
 
 pub returns-in_default : goal.returns-in_default
 unfolding graph_of
@@ -33,9 +33,9 @@ returns-in_default c = let a = c.args in choose_omega a.layer (ways a.back.now a
 
 pub returns-in_default-by_back : goal.returns-in_default-by_back
 unfolding graph_of
-returns-in_default-by_back c = let a = c.args in choose_back a.layer (ways a.back.now a.force a.a) (ordered a.back.now a.force) (no_letters (graph_of a.back.now) a.force a.a a.layer) (no-omega (goal.at.returns-in_default-by_back c).In-Nothing) c.first_pass-by_back.result (not_nothing c.in_default-by_back.is) (λ o. o.0)
+returns-in_default-by_back c = let a = c.args in choose_back a.layer (ways a.back.now a.force a.a) (ordered a.back.now a.force) (no_letters (graph_of a.back.now) a.force a.a a.layer) (no_omega (goal.at.returns-in_default-by_back c).In-Nothing) c.first_pass-by_back.result (not_nothing c.in_default-by_back.is) (λ o. o.0)
     c.first_pass-by_back.ensures
 
 pub returns : goal.returns
 unfolding graph_of
-returns c = let a = c.args in choose_mix a.layer (ways a.back.now a.force a.a) (ordered a.back.now a.force) (no_letters (graph_of a.back.now) a.force a.a a.layer) (no-omega (goal.at.returns c).In-Nothing) (no-back (goal.at.returns c).In-Nothing-by_back) c.first_pass.result (λ o. o.1) c.first_pass.ensures
+returns c = let a = c.args in choose_mix a.layer (ways a.back.now a.force a.a) (ordered a.back.now a.force) (no_letters (graph_of a.back.now) a.force a.a a.layer) (no_omega (goal.at.returns c).In-Nothing) (no_back (goal.at.returns c).In-Nothing-by_back) c.first_pass.result (λ o. o.1) c.first_pass.ensures

@@ -17,13 +17,13 @@ returns-then-met-ne0 c =
     let low = c.take_lowest-next in
     let i = low.result.low in
     let a = c.args in
-    let is-met = rw (c.mask_at.ensures, c.mask_at-in-loop-rest.ensures) at c.entered-met.ensures in
-    let in_met = (is-met c.lowest.result).0 c.lowest.ensures.is in
+    let is_met = rw (c.mask_at.ensures, c.mask_at-in-loop-rest.ensures) at c.entered-met.ensures in
+    let in_met = (is_met c.lowest.result).0 c.lowest.ensures.is in
     let l = a.back.now in
     rw c.set_at.ensures (record {
       is = (refl, (i, c.loop-rest.invariant.through.left i low.ensures.is, refl, in_met.0, in_met.1), in_met.2);
       first = pass_first (part l 64) (part l a.here) (part l a.there) a.places a.a a.layer c.loop-rest.rest i c.entered-met.result c.lowest.result a.kind
-          c.loop-rest.invariant low.ensures.is low.ensures.least is-met c.lowest.ensures.least;
+          c.loop-rest.invariant low.ensures.is low.ensures.least is_met c.lowest.ensures.least;
     })
 
 pub loop-rest-smaller : goal.loop-rest-smaller
@@ -31,8 +31,8 @@ loop-rest-smaller c = c.take_lowest-next.ensures.fewer
 
 pub loop-rest-preserved : goal.loop-rest-preserved
 loop-rest-preserved c =
-    let is-met = rw (c.mask_at.ensures, c.mask_at-in-loop-rest.ensures) at c.entered-met.ensures in
-    gather_none c.take_lowest-next.ensures c.loop-rest.invariant (λ t b. in_none t (subst (λ (x : ℕ). t ∈ x) c.if-met-ne0.false ((is-met t).1 b)))
+    let is_met = rw (c.mask_at.ensures, c.mask_at-in-loop-rest.ensures) at c.entered-met.ensures in
+    gather_none c.take_lowest-next.ensures c.loop-rest.invariant (λ t b. in_none t (subst (λ (x : ℕ). t ∈ x) c.if-met-ne0.false ((is_met t).1 b)))
 
 pub returns : goal.returns
 returns c =

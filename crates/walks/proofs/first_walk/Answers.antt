@@ -39,8 +39,8 @@ returns-then-both-ne0 c =
         low_target = λ j l. absurd (omega (arith, e.2));
         low_letter = λ j l. absurd (omega (arith, e.2));
       };
-      first = λ g rows claims k turned is count letters table is-initials is-finals.
-          answer_here rows claims a.initials a.finals is-initials is-finals table c.staying.result start e.0 e.1 e.2
+      first = λ g rows claims k turned is count letters table is_initials is_finals.
+          answer_here rows claims a.initials a.finals is_initials is_finals table c.staying.result start e.0 e.1 e.2
           h (intersection_right a.initials a.finals both c.intersection-both.ensures start least.is)
           (λ s g m. least.least s (intersection_both a.initials a.finals both c.intersection-both.ensures s g m));
     }
@@ -56,8 +56,8 @@ returns-in-From c =
     let steps : ℕ = c.in-From.steps in
     let few : steps < 64 = ⊎_elim (λ m. absurd (unmet (goal.at.returns-in-From c).Else-both-ne0 start l.begins m)) (λ h. h) l.fewer in record {
       bounded = bounded a.words.now a.count (graph_of a.back.now) a.force c.lay.new.layers start steps c.follow.result c.follow.ensures (member_lt start a.initials l.begins) few;
-      first = λ g rows claims k turned is count letters table is-initials is-finals.
-          answer_best rows claims a.initials a.finals is-initials is-finals table turned is count letters (unmet (goal.at.returns-in-From c).Else-both-ne0) c.lay.new.layers start steps c.follow.result l c.follow.ensures;
+      first = λ g rows claims k turned is count letters table is_initials is_finals.
+          answer_best rows claims a.initials a.finals is_initials is_finals table turned is count letters (unmet (goal.at.returns-in-From c).Else-both-ne0) c.lay.new.layers start steps c.follow.result l c.follow.ensures;
     }
 
 pub returns-in-Nowhere : goal.returns-in-Nowhere
@@ -70,7 +70,7 @@ returns-in-Nowhere c =
         low_target = λ j h. absurd (omega (arith, e.2));
         low_letter = λ j h. absurd (omega (arith, e.2));
       };
-      first = λ g rows claims k turned is count letters table is-initials is-finals.
-          answer_none rows claims a.initials a.finals is-initials is-finals table turned is count letters (unmet (goal.at.returns-in-Nowhere c).Else-both-ne0) c.lay.new.layers c.no_walk.result e.0
+      first = λ g rows claims k turned is count letters table is_initials is_finals.
+          answer_none rows claims a.initials a.finals is_initials is_finals table turned is count letters (unmet (goal.at.returns-in-Nowhere c).Else-both-ne0) c.lay.new.layers c.no_walk.result e.0
           (rw c.in-Nowhere.is at c.lay.ensures.laid);
     }

@@ -27,7 +27,7 @@ onward c = rw (sym c.loop-force.invariant.1) c.near-near.ensures
 -- where one is found, there are more states than layers
 more-seen : {E : ℕ → ℕ → Type 0} {starts ends : ℕ} (layers : List ℕ) (k seen near met : ℕ) → Laying E starts ends layers k seen → Onward (λ t s. E s t) (get_or layers k 0) near
     → ((t : ℕ) → member t met ≡ (member t near && member t starts)) → ((t : ℕ) → t ∈ seen → k < ones seen) → (s : ℕ) → s ∈ near → k < ones seen
-more-seen layers k seen near met now on is-met more s h = let r = near_seen layers k seen near met now on is-met s h in more r.0 r.1
+more-seen layers k seen near met now on is_met more s h = let r = near_seen layers k seen near met now on is_met s h in more r.0 r.1
 
 length-kept : (c : After-intersection-met) → length c.loop-force.layers ≡ length c.args.layers.now
 length-kept c = let a = c.args in c.loop-force.invariant.0 ∙ length-set a.layers.now 0 a.ends
