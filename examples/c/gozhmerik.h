@@ -1,5 +1,5 @@
-/* Gozhmerik: does an automaton on linear orderings accept any word? The library is libffi_c.a, which `rt lib` in crates/ffi_c proves
-   and writes into out/; it is for x86-64. docs/FORMAT.md explains batches, sheets and refusals. */
+/* Gozhmerik: does an automaton on linear orderings accept any word? The library is target/staticlib/libffi.a, as
+   docs/FORMAT.md makes it of what `rt lib` in crates/ffi_c proves and writes; it is for x86-64. That page explains batches, sheets and refusals. */
 #ifndef GOZHMERIK_H
 #define GOZHMERIK_H
 
