@@ -6,12 +6,16 @@ use mathlib.Core.Logic.{◌⊎◌, inl, inr, ⊎_elim, ◌↔◌, ◌≢◌}
 use mathlib.Core.List.{List, ◌++◌}
 use lib.Dec.{eqb}
 use lib.ListN.{length, get_or, set, replicate, length-set}
-use lib.Seq.{get_or-append-add, get_or-set_same, get_or-set_other}
+use lib.Seq.{get_or-take, get_or-drop, get_or-append-add, get_or-set_same, get_or-set_other}
+use borrow.Rule.Slice.PartMut.{put_mid}
 use native.Mathlib.Omega.{arith}
+use Rattle.std.proofs.Common.{rules}
+use Rattle.std.proofs.lemmas.List.{places}
+use Rattle.std.proofs.lemmas.Slice.{take-put_mid_below, drop-put_mid}
 use Rattle.lists.proofs.Deciding.{eqb_decides, ltb_decides, dec_decides}
 use Rattle.masks.specs.Mask.{member, ◌∈◌}
 use Rattle.masks.proofs.Member.{with_same, with_cases, lt_or_le}
-use Rattle.sorted_keys.specs.declared.Place.TheVariants.{At, Gap}
+use Rattle.std.specs.Prelude.{Ok, Err}
 use Rattle.sorted_keys.specs.Keys.{SearchesWord}
 use Rattle.automaton.specs.Promise.{Adds, AddsAt, HasSets, PlaceOf}
 
@@ -64,20 +68,37 @@ past_padded n l i h = let e : length l + (i - length l) ≡ i = omega arith in
 pub no_sets : (sets : List ℕ) → HasSets sets 0 (replicate 448 0)
 no_sets sets = record { length_is = refl; sets_are = λ j h. absurd (omega arith); others = λ j h. zeros 448 j }
 
-pub one_set_more : (sets r : List ℕ) (i : ℕ) → i < 64 → HasSets sets i r → HasSets sets (i + 1) (set r (64 + i) (get_or sets i 0))
-one_set_more sets r i h now = record {
-  length_is = length-set r (64 + i) (get_or sets i 0) ∙ now.length_is;
-  sets_are = λ j l. ⊎_elim
-      (λ g. get_or-set_other r (64 + i) (64 + j) (get_or sets i 0) 0 (λ e. omega arith) ∙ now.sets_are j g)
-      (λ g. let e : j ≡ i = omega arith in rw e (get_or-set_same r (64 + i) (get_or sets i 0) 0 (omega (arith, now.length_is))))
-      (lt_or_le j i);
-  others = λ j l. get_or-set_other r (64 + i) j (get_or sets i 0) 0 (λ e. ⊎_elim (λ g. omega arith) (λ g. omega arith) l)
-      ∙ now.others j (⊎_elim inl (λ g. inr (omega arith)) l);
+-- the sets copied into their part of a graph that has nothing
+pub sets_put : (old sets : List ℕ) (k : ℕ) → old ≡ replicate 448 0 → k ≡ length sets → length sets ≤ 64 → HasSets sets (length sets) (put_mid 64 k old sets)
+sets_put old sets k e long few = record {
+  length_is = search (rules, places);
+  sets_are = λ j h. search (rules, places);
+  others = λ j h. ⊎_elim (below j) (behind j) h ∙ none j;
 }
+  where
+    size : length old ≡ 448
+    size = ap length e
+
+    none : (j : ℕ) → get_or old j 0 ≡ 0
+    none j = ap (λ (l : List ℕ). get_or l j 0) e ∙ zeros 448 j
+
+    new : List ℕ
+    new = put_mid 64 k old sets
+
+    below : (j : ℕ) → j < 64 → get_or new j 0 ≡ get_or old j 0
+    below j l = sym (get_or-take 64 new j 0 l) ∙ ap (λ (m : List ℕ). get_or m j 0) (take-put_mid_below 64 k old sets 64 (omega arith) (omega (arith, size))) ∙ get_or-take 64 old j 0 l
+
+    behind : (j : ℕ) → 64 + length sets ≤ j → get_or new j 0 ≡ get_or old j 0
+    behind j l =
+        let n = 64 + length sets in
+        let i : n + (j - n) ≡ j = omega arith in
+        ap (λ (m : ℕ). get_or new m 0) (sym i) ∙ sym (get_or-drop n new (j - n) 0)
+        ∙ ap (λ (m : List ℕ). get_or m (j - n) 0) (drop-put_mid 64 k old sets n (omega arith) (omega (arith, size)) (sym long))
+        ∙ get_or-drop n old (j - n) 0 ∙ ap (λ (m : ℕ). get_or old m 0) i
 
 module _ (sets : List ℕ) (n x : ℕ) where
   -- where the search finds the set, that is its place
-  pub found_place : (i : ℕ) → SearchesWord sets n x (At i) → PlaceOf sets n x i
+  pub found_place : (i : ℕ) → SearchesWord sets n x (Ok i) → PlaceOf sets n x i
   found_place i s rising j l = let f = s.finds rising in ((λ e. ap (λ k. get_or sets k 0) e ∙ f.1), λ e. only f.0 f.1 e)
     where
       only : i < n → get_or sets i 0 ≡ x → get_or sets j 0 ≡ x → j ≡ i
@@ -89,6 +110,6 @@ module _ (sets : List ℕ) (n x : ℕ) where
           go (no p) (no q) = omega arith
 
   -- where it finds a gap, no place has the set
-  pub no_place : (i : ℕ) → n ≤ 64 → SearchesWord sets n x (Gap i) → PlaceOf sets n x 64
+  pub no_place : (i : ℕ) → n ≤ 64 → SearchesWord sets n x (Err i) → PlaceOf sets n x 64
   no_place i few s rising j l = let f = s.finds rising in
       ((λ e. absurd (omega arith)), λ e. ⊎_elim (λ k. absurd (omega (arith, f.1 j k))) (λ k. absurd (omega (arith, f.2 j k l))) (lt_or_le j i))

@@ -1,20 +1,22 @@
--- The graph of the rows that were passed (`none_passed`, `pass_initial` to `pass_right`; of letters alone `letters_start`, `over_left`, `over_right`), and that nothing says yet which sets a state touches
+-- The graph of the rows that were passed (`none_passed`, `pass_initial` to `pass_right`; of letters alone `letters_start`, `letters_in`, `letters_out`), and that nothing says yet which sets a state touches
 -- (`none_unindexed` to `struck_unindexed`).
 use Prim.Native.Nat.{ℕ, ◌+◌, ◌<◌, ◌≤◌}
 use mathlib.Core.Path.{◌≡◌, refl, ap, ap₂, sym, ◌∙◌, subst}
 use mathlib.Core.Logic.{◌⊎◌, inl, inr, ⊎_elim, ◌↔◌, ◌≢◌}
 use mathlib.Core.List.Memᴰ
 use mathlib.Core.List.{List, [], ◌∷◌, ◌++◌}
-use lib.ListN.{length, get_or, replicate}
+use lib.ListN.{length, get_or, take, replicate}
+use lib.Seq.{length-take-le, get_or-take}
 use native.Mathlib.Omega.{arith}
 use Rattle.lists.specs.Tests.{◌among◌}
 use Rattle.masks.specs.Mask.{◌∈◌}
 use Rattle.masks.proofs.Member.{lt_or_le, in_none}
 use Rattle.rows.specs.declared.Row.{Row}
 use Rattle.rows.specs.declared.Row.TheVariants.{Initial, Final, Successor, LeftLimit, RightLimit, Strike}
+use Rattle.sorted_keys.specs.Keys.{Rising}
 use Rattle.search.specs.Graph.{Unindexed}
 use Rattle.automaton.specs.declared.Seen.{Seen}
-use Rattle.automaton.specs.Passed.{Some, Starts, Ends, Takes, Leads, Enters, Leaves, Marked, Passed, LettersPassed}
+use Rattle.automaton.specs.Passed.{Some, Starts, Ends, Takes, Leads, Enters, Leaves, Marked, Passed, SetsPassed, LettersPassed}
 use Rattle.automaton.specs.Promise.{Adds, AddsAt, HasSets}
 use Rattle.automaton.specs.Striking.{Strikes}
 use Rattle.automaton.proofs.Adding.{put_iff, no_sets}
@@ -173,30 +175,6 @@ module _ (Order : Type 0) (sets : List ℕ) (n : ℕ) (few : n ≤ 64) {l : List
     leaves = λ o i t k. own (Leaves (get_or sets i 0) t) g (limit_own (λ P q. RightLimit q P) (λ a b c d i. (cc, cc)) Order sets n 192 few graph new P q at e there h.size is o i t k) (h.leaves o i t k);
   }
 
--- ---- letters alone
-
-pub letters_start : LettersPassed [] (replicate 448 0) (record { initials = 0; finals = 0; struck = 0 })
-letters_start = none_passed (Unit {0}) [] 0 (replicate 448 0) (omega arith) (no_sets [])
-
--- a limit row is passed over
-pub pass_over : {l : List Row} {graph : List ℕ} {seen : Seen} → LettersPassed l graph seen → {x : Row} {l' : List Row} → Grown l x l'
-    → ((t : ℕ) → ¬ Starts t x) → ((t : ℕ) → ¬ Ends t x) → ((t : ℕ) → ¬ Takes t x) → ((p q : ℕ) → ¬ Leads p q x) → LettersPassed l' graph seen
-pass_over h g no_start no_end no_strike no_step = record {
-  size = h.size;
-  kept = h.kept;
-  marks = marks_stay (Unit {0}) [] 0 (omega arith) h g no_start no_end no_strike;
-  leads = λ p q j. other (Leads p q) g (no_step p q) (h.leads p q j);
-  enters = λ o i t k. absurd (omega arith);
-  leaves = λ o i t k. absurd (omega arith);
-}
-
-module _ {l : List Row} {graph : List ℕ} {seen : Seen} (h : LettersPassed l graph seen) {x : Row} {P q : ℕ} where
-  pub over_left : x ≡ LeftLimit P q → LettersPassed (l ++ (x ∷ [])) graph seen
-  over_left e = pass_over h (grown_last l x) (λ t p. never (cc p.0)) (λ t p. never (cc p.0)) (λ t p. never (cc p.0)) (λ p q w. never (cc w.1))
-
-  pub over_right : x ≡ RightLimit q P → LettersPassed (l ++ (x ∷ [])) graph seen
-  over_right e = pass_over h (grown_last l x) (λ t p. never (cc p.0)) (λ t p. never (cc p.0)) (λ t p. never (cc p.0)) (λ p q w. never (cc w.1))
-
 -- ---- other sets
 
 module _ {Order : Type 0} {sets : List ℕ} {n : ℕ} {l : List Row} {graph : List ℕ} {initials finals struck : ℕ} (h : Passed Order sets n l graph initials finals struck) where
@@ -210,6 +188,10 @@ module _ {Order : Type 0} {sets : List ℕ} {n : ℕ} {l : List Row} {graph : Li
     enters = λ o i t k. rw (same i k) (h.enters o i t k);
     leaves = λ o i t k. rw (same i k) (h.leaves o i t k);
   }
+
+  -- what is assumed follows from something else
+  pub passed_by : {Other : Type 0} → (Other → Order) → Passed Other sets n l graph initials finals struck
+  passed_by f = record { size = h.size; kept = h.kept; marks = h.marks; leads = h.leads; enters = λ o. h.enters (f o); leaves = λ o. h.leaves (f o) }
 
   -- one set more, which no row has, and no limits at its place
   pub passed_set : (sets' graph' : List ℕ) → n < 64 → length graph' ≡ 448 → ((i : ℕ) → i < n → get_or sets' i 0 ≡ get_or sets i 0) → get_or graph' (64 + n) 0 ≡ get_or sets' n 0
@@ -225,6 +207,25 @@ module _ {Order : Type 0} {sets : List ℕ} {n : ℕ} {l : List Row} {graph : Li
     leaves = λ o i t k. rw (others (192 + i) (λ e. omega arith)) (⊎_elim (λ g. rw (same i g) (h.leaves o i t g))
         (λ g. let e : i ≡ n = omega arith in rw (e, no_right) ((λ m. absurd (in_none t m)), λ s. absurd (no_leaves t s))) (lt_or_le i n));
   }
+
+-- the first k sets of an array
+pub passed_front : (sets : List ℕ) (k : ℕ) → k ≤ length sets → {l : List Row} {graph : List ℕ} {seen : Seen} → SetsPassed (take k sets) l graph seen
+    → Passed (Rising (take k sets) k) sets k l graph seen.initials seen.finals seen.struck
+passed_front sets k few {l} {graph} {seen} h = passed_as
+    (subst (λ (m : ℕ). Passed (Rising (take k sets) m) (take k sets) m l graph seen.initials seen.finals seen.struck) (length-take-le k sets few) h)
+    sets (λ i g. sym (get_or-take k sets i 0 g))
+
+-- ---- letters alone
+
+pub letters_start : LettersPassed [] (replicate 448 0) (record { initials = 0; finals = 0; struck = 0 })
+letters_start = none_passed (Unit {0}) [] 0 (replicate 448 0) (omega arith) (no_sets [])
+
+-- there are no sets that could stand out of order
+pub letters_in : {l : List Row} {graph : List ℕ} {seen : Seen} → LettersPassed l graph seen → SetsPassed [] l graph seen
+letters_in h = passed_by h (λ o. tt)
+
+pub letters_out : {l : List Row} {graph : List ℕ} {seen : Seen} → SetsPassed [] l graph seen → LettersPassed l graph seen
+letters_out h = passed_by h (λ o i j g k. absurd (omega arith))
 
 -- ---- nothing stands behind the four parts, and no set from place n on has a limit
 

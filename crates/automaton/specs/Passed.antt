@@ -2,6 +2,7 @@
 use Rattle.std.specs.Prelude.{ℕ, ◌+◌, ◌<◌, ◌≡◌, ◌↔◌, List, [], ◌∷◌, ◌++◌, length, get_or}
 use Rattle.lists.specs.Tests.{◌among◌}
 use Rattle.masks.specs.Mask.{◌∈◌}
+use Rattle.sorted_keys.specs.Keys.{Rising}
 use Rattle.rows.specs.declared.Row.{Row}
 use Rattle.rows.specs.Rows.{AllFit}
 use Rattle.automaton.specs.declared.Seen.{Seen}
@@ -45,6 +46,10 @@ pub record Passed (Order : Type 0) (sets : List ℕ) (n : ℕ) (l : List Row) (g
   pub leads : (p q : ℕ) → p < 64 → (q ∈ get_or graph p 0) ↔ Some (Leads p q) l
   pub enters : Order → (i t : ℕ) → i < n → (t ∈ get_or graph (128 + i) 0) ↔ Some (Enters (get_or sets i 0) t) l
   pub leaves : Order → (i t : ℕ) → i < n → (t ∈ get_or graph (192 + i) 0) ↔ Some (Leaves (get_or sets i 0) t) l
+
+-- where the sets stand in order
+abbrev pub SetsPassed : List ℕ → List Row → List ℕ → Seen → Type 0
+SetsPassed sets l graph seen = Passed (Rising sets (length sets)) sets (length sets) l graph seen.initials seen.finals seen.struck
 
 -- ---- letters alone: a graph without sets
 

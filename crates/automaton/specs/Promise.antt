@@ -1,6 +1,7 @@
 -- The graph that the search reads, as the rows give it.
 use Rattle.std.specs.Prelude.{ℕ, ◌+◌, ◌≤◌, ◌<◌, ◌≡◌, ◌⊎◌, ◌↔◌, ◌≢◌, List, length, take, get_or}
 use Rattle.masks.specs.Mask.{◌∈◌}
+use Rattle.sorted_keys.specs.declared.Key.{Key}
 use Rattle.sorted_keys.specs.Keys.{Rising}
 use Rattle.rows.specs.declared.Row.{Row}
 use Rattle.rows.specs.Rows.{AllFit}
@@ -30,6 +31,13 @@ pub record HasSets (sets : List ℕ) (i : ℕ) (r : List ℕ) : Type 0 where
 abbrev pub PlaceOf : List ℕ → ℕ → ℕ → ℕ → Type 0
 PlaceOf sets n x r = Rising sets n → (i : ℕ) → i < n → (i ≡ r) ↔ (get_or sets i 0 ≡ x)
 
+-- the state s is added to the mask at the place of the set x in the part that begins at base; a place from 64 on is none
+pub record AddsLimit (sets old : List ℕ) (base x s : ℕ) (new : List ℕ) : Type 0 where
+  pub place : ℕ
+  pub is : PlaceOf sets (length sets) x place
+  pub within : (place < length sets) ⊎ (64 ≤ place)
+  pub adds : AddsAt old base place s new
+
 -- an automaton by its parts
 abbrev pub automaton_of : List ℕ → ℕ → ℕ → Automaton
 automaton_of graph initials finals = record { graph = graph; initials = initials; finals = finals }
@@ -47,7 +55,7 @@ pub record GivesLetters (rows : List Row) (r : Automaton) : Type 0 where
   pub initial_iff : Initials rows r.initials
   pub final_iff : Finals rows r.finals
 
--- the same of all rows that fit, whose keys are the first n of the arrays, and whose k sets are the first k of theirs
-abbrev pub GivesKeyed : List ℕ → List ℕ → ℕ → List ℕ → ℕ → Automaton → Type 0
-GivesKeyed highs lows n sets k r =
-    (rows : List Row) → AllFit rows → Keyed rows highs lows n → k ≡ length (Rows.standing_sets rows) → take k sets ≡ Rows.standing_sets rows → Gives rows sets k r
+-- the same of all rows that fit, whose keys are the first n of an array, and whose k sets are the first k of another
+abbrev pub GivesKeyed : List Key → ℕ → List ℕ → ℕ → Automaton → Type 0
+GivesKeyed keys n sets k r =
+    (rows : List Row) → AllFit rows → Keyed rows keys n → k ≡ length (Rows.standing_sets rows) → take k sets ≡ Rows.standing_sets rows → Gives rows sets k r

@@ -1,30 +1,24 @@
 // The graph that the search reads, made in one pass over the keys of rows.
 #![tactic(auto)]
 
-ghost use Rattle.std.specs.Prelude.{◌≡◌, ◌⊎◌, ◌≤◌, ◌<◌, replicate};
-ghost use Rattle.search.specs.Graph.{Indexed};
-ghost use Rattle.automaton.specs.Promise.{Adds, AddsAt, HasSets, PlaceOf, GivesKeyed, automaton_of};
-ghost use Rattle.automaton.specs.Passed.{TakesLetter, FinishesLetters};
+ghost use Rattle.std.specs.Prelude.{◌≡◌, not, ◌&&◌, ℕ, ◌≤◌, ◌<◌, List, [], ◌∷◌, ◌++◌, length, replicate};
+ghost use Rattle.masks.specs.Mask.{member};
+ghost use Rattle.rows.specs.declared.Row.{Row};
+ghost use Rattle.search.specs.Graph.{Unindexed, Indexed};
+ghost use Rattle.automaton.specs.Promise.{Adds, AddsAt, AddsLimit, HasSets, GivesKeyed, automaton_of};
+ghost use Rattle.automaton.specs.Passed.{SetsPassed, TakesLetter, FinishesLetters};
 ghost use Rattle.automaton.specs.Striking.{Remains, StruckSets, LeavesOut, Strikes, Finishes};
 
-use machine::{MOST_ROWS, MOST_SETS};
 use masks::{NO_STATE, PLACES, Places, Set};
+use row_table::{RowKeys, RowSets};
 use rows::Row;
-use search::graphs;
 use search::graphs::{LEFTS, MASKS, Masks, RIGHTS, SETS};
-use sorted_keys::Place;
+use search::{Endpoints, graphs};
 
 // The graph of some rows as one array of masks; their initial and their final states.
 #[derive(Drop)]
 pub struct Automaton {
     pub graph: Masks,
-    pub initials: Set,
-    pub finals: Set,
-}
-
-// The states that walks start from, and those that they end at.
-#[derive(Clone, Copy)]
-pub struct Endpoints {
     pub initials: Set,
     pub finals: Set,
 }
@@ -35,6 +29,19 @@ pub struct Seen {
     pub initials: Set,
     pub finals: Set,
     pub struck: Set,
+}
+
+impl Seen {
+    // The initial and the final states that are not struck.
+    pub fn points(self) -> Endpoints
+        ensures starts { (t : ℕ) → member t result.initials ≡ (member t self.initials && not (member t self.struck)) }
+        ensures ends { (t : ℕ) → member t result.finals ≡ (member t self.finals && not (member t self.struck)) }
+    {
+        Endpoints {
+            initials: masks::difference(self.initials, self.struck),
+            finals: masks::difference(self.finals, self.struck),
+        }
+    }
 }
 
 // The states of `m`, and `s`, if that is a state.
@@ -58,29 +65,22 @@ fn put(graph: &mut Masks, base: usize, at: usize, s: u8)
     }
 }
 
-// The place of `x` among the first `n` sets, or 64, which is none.
-fn place(sets: &[Set; MOST_SETS], set_count: usize, x: Set) -> usize
-    requires { set_count ≤ 64 }
-    ensures is { PlaceOf sets.now set_count x result }
-    ensures within { (result < set_count) ⊎ (64 ≤ result) }
+// Adds `s` to the mask at the place of the set in the part that begins at `base`, if it is one of the sets.
+fn put_limit(graph: &mut Masks, base: usize, sets: &[Set], set: Set, s: u8)
+    requires { (base ≤ 192) × (length sets.now ≤ 64) }
+    ensures { AddsLimit sets.now graph.old base set s graph.new }
 {
-    match sorted_keys::find_word(sets, set_count, x) {
-        Place::At(i) => i,
-        Place::Gap(_) => PLACES,
+    if let Ok(at) = sets.binary_search(&set) {
+        put(graph, base, at, s);
     }
 }
 
-// Puts the first `n` sets into their part of a graph that has nothing yet.
-fn put_sets(graph: &mut Masks, sets: &[Set; MOST_SETS], set_count: usize)
-    requires { set_count ≤ 64 }
-    ensures { graph.old ≡ replicate 448 0 →
-        HasSets sets.now set_count graph.new }
+// Puts the sets into their part of a graph that has nothing yet.
+fn put_sets(graph: &mut Masks, sets: &[Set])
+    requires { length sets.now ≤ 64 }
+    ensures { graph.old ≡ replicate 448 0 → HasSets sets.now (length sets.now) graph.new }
 {
-    let mut i = 0;
-    while i < set_count {
-        graph[SETS + i] = sets[i];
-        i += 1;
-    }
+    graph[SETS..SETS + sets.len()].copy_from_slice(sets);
 }
 
 // The states of `m` that are not struck, none if the mask goes.
@@ -99,12 +99,10 @@ fn struck_sets(graph: &Masks, set_count: usize, struck: Set) -> Places
     ensures { StruckSets graph.now set_count struck result }
 {
     let mut places: Places = 0;
-    let mut i = 0;
-    while i < set_count {
+    for i in 0..set_count {
         if masks::meets(graph[SETS + i], struck) {
             places = masks::with(places, i as u8);
         }
-        i += 1;
     }
     places
 }
@@ -115,11 +113,9 @@ fn leave_out(graph: &mut Masks, base: usize, count: usize, gone: Places, struck:
     requires { (base ≤ 192) × (count ≤ 64) }
     ensures { LeavesOut graph.old base count gone struck graph.new }
 {
-    let mut i = 0;
-    while i < count {
+    for i in 0..count {
         let at = base + i;
         graph[at] = remaining(graph[at], masks::has(gone, i as u8), struck);
-        i += 1;
     }
 }
 
@@ -146,61 +142,68 @@ pub fn finish(graph: &mut Masks, set_count: usize, struck: Set)
     graphs::index(graph, set_count);
 }
 
-// Fills a graph that has nothing yet from the rows that have the first `n` keys, whose sets are the first `k`: each row adds one state to
-// one mask.
-pub fn fill(
-    graph: &mut Masks,
-    high: &[u64; MOST_ROWS],
-    low: &[u64; MOST_ROWS],
-    row_count: usize,
-    sets: &[Set; MOST_SETS],
-    set_count: usize,
-) -> Endpoints
-    requires { (row_count ≤ 256) × (set_count ≤ 64) }
+// One row into the graph of the rows before it: it adds one state to one mask.
+fn take_row(graph: &mut Masks, sets: &[Set], before: Seen, row: Row) -> Seen
+    requires { length sets.now ≤ 64 }
+    ensures bare { Unindexed graph.old (length sets.now) → Unindexed graph.new (length sets.now) }
+    ensures takes { (l : List Row) → SetsPassed sets.now l graph.old before
+        → SetsPassed sets.now (l ++ (row ∷ [])) graph.new result }
+{
+    match row {
+        Row::Initial(s) => {
+            return Seen {
+                initials: add(before.initials, s),
+                ..before
+            };
+        }
+        Row::Final(s) => {
+            return Seen {
+                finals: add(before.finals, s),
+                ..before
+            };
+        }
+        Row::Successor(p, _, q) => put(graph, 0, usize::from(p), q),
+        Row::LeftLimit(set, q) => put_limit(graph, LEFTS, sets, set, q),
+        Row::RightLimit(q, set) => put_limit(graph, RIGHTS, sets, set, q),
+        Row::Strike(s) => {
+            return Seen {
+                struck: add(before.struck, s),
+                ..before
+            };
+        }
+    }
+    before
+}
+
+// Fills a graph that has nothing yet from the rows that have the keys.
+pub fn fill(graph: &mut Masks, keys: &RowKeys, sets: &RowSets) -> Endpoints
     ensures gives { graph.old ≡ replicate 448 0 →
-        GivesKeyed high.now low.now row_count sets.now set_count
+        GivesKeyed keys.now.keys keys.now.count sets.now.sets sets.now.count
         (automaton_of graph.new result.initials result.finals) }
     ensures indexed { graph.old ≡ replicate 448 0 → Indexed graph.new }
 {
-    put_sets(graph, sets, set_count);
-    let mut initials: Set = 0;
-    let mut finals: Set = 0;
-    let mut struck: Set = 0;
-    let mut i = 0;
-    while i < row_count {
-        let row = rows::row_of(high[i], low[i]);
-        match row {
-            Row::Initial(s) => initials = add(initials, s),
-            Row::Final(s) => finals = add(finals, s),
-            Row::Successor(p, _, q) => put(graph, 0, p as usize, q),
-            Row::LeftLimit(set, q) => put(graph, LEFTS, place(sets, set_count, set), q),
-            Row::RightLimit(q, set) => put(graph, RIGHTS, place(sets, set_count, set), q),
-            Row::Strike(s) => struck = add(struck, s),
-        }
-        i += 1;
+    let held = &sets.sets[..sets.count];
+    put_sets(graph, held);
+    let mut seen = Seen {
+        initials: 0,
+        finals: 0,
+        struck: 0,
+    };
+    for key in &keys.keys[..keys.count] {
+        seen = take_row(graph, held, seen, Row::of_key(*key));
     }
-    finish(graph, set_count, struck);
-    Endpoints {
-        initials: masks::difference(initials, struck),
-        finals: masks::difference(finals, struck),
-    }
+    finish(graph, sets.count, seen.struck);
+    seen.points()
 }
 
 // The same as one value, for those who hold no graph.
-pub fn of_keys(
-    high: &[u64; MOST_ROWS],
-    low: &[u64; MOST_ROWS],
-    row_count: usize,
-    sets: &[Set; MOST_SETS],
-    set_count: usize,
-) -> Automaton
-    requires { (row_count ≤ 256) × (set_count ≤ 64) }
-    ensures gives { GivesKeyed high.now low.now row_count
-        sets.now set_count result }
+pub fn of_keys(keys: &RowKeys, sets: &RowSets) -> Automaton
+    ensures gives { GivesKeyed keys.now.keys keys.now.count
+        sets.now.sets sets.now.count result }
     ensures indexed { Indexed result.graph }
 {
     let mut graph = [0u64; MASKS];
-    let points = fill(&mut graph, high, low, row_count, sets, set_count);
+    let points = fill(&mut graph, keys, sets);
     Automaton {
         graph,
         initials: points.initials,
@@ -212,26 +215,7 @@ pub fn of_keys(
 pub fn take_letter(graph: &mut Masks, before: Seen, row: Row) -> Seen
     ensures { TakesLetter graph.old before row graph.new result }
 {
-    match row {
-        Row::Initial(s) => Seen {
-            initials: add(before.initials, s),
-            ..before
-        },
-        Row::Final(s) => Seen {
-            finals: add(before.finals, s),
-            ..before
-        },
-        Row::Successor(p, _, q) => {
-            put(graph, 0, p as usize, q);
-            before
-        }
-        Row::LeftLimit(_, _) => before,
-        Row::RightLimit(_, _) => before,
-        Row::Strike(s) => Seen {
-            struck: add(before.struck, s),
-            ..before
-        },
-    }
+    take_row(graph, &[], before, row)
 }
 
 // The letter steps of all rows are in such a graph: those at struck states go.
@@ -239,8 +223,5 @@ pub fn finish_letters(graph: &mut Masks, seen: Seen) -> Endpoints
     ensures { FinishesLetters graph.old seen graph.new result.initials result.finals }
 {
     strike(graph, 0, seen.struck);
-    Endpoints {
-        initials: masks::difference(seen.initials, seen.struck),
-        finals: masks::difference(seen.finals, seen.struck),
-    }
+    seen.points()
 }

@@ -1,23 +1,19 @@
--- A loop that writes the rows of edges, the lowest place first: what is written and what is left (`WroteFirst`), its start, its turn, its room and its end.
+-- The rows of edges, the lowest place first: those of all (`edges_start`), the first of them (`first_edge`), and of none (`no_rows`).
 use Prim.Native.Nat.{ℕ, zero, suc, ◌+◌, ◌-◌, ◌^◌, ◌≤◌, ◌<◌}
 use mathlib.Core.Path.{◌≡◌, refl, ap, sym, ◌∙◌}
 use mathlib.Core.Bool.{Bool, true, false, not, ◌&&◌, and-eq-true_iff}
 use mathlib.Core.Logic.{⊎_elim, ◌≢◌}
-use mathlib.Core.List.{List, [], ◌∷◌, ◌++◌, map, append_assoc, append-nil}
-use lib.ListN.{length, length-append}
+use mathlib.Core.List.{List, [], ◌∷◌, ◌++◌, map}
 use lib.Dec.{lit<}
 use native.Mathlib.Nat.{eq-or-lt_of_le}
 use native.Mathlib.Omega.{arith}
 use Rattle.lists.specs.Tests.{keep, range}
-use Rattle.lists.specs.Writing.{WroteAt}
 use Rattle.lists.proofs.Deciding.{alike, test_decides, says_no}
-use Rattle.lists.proofs.Writing.{wrote_at_none, wrote_at_more}
 use Rattle.masks.specs.Mask.{member, ◌∈◌, TakesLowest}
 use Rattle.masks.proofs.Digit.{digit_none, digit_not}
 use Rattle.masks.proofs.Member.{member_digit, member_none, member_small}
 use Rattle.rows.specs.Rows.{row_bytes, batch_of}
 use Rattle.buchi_rows.specs.Writing.{edge_row, edge_rows}
-use Rattle.buchi_rows.proofs.Kept.{kept_length, edge_length}
 
 -- tests that are alike keep the same numbers
 keep_alike : (f g : ℕ → Bool) (a n : ℕ) → ((i : ℕ) → a ≤ i → i < a + n → f i ≡ g i) → keep f (range a n) ≡ keep g (range a n)
@@ -56,7 +52,10 @@ lowest_row left low rest t h =
     same : (i : ℕ) → i ≢ low → member i left ≡ member i rest
     same i n = alike (test_decides (member i left)) (test_decides (member i rest)) (λ x. (t.others i).1 (x, n)) (λ x. ((t.others i).0 x).0)
 
-no_rows : edge_rows 0 ≡ []
+pub first_edge : {left low rest : ℕ} → TakesLowest left low rest → low < 36 → batch_of (edge_rows left) ≡ row_bytes (edge_row low) ++ batch_of (edge_rows rest)
+first_edge {left} {low} {rest} t h = ap batch_of (lowest_row left low rest t h)
+
+pub no_rows : edge_rows 0 ≡ []
 unfolding edge_rows
 no_rows = ap (map edge_row) (keep_alike (λ k. member k 0) (λ k. false) 0 36 (λ i p q. member_none i))
 
@@ -64,53 +63,16 @@ no_rows = ap (map edge_row) (keep_alike (λ k. member k 0) (λ k. false) 0 36 (�
 place_of_edge : (t : ℕ) → t < 36 → member t (2 ^ 36 - 1) ≡ true
 place_of_edge t h = member_digit t (2 ^ 36 - 1) (omega arith) ∙ digit_not t 36 0 h (lit< tt) ∙ ap not (digit_none t)
 
--- some rows are written from a place on, into a buffer that stays as long, and those of the edges left are to come
-pub record WroteFirst (edges : ℕ) (old now : List ℕ) (at next left : ℕ) : Type 0 where
-  pub done : List ℕ
-  pub parts : batch_of (edge_rows edges) ≡ done ++ batch_of (edge_rows left)
-  pub few : (t : ℕ) → t ∈ left → t < 36
-  pub length_is : length now ≡ length old
-  pub wrote : WroteAt done old now at next
-
-pub first_start : (edges left : ℕ) (old : List ℕ) (at : ℕ) → ((t : ℕ) → member t left ≡ (member t edges && member t (2 ^ 36 - 1))) → WroteFirst edges old old at at left
+-- a mask with the edges and no other place has their rows
+pub edges_start : (edges left : ℕ) → ((t : ℕ) → member t left ≡ (member t edges && member t (2 ^ 36 - 1))) → edge_rows left ≡ edge_rows edges
 unfolding edge_rows
-first_start edges left old at is = record {
-  done = [];
-  parts = ap (λ (l : List ℕ). batch_of (map edge_row l)) (keep_alike (λ k. member k edges) (λ k. member k left) 0 36 (λ i p q. sym (is i ∙ rw (place_of_edge i q) (and_true (member i edges)))));
-  few = λ t h. member_small 36 t (2 ^ 36 - 1) (lit< tt) ((and-eq-true_iff (member t edges) (member t (2 ^ 36 - 1))).0 (sym (is t) ∙ h)).1;
-  length_is = refl;
-  wrote = wrote_at_none old at;
-}
+edges_start edges left is =
+    ap (map edge_row) (keep_alike (λ k. member k left) (λ k. member k edges) 0 36 (λ i p q. is i ∙ rw (place_of_edge i q) (and_true (member i edges))))
   where
     and_true : (b : Bool) → (b && true) ≡ b
     and_true true = refl
     and_true false = refl
 
-module _ {edges : ℕ} {old now : List ℕ} {at next left : ℕ} (w : WroteFirst edges old now at next left) where
-  -- the row of the lowest edge, and the others
-  split : (low rest : ℕ) → TakesLowest left low rest → batch_of (edge_rows edges) ≡ w.done ++ (row_bytes (edge_row low) ++ batch_of (edge_rows rest))
-  split low rest t = w.parts ∙ ap (λ l. w.done ++ batch_of l) (lowest_row left low rest t (w.few low t.is))
-
-  pub first_next : (new : List ℕ) {r : ℕ} (low rest : ℕ) → TakesLowest left low rest → length new ≡ length now → WroteAt (row_bytes (edge_row low)) now new next r → WroteFirst edges old new at r rest
-  first_next new low rest t e p = record {
-    done = w.done ++ row_bytes (edge_row low);
-    parts = split low rest t ∙ sym (append_assoc w.done (row_bytes (edge_row low)) (batch_of (edge_rows rest)));
-    few = λ i h. w.few i ((t.others i).0 h).0;
-    length_is = e ∙ w.length_is;
-    wrote = wrote_at_more w.done (row_bytes (edge_row low)) old now new w.wrote p;
-  }
-
-  -- all rows together have at most 144 bytes
-  all_short : length (batch_of (edge_rows edges)) ≤ 144
-  unfolding edge_rows
-  all_short = kept_length edge_row (λ k. member k edges) 0 36 4 edge_length
-
-  -- there is room for one row more
-  pub first_room : (low rest : ℕ) → TakesLowest left low rest → next + 4 ≤ at + 144
-  unfolding row_bytes
-  first_room low rest t = omega (arith, all_short, w.wrote.place_is, ap (length {A = ℕ}) (split low rest t), length-append w.done (row_bytes (edge_row low) ++ batch_of (edge_rows rest)))
-
-  pub first_end : left ≡ 0 → WroteAt (batch_of (edge_rows edges)) old now at next × (next ≤ at + 144)
-  first_end z =
-      let e : batch_of (edge_rows edges) ≡ w.done = w.parts ∙ ap (λ (k : ℕ). w.done ++ batch_of (edge_rows k)) z ∙ ap (λ l. w.done ++ batch_of l) no_rows ∙ append-nil w.done in
-      (rw e w.wrote, omega (arith, all_short, w.wrote.place_is, ap (length {A = ℕ}) e))
+-- and its places are below 36
+pub edges_few : (edges left : ℕ) → ((t : ℕ) → member t left ≡ (member t edges && member t (2 ^ 36 - 1))) → (t : ℕ) → t ∈ left → t < 36
+edges_few edges left is t h = member_small 36 t (2 ^ 36 - 1) (lit< tt) ((and-eq-true_iff (member t edges) (member t (2 ^ 36 - 1))).0 (sym (is t) ∙ h)).1

@@ -5,8 +5,9 @@ use mathlib.Core.List.{List, [], ◌∷◌, ◌++◌, append_assoc}
 use lib.ListN.{length, take, drop, length-append}
 use lib.Seq.{take_at}
 use native.Mathlib.Omega.{arith}
-use Rattle.machine.specs.declared.Answer.{Answer}
-use Rattle.machine.specs.declared.Answer.TheVariants.{Wrote}
+use Rattle.machine.specs.Calls.{Answer}
+use Rattle.std.specs.Prelude.{Ok}
+use Rattle.machine.specs.declared.Success.TheVariants.{Wrote}
 use Rattle.machine.specs.declared.Verdict.{Verdict}
 use Rattle.machine.specs.declared.Verdict.TheVariants.{NonEmpty}
 use Rattle.machine.specs.declared.Phase.{Phase}
@@ -37,7 +38,7 @@ print_keeps m size = by m.phase
     by (Settled v) = refl
 
 -- the bytes that an accepted print wrote
-printed_sheet : (m : Machine) (old new : List ℕ) (r : Answer) → PrintsTrue m old new r → ExactPrint m old new r → (n : ℕ) → r ≡ Wrote n → (v : Verdict) → m.phase ≡ Settled v
+printed_sheet : (m : Machine) (old new : List ℕ) (r : Answer) → PrintsTrue m old new r → ExactPrint m old new r → (n : ℕ) → r ≡ Ok (Wrote n) → (v : Verdict) → m.phase ≡ Settled v
     → take n new ≡ sheet v m
 printed_sheet m old new r p x n i v e =
     let a = p n i in
@@ -50,7 +51,7 @@ printed_sheet m old new r p x n i v e =
 
 -- sheet and expression of one machine
 one_walk : (m : Machine) (old new old' new' : List ℕ) (p r : Reply) → PrintsTrue m old new p.answer → ExactPrint m old new p.answer
-    → OneExpression m p.session (exchange (on (expression (length old'))) old' new' r) → (n n' : ℕ) → p.answer ≡ Wrote n → r.answer ≡ Wrote n' → OneWalk m (take n new) (take n' new')
+    → OneExpression m p.session (exchange (on (expression (length old'))) old' new' r) → (n n' : ℕ) → p.answer ≡ Ok (Wrote n) → r.answer ≡ Ok (Wrote n') → OneWalk m (take n new) (take n' new')
 one_walk m old new old' new' p r true_sheet exact o n n' i j =
     let a = o.accepted.0 (n', j) in
     let b = o.exact n' a.1.0 j a.1.1 in

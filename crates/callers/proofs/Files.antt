@@ -11,8 +11,9 @@ use native.Mathlib.Omega.{arith}
 use Rattle.rows.specs.declared.Row.{Row}
 use Rattle.rows.specs.Rows.{batch_of, Bytes}
 use Rattle.rows.proofs.Batch.{batch_bytes}
-use Rattle.machine.specs.declared.Answer.{Answer}
-use Rattle.machine.specs.declared.Answer.TheVariants.{Wrote}
+use Rattle.machine.specs.Calls.{Answer}
+use Rattle.std.specs.Prelude.{Ok}
+use Rattle.machine.specs.declared.Success.TheVariants.{Wrote}
 use Rattle.machine.specs.declared.Phase.TheVariants.{Settled}
 use Rattle.machine.specs.Machine.{Machine, open_with}
 use Rattle.machine.specs.Calls.{load, close, round, wrote, refused, Next, run, second}
@@ -71,11 +72,11 @@ wrote_is true l m e = let z : ◌≡◌ {A = ℕ} 0 1 = cc in absurd (omega arit
 wrote_is false l m e = sym (ap shown e)
 
 -- what was written are the rows of the automaton
-pub settles_file : (file old new : List ℕ) (r : Answer) (n : ℕ) (s : Session) → Converts file old new r → r ≡ Wrote n → RoundsAfter (on (load (take n new)) ∷ on close ∷ []) s
+pub settles_file : (file old new : List ℕ) (r : Answer) (n : ℕ) (s : Session) → Converts file old new r → r ≡ Ok (Wrote n) → RoundsAfter (on (load (take n new)) ∷ on close ∷ []) s
     → SettlesFile file old new (record { converted = r; session = s })
 settles_file file old new r n s c w x = record { converts = c; worked_so = by }
   where
-    by : (h : Buchi) (k : ℕ) → IsFileOf file h → r ≡ Wrote k → FileWorked h (take k new) s
+    by : (h : Buchi) (k : ℕ) → IsFileOf file h → r ≡ Ok (Wrote k) → FileWorked h (take k new) s
     by h k i e =
         let t = some_rows h i.0 in
         let b = text_by (c.accepted t.0 (record { automaton = h; file_is = i; rows_are = t.1 })) n w in
@@ -85,12 +86,12 @@ settles_file file old new r n s c w x = record { converts = c; worked_so = by }
         (subst (λ (l : List ℕ). FileWorked h l s) (sym is) (file_worked h t.0 i.0 t.1 s (subst (λ (l : List ℕ). RoundsAfter (on (load l) ∷ on close ∷ []) s) is x)))
 
 -- the bytes that were written are within the buffer
-pub converted_fits : (file old new : List ℕ) (r : Answer) → Converts file old new r → (n : ℕ) → r ≡ Wrote n → n ≤ length new
+pub converted_fits : (file old new : List ℕ) (r : Answer) → Converts file old new r → (n : ℕ) → r ≡ Ok (Wrote n) → n ≤ length new
 converted_fits file old new r c n w = ⊎_elim
     (λ (t : (rows : List Row) × HasTable file rows). let b = text_by (c.accepted t.0 t.1) n w in omega (arith, b.2, ap (length {A = ℕ}) b.3, length-take n new))
     (λ (t : (k : ℕ) × ((place : ℕ) × FileCause file k place)). let b = text_by (c.refuses t.0 t.1.0 t.1.1) n w in let e = b.1 in let z : ◌≡◌ {A = ℕ} 0 1 = cc in absurd (omega arith))
     c.some_outcome
 
 -- nothing was written
-pub file_refused : (file old new : List ℕ) (r : Answer) (s : Session) → Converts file old new r → ((n : ℕ) → r ≡ Wrote n → ⊥) → SettlesFile file old new (record { converted = r; session = s })
+pub file_refused : (file old new : List ℕ) (r : Answer) (s : Session) → Converts file old new r → ((n : ℕ) → r ≡ Ok (Wrote n) → ⊥) → SettlesFile file old new (record { converted = r; session = s })
 file_refused file old new r s c no_text = record { converts = c; worked_so = λ h n i w. absurd (no_text n w) }

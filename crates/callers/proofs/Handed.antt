@@ -15,8 +15,12 @@ use Rattle.rows.specs.declared.Row.{Row}
 use Rattle.rows.specs.Batch.{Fed, fed, failed, feed}
 use Rattle.orderings.specs.Decide.{accepts?}
 use Rattle.orderings.specs.MoreRows.{Grows, StrikesNothing}
-use Rattle.machine.specs.declared.Answer.{Answer}
-use Rattle.machine.specs.declared.Answer.TheVariants.{Done, Wrote, Decided, Refused}
+use Rattle.machine.specs.Calls.{Answer}
+use Rattle.std.specs.Prelude.{Ok, Err}
+use Rattle.causes.specs.declared.Cause.TheVariants.{StillOpen, ShortBuffer}
+use Rattle.machine.specs.declared.Refusal.{Refusal}
+use Rattle.machine.specs.declared.Success.TheVariants as Successes
+use Rattle.machine.specs.declared.Success.TheVariants.{Done, Wrote, Decided}
 use Rattle.machine.specs.declared.Verdict.{Verdict}
 use Rattle.machine.specs.declared.Phase.{Phase}
 use Rattle.machine.specs.declared.Phase.TheVariants.{Open, Running, Settled}
@@ -25,7 +29,7 @@ use Rattle.machine.specs.Calls.{Call, load, close, round, reopen, verdict, print
 use Rattle.machine.specs.Causes.{NotOpen, running, settled, NeedsClosed, rounding, printing, saves, still_open}
 use Rattle.machine.specs.Marks.{Marked, fresh_marked, MarkedCall, on, marked_call, marked_run, by_table}
 use Rattle.machine.specs.Statements.{after_calls}
-use Rattle.machine.proofs.Answers.{done_by, answer_by, tells_as}
+use Rattle.machine.proofs.Answers.{done_by, answer_by, answer_due, tells_as}
 use Rattle.machine.proofs.Phases.{open_closes, settled_refuses}
 use Rattle.machine.proofs.Outcomes.{Done as RoundDone, round_done, comes, writing, deciding, rounds_no_batch, rows_kept}
 use Rattle.machine.proofs.Ending.{rounds_done}
@@ -37,7 +41,7 @@ use Rattle.session.specs.Record.{record_of, Represents}
 use Rattle.session.specs.Standing.{reply}
 use Rattle.session.proofs.Whole.{phase_of}
 use Rattle.demands.specs.Trace.{Exchange, Trace, given, Served, onward, plain_after, exchange}
-use Rattle.demands.specs.Demands.{EveryCall, Answered, PrintsTrue, SavesRows, ExactPrint}
+use Rattle.demands.specs.Demands.{EveryCall, Answered, Refuses, PrintsTrue, SavesRows, ExactPrint}
 use Rattle.demands.specs.Requests.{OneRound, OneVerdict, Printed, SheetsGrow}
 use Rattle.callers.specs.Handed.{HandedBack, FirstCall, RoundsAfter, worked, PrintedAfter, reworked, AddedLate, RefusedFirst, judged_and_worked, VerdictFirst, SavedAgain}
 use Rattle.demands.proofs.Reached.{Stands, told, step, fresh_is, reached}
@@ -98,6 +102,24 @@ pub on_rounds : (x : Marked) (cs : List Call) (k : ℕ) → (marked_run x (map o
 on_rounds x cs k = ap (λ (l : List MarkedCall). (marked_run x l).now) (ap (λ (l : List MarkedCall). map on cs ++ l) (sym (map_rounds k)) ∙ sym (map-append on cs (replicate k round)))
     ∙ ap (λ (y : Marked). y.now) (run_on x (cs ++ replicate k round))
 
+-- ---- what an arm of a caller's `match` knows of an answer
+
+-- an answer that is a success, and which one
+pub told_as : {a : Answer} {d e : Successes.the_data} → a ≡ Ok d → d ≡ e → a ≡ Ok e
+told_as i j = i ∙ ap Ok j
+
+pub refused_no_success : {a : Answer} {r : Refusal} {d : Successes.the_data} → a ≡ Err r → a ≡ Ok d → ⊥
+refused_no_success i j = let z : ◌≡◌ {A = ℕ} 0 1 = cc in absurd (omega arith)
+
+pub wrote_not_done : {a : Answer} {n : ℕ} → a ≡ Ok (Wrote n) → a ≡ Ok Done → ⊥
+wrote_not_done i j = let z : ◌≡◌ {A = ℕ} 0 1 = cc in absurd (omega arith)
+
+pub decided_not_done : {a : Answer} {v : Verdict} → a ≡ Ok (Decided v) → a ≡ Ok Done → ⊥
+decided_not_done i j = let z : ◌≡◌ {A = ℕ} 0 1 = cc in absurd (omega arith)
+
+pub decided_not_wrote : {a : Answer} {v : Verdict} {n : ℕ} → a ≡ Ok (Decided v) → a ≡ Ok (Wrote n) → ⊥
+decided_not_wrote i j = let z : ◌≡◌ {A = ℕ} 0 1 = cc in absurd (omega arith)
+
 -- ---- rounds until one is refused
 
 -- judged, a machine is not open
@@ -148,13 +170,13 @@ module _ (cs : List MarkedCall) (k : ℕ) (s : Session) (h : Rounding cs k s) wh
     unfolding marked_call
     fed_on = ap after_calls one_round ∙ ap (λ (x : Marked). x.now) (run_append fresh_marked so_far (on round ∷ []))
 
-    pub rounding_more : r.answer ≡ Done → Rounding cs (k + 1) r.session
+    pub rounding_more : r.answer ≡ Ok Done → Rounding cs (k + 1) r.session
     unfolding marked_call
     rounding_more i = let n = after_round (comes m round done (done_by (call m round).answer (sym answered.result ∙ ap returned i))) in
         record { handed = handed_on; not_open = rw fed_on n.0; done = rw fed_on (omega (arith, n.1, h.done)) }
 
     -- a round that is not done: the machine was settled
-    pub rounding_stop : k < 129 → (r.answer ≡ Done → ⊥) → RoundsAfter cs r.session
+    pub rounding_stop : k < 129 → (r.answer ≡ Ok Done → ⊥) → RoundsAfter cs r.session
     rounding_stop l not_done = by m.phase h.not_open refl
       where
         by : (p : Phase) → NotOpen p → m.phase ≡ p → RoundsAfter cs r.session
@@ -291,9 +313,9 @@ first_answered : (c : MarkedCall) (old new : List ℕ) (r : Reply) → FirstCall
 first_answered c old new r k = at_call [] (record_of fresh_marked) no_calls (exchange c old new r) k Answered demand_1
 
 -- reopen, round and print of a fresh session
-first_refused : {c : Call} → NeedsClosed c → (old new : List ℕ) (r : Reply) → FirstCall (on c) old new r → (r.answer ≡ Refused 9 0) × (r.session ≡ record_of fresh_marked) × (new ≡ old)
+first_refused : {c : Call} → NeedsClosed c → (old new : List ℕ) (r : Reply) → FirstCall (on c) old new r → Refuses r.answer StillOpen × (r.session ≡ record_of fresh_marked) × (new ≡ old)
 first_refused {c} x old new r k = let a = first_answered (on c) old new r k in let i = (a.refused 9 0).1 (by_table c 9 0 (still_open c x refl)) in
-    (i, (a.unchanged 9 0 i).0, (a.unchanged 9 0 i).1)
+    (answer_due (refused 9 0) r.answer i, (a.unchanged 9 0 i).0, (a.unchanged 9 0 i).1)
 
 same_answered : (c : MarkedCall) (old new : List ℕ) (r : Reply) → FirstCall c old new r → r.session ≡ record_of fresh_marked
     → Answered fresh_marked (record_of fresh_marked) (exchange c old new (reply (record_of fresh_marked) r.answer))
@@ -359,12 +381,6 @@ module _ (batch : List ℕ) (l v : Reply) (first : FirstCall (on (load batch)) [
 
 -- ---- save and load
 
-pub decided_not_wrote : {a : Answer} {v : Verdict} {k : ℕ} → a ≡ Decided v → a ≡ Wrote k → ⊥
-decided_not_wrote e f = let z : ◌≡◌ {A = ℕ} 0 1 = cc in omega arith
-
-pub refused_not_wrote : {a : Answer} {n place k : ℕ} → a ≡ Refused n place → a ≡ Wrote k → ⊥
-refused_not_wrote e f = let z : ◌≡◌ {A = ℕ} 0 1 = cc in omega arith
-
 module _ (batch old new : List ℕ) (l r : Reply) (first : FirstCall (on (load batch)) [] [] l) (k : Served l.session (exchange (on (save (length old))) old new r)) where
   abbrev then : Machine
   then = after_calls (on (load batch) ∷ [])
@@ -380,23 +396,23 @@ module _ (batch old new : List ℕ) (l r : Reply) (first : FirstCall (on (load b
       (told (at_call (on (load batch) ∷ []) l.session before saving k Stands reached) save (λ n. refl) (length old) refl)
 
   -- the rows fit into the buffer, or it is too short
-  fits_or_short : ((length (saved then) ≤ length old) × (r.answer ≡ Wrote (length (saved then))))
-      ⊎ ((length old < length (saved then)) × (r.answer ≡ Refused 12 0) × (new ≡ old))
+  fits_or_short : ((length (saved then) ≤ length old) × (r.answer ≡ Ok (Wrote (length (saved then)))))
+      ⊎ ((length old < length (saved then)) × Refuses r.answer ShortBuffer × (new ≡ old))
   fits_or_short = by (ltb (length old) (length (saved then))) (ltb_decides (length old) (length (saved then))) tells
     where
       by : (b : Bool) → Decides b (length old < length (saved then)) → Tells (cond b (refused 12 0) (wrote (saved then))) old new r.answer
-          → ((length (saved then) ≤ length old) × (r.answer ≡ Wrote (length (saved then)))) ⊎ ((length old < length (saved then)) × (r.answer ≡ Refused 12 0) × (new ≡ old))
+          → ((length (saved then) ≤ length old) × (r.answer ≡ Ok (Wrote (length (saved then))))) ⊎ ((length old < length (saved then)) × Refuses r.answer ShortBuffer × (new ≡ old))
       by true d t = inr (yes_decides d, answer_by t, t.buffer_is)
       by false d t = let n = no_decides d in inl (omega arith, answer_by t)
 
   -- the count of bytes is within the buffer
-  pub count_fits : (n : ℕ) → r.answer ≡ Wrote n → n ≤ length new
+  pub count_fits : (n : ℕ) → r.answer ≡ Ok (Wrote n) → n ≤ length new
   count_fits n i = ⊎_elim
       (λ p. let j = p.1 in let g : n ≡ length (saved then) = cc in
       omega (arith, p.0, (at_call (on (load batch) ∷ []) l.session before saving k Answered demand_1).buffered.1))
       (λ p. let j = p.1 in let z : ◌≡◌ {A = ℕ} 0 1 = cc in absurd (omega arith)) fits_or_short
 
-  pub saves_again : (n : ℕ) → r.answer ≡ Wrote n → (t : Reply) → FirstCall (on (load (take n new))) [] [] t → SavedAgain batch old new t
+  pub saves_again : (n : ℕ) → r.answer ≡ Ok (Wrote n) → (t : Reply) → FirstCall (on (load (take n new))) [] [] t → SavedAgain batch old new t
   saves_again n i t f =
       let a = at_call (on (load batch) ∷ []) l.session before saving k (λ x s e. (size : ℕ) → e.asked ≡ on (save size) → SavesRows x.now e.old e.new e.reply.answer) demand_2.saves (length old) refl n i in
       record {
@@ -407,7 +423,7 @@ module _ (batch old new : List ℕ) (l r : Reply) (first : FirstCall (on (load b
         short = λ h. ⊎_elim (λ p. absurd (omega (arith, p.0))) (λ p. let j = p.1 in let z : ◌≡◌ {A = ℕ} 0 1 = cc in absurd (omega arith)) fits_or_short;
       }
 
-  pub saves_short : ((n : ℕ) → r.answer ≡ Wrote n → ⊥) → SavedAgain batch old new r
+  pub saves_short : ((n : ℕ) → r.answer ≡ Ok (Wrote n) → ⊥) → SavedAgain batch old new r
   saves_short no_text = record {
     again = λ h. ⊎_elim (λ p. absurd (no_text (length (saved then)) p.1)) (λ p. absurd (omega (arith, p.0))) fits_or_short;
     short = λ h. ⊎_elim (λ p. absurd (omega (arith, p.0))) (λ p. (p.1, p.2)) fits_or_short;

@@ -3,7 +3,9 @@ use Rattle.std.specs.Prelude.{ℕ, ◌≤◌, ◌<◌, ◌≡◌, ◌↔◌, Lis
 use Rattle.std.proofs.Math.Option.{some}
 use Rattle.lists.specs.Tests.{gather}
 use Rattle.orderings.specs.MoreRows.{StrikesNothing}
-use Rattle.machine.specs.declared.Answer.TheVariants.{Done, Wrote, Decided, Refused}
+use Rattle.std.specs.Prelude.{Ok}
+use Rattle.causes.specs.declared.Cause.TheVariants.{StillOpen, ShortBuffer}
+use Rattle.machine.specs.declared.Success.TheVariants.{Done, Wrote, Decided}
 use Rattle.machine.specs.declared.Verdict.{Verdict}
 use Rattle.machine.specs.declared.Verdict.TheVariants.{NonEmpty}
 use Rattle.machine.specs.declared.Phase.TheVariants.{Settled}
@@ -29,7 +31,7 @@ use Rattle.callers.specs.declared.TwoVerdicts.{TwoVerdicts}
 use Rattle.callers.specs.declared.Refusals.{Refusals}
 use Rattle.callers.specs.declared.Tried.{Tried}
 use Rattle.demands.specs.Trace.{Exchange, Trace, given, Served, onward, exchange}
-use Rattle.demands.specs.Demands.{Answered, PrintsTrue, ExactPrint}
+use Rattle.demands.specs.Demands.{Answered, Refuses, PrintsTrue, ExactPrint}
 use Rattle.demands.specs.Requests.{OneRound, OneExpression, SheetsGrow}
 
 -- the session is what calls from a fresh one handed back
@@ -87,7 +89,7 @@ pub record ExpressedAfter (batch old new old' new' : List ℕ) (r : Expressed) :
   pub settled : (after_calls (worked batch count)).phase ≡ Settled verdict
   pub expressed : OneExpression (after_calls (worked batch count)) before (exchange (on (expression (length old'))) old' new' r.told)
   -- where both are accepted
-  pub one_walk : (n n' : ℕ) → r.printed ≡ Wrote n → r.told.answer ≡ Wrote n' → OneWalk (after_calls (worked batch count)) (take n new) (take n' new')
+  pub one_walk : (n n' : ℕ) → r.printed ≡ Ok (Wrote n) → r.told.answer ≡ Ok (Wrote n') → OneWalk (after_calls (worked batch count)) (take n new) (take n' new')
 
 -- a print, then reopen, load, close and k rounds
 abbrev pub reworked : ℕ → List ℕ → ℕ → List MarkedCall
@@ -100,7 +102,7 @@ pub record AddedLate (cs : List MarkedCall) (batch old new old' new' : List ℕ)
   pub handed : HandedBack (cs ++ (reworked (length old) batch count ++ (on (print (length old')) ∷ []))) r.again.session
   pub verdict : Verdict
   pub settled : (after_calls (cs ++ reworked (length old) batch count)).phase ≡ Settled verdict
-  pub sheets : StrikesNothing batch → (n n' : ℕ) → r.printed ≡ Wrote n → r.again.answer ≡ Wrote n' → SheetsGrow (take n new) (take n' new')
+  pub sheets : StrikesNothing batch → (n n' : ℕ) → r.printed ≡ Ok (Wrote n) → r.again.answer ≡ Ok (Wrote n') → SheetsGrow (take n new) (take n' new')
 
 abbrev pub AddsLate : Session → List ℕ → List ℕ → List ℕ → List ℕ → List ℕ → Added → Type 0
 AddsLate s batch old new old' new' r = (cs : List MarkedCall) → HandedBack cs s → AddedLate cs batch old new old' new' r
@@ -108,10 +110,10 @@ AddsLate s batch old new old' new' r = (cs : List MarkedCall) → HandedBack cs 
 -- print and round on a fresh session, and then a load: demand 1 at each. The first two are refused, and change nothing
 pub record RefusedFirst (batch old new : List ℕ) (r : Refusals) : Type 0 where
   pub handed : HandedBack (on (print (length old)) ∷ on round ∷ on (load batch) ∷ []) r.loaded.session
-  pub printed : r.printed ≡ Refused 9 0
+  pub printed : Refuses r.printed StillOpen
   pub unchanged : new ≡ old
   pub print_answered : Answered fresh_marked (record_of fresh_marked) (exchange (on (print (length old))) old new (reply (record_of fresh_marked) r.printed))
-  pub rounded : r.rounded ≡ Refused 9 0
+  pub rounded : Refuses r.rounded StillOpen
   pub round_answered : Answered fresh_marked (record_of fresh_marked) (exchange (on round) [] [] (reply (record_of fresh_marked) r.rounded))
   pub load_answered : Answered fresh_marked (record_of fresh_marked) (exchange (on (load batch)) [] [] r.loaded)
 
@@ -126,17 +128,17 @@ pub record VerdictFirst (batch : List ℕ) (r : TwoVerdicts) : Type 0 where
   pub handed : HandedBack (judged_and_worked batch count ++ (on verdict ∷ [])) r.again.session
   pub settles_with : Verdict
   pub settled : r.again.session.phase ≡ Settled settles_with
-  pub first : r.first ≡ Decided settles_with
-  pub again : r.again.answer ≡ Decided settles_with
+  pub first : r.first ≡ Ok (Decided settles_with)
+  pub again : r.again.answer ≡ Ok (Decided settles_with)
 
 -- a batch is loaded into a fresh session, its rows are saved, and what was saved is loaded into another fresh session: demand 2 at the save
 pub record SavedAgain (batch old new : List ℕ) (r : Reply) : Type 0 where
   -- the buffer begins with the rows; loaded, they are accepted, and the same rows stand
   pub again : length (saved (after_calls (on (load batch) ∷ []))) ≤ length old
       → (take (length (saved (after_calls (on (load batch) ∷ [])))) new ≡ saved (after_calls (on (load batch) ∷ [])))
-      × (r.answer ≡ Done) × (r.session ≡ record_of (unmarked (open_with (after_calls (on (load batch) ∷ [])).rows)))
+      × (r.answer ≡ Ok Done) × (r.session ≡ record_of (unmarked (open_with (after_calls (on (load batch) ∷ [])).rows)))
   -- a buffer too short for them is refused, and stays as it was
-  pub short : length old < length (saved (after_calls (on (load batch) ∷ []))) → (r.answer ≡ Refused 12 0) × (new ≡ old)
+  pub short : length old < length (saved (after_calls (on (load batch) ∷ []))) → Refuses r.answer ShortBuffer × (new ≡ old)
 
 -- the rows of an automaton's file are loaded into a fresh session, which is closed and does rounds: request C-21 at it
 pub record FileWorked (h : Buchi) (batch : List ℕ) (s : Session) : Type 0 where
@@ -151,13 +153,13 @@ pub record FileWorked (h : Buchi) (batch : List ℕ) (s : Session) : Type 0 wher
 -- a file is converted, and what was written is loaded
 pub record SettlesFile (file old new : List ℕ) (r : FileSettled) : Type 0 where
   pub converts : Converts file old new r.converted
-  pub worked_so : (h : Buchi) (n : ℕ) → IsFileOf file h → r.converted ≡ Wrote n → FileWorked h (take n new) r.session
+  pub worked_so : (h : Buchi) (n : ℕ) → IsFileOf file h → r.converted ≡ Ok (Wrote n) → FileWorked h (take n new) r.session
 
 -- after any calls a mark, a load that is disliked, and a return: request C-11 at them
 pub record TriedVariant (cs : List MarkedCall) (s : Session) (name batch : List ℕ) (r : Tried) : Type 0 where
   pub handed : HandedBack (cs ++ (mark name ∷ on (load batch) ∷ return_to name ∷ [])) r.back.session
   -- where the mark was done, the return is, and all but the marks is as it was at the mark
-  pub back : r.marked ≡ Done → (r.back.answer ≡ Done) × (r.back.session ≡ with_marks r.back.session s)
+  pub back : r.marked ≡ Ok Done → (r.back.answer ≡ Ok Done) × (r.back.session ≡ with_marks r.back.session s)
 
 abbrev pub TriesVariant : Session → List ℕ → List ℕ → Tried → Type 0
 TriesVariant s name batch r = (cs : List MarkedCall) → HandedBack cs s → TriedVariant cs s name batch r

@@ -10,7 +10,7 @@ use crate::calls::{
     call_return, call_round, call_save, call_verdict,
 };
 use crate::{Added, Expressed, FileSettled, Refusals, Tried, TwoVerdicts};
-use machine::{Answer, MOST_ROUNDS};
+use machine::{MOST_ROUNDS, Success};
 use session::{Reply, Session};
 
 // Load into a fresh session.
@@ -41,18 +41,14 @@ fn rounds_until(session: Session) -> Session
     ensures { DoesRounds session result }
 {
     let mut s = session;
-    let mut k = 0;
-    while k < MOST_ROUNDS {
+    for _done in 0..MOST_ROUNDS {
         let r = call_round(s);
         s = r.session;
-        let answer = r.answer;
-        match answer {
-            Answer::Done => {
-                k += 1;
-            }
-            Answer::Wrote(_) => return s,
-            Answer::Decided(_) => return s,
-            Answer::Refused(_, _) => return s,
+        match r.answer {
+            Ok(Success::Done) => {}
+            Ok(Success::Wrote(_)) => return s,
+            Ok(Success::Decided(_)) => return s,
+            Err(_) => return s,
         }
     }
     s
@@ -136,12 +132,11 @@ pub fn save_again(batch: &[u8], buffer: &mut [u8]) -> Reply
 {
     let r = loaded(batch);
     let kept = call_save(r.session, buffer);
-    let answer = kept.answer;
-    match answer {
-        Answer::Done => kept,
-        Answer::Wrote(n) => loaded(&buffer[..n]),
-        Answer::Decided(_) => kept,
-        Answer::Refused(_, _) => kept,
+    match kept.answer {
+        Ok(Success::Wrote(n)) => loaded(&buffer[..n]),
+        Ok(Success::Done) => kept,
+        Ok(Success::Decided(_)) => kept,
+        Err(_) => kept,
     }
 }
 
@@ -151,10 +146,10 @@ pub fn settle_file(file: &[u8], batch: &mut [u8]) -> FileSettled
 {
     let converted = hoa_files::convert(file, batch);
     let session = match converted {
-        Answer::Done => call_fresh(),
-        Answer::Wrote(n) => settled(&batch[..n]),
-        Answer::Decided(_) => call_fresh(),
-        Answer::Refused(_, _) => call_fresh(),
+        Ok(Success::Wrote(n)) => settled(&batch[..n]),
+        Ok(Success::Done) => call_fresh(),
+        Ok(Success::Decided(_)) => call_fresh(),
+        Err(_) => call_fresh(),
     };
     FileSettled { converted, session }
 }

@@ -5,6 +5,7 @@ use Prim.Native.Nat.{ℕ, ◌<◌}
 use mathlib.Core.Path.{◌≡◌, sym, subst, ◌∙◌}
 use mathlib.Core.Bool.{Bool, true, ◌&&◌, ◌||◌}
 use mathlib.Core.Logic.{inr, ◌↔◌}
+use Rattle.std.specs.Prelude.{Option, None, Some, IfSome}
 use lib.Dec.{eqb}
 use lib.ListN.{get_or}
 use Rattle.lists.specs.Tests.{Decides}
@@ -18,7 +19,7 @@ use Rattle.search.proofs.Hops.{hop_inner, hop_turn, inner_back}
 use Rattle.search.proofs.Joining.{joined_covers, covered_joins}
 use Rattle.search.proofs.Opening.{marks_iff, marks_none}
 use Rattle.lacks.specs.Lacks.{Pieced, LedAt}
-use Rattle.candidates.specs.Promises.{LoopsAt, InSet, MixesAt}
+use Rattle.candidates.specs.Promises.{LoopsAt, InSet, MixesAt, LoopingAt, PartAmong}
 use Rattle.candidates.proofs.Holding.{some_inner}
 
 -- two masks of the same states of a set
@@ -86,6 +87,12 @@ joined_part {g} {force} {i} h p q {inner} is e part some = record {
   joined = subst (λ (x : ℕ). x ⊆ p → Joined (Hop g inner p) x) (sym e)
       (λ f a b ha hb. chain_map (hop_inner g force force h.inner inner (get_or g.sets i 0) p (λ t k. k) (λ t k. k) f h.is_inner is) (h.joined a b ha hb)) part;
 }
+
+-- where there is one at a place whose set loops
+pub joined_parts : {g : Graph} {force : Claims} (places : ℕ) → LoopingAt g force places → (p : ℕ) {inner : Claims} → InnerClaims g force p inner
+    → (part : Option ℕ) → IfSome part (PartAmong g places p) → IfSome part (JoinedPart (Hop g inner p) p)
+joined_parts places looping p is None h = h
+joined_parts places looping p is (Some q) x = joined_part (looping x.1.0 x.1.1) p q is x.1.2 x.1.3 x.0
 
 -- a step inside p is one with more claims in force
 hop_more : {g : Graph} {old new force x y : Claims} (p : ℕ) → WithNew old new force → InnerClaims g old p x → InnerClaims g force p y → (a b : ℕ) → Hop g x p a b → Hop g y p a b

@@ -35,7 +35,7 @@ use Rattle.candidates.specs.Promises.{LoopsAt, MixesAt, OpensOn, Paired}
 part? : (Q p : ℕ) → Dec (Q ⊆ p)
 part? Q p = dec_decides (iff_decides {B = Q ⊆ p} (λ f s h. f s ((members_iff Q s).1 h)) (λ f s h. f s ((members_iff Q s).0 h)) (all_decides (λ s. test_decides (member s p)) (members Q)))
 
-in? : (i m : ℕ) → Dec (i ∈ m)
+pub in? : (i m : ℕ) → Dec (i ∈ m)
 in? i m = dec_decides (test_decides (member i m))
 
 both? : {A B : Type 0} → Dec A → Dec B → Dec (A × B)

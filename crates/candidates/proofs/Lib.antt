@@ -4,3 +4,4 @@ pub mod Awaiting
 pub mod Finding
 pub mod Places
 pub mod Trying
+pub mod Turned

@@ -3,9 +3,11 @@ use Rattle.std.specs.Prelude.{ℕ, ◌<◌, ◌≡◌, Bool, ◌&&◌, ◌⊎◌
 use Rattle.lists.specs.Tests.{Decides}
 use Rattle.masks.specs.Mask.{member, ◌∈◌, ◌⊆◌}
 use Rattle.search.specs.declared.Claims.{Claims}
-use Rattle.search.specs.Graph.{Graph, graph_of, BothWays}
+use Rattle.search.specs.Graph.{Graph, TurnedGraph}
 use Rattle.search.specs.Hops.{Hop, InnerClaims, Joined, Covered}
+use Rattle.lacks.specs.declared.Lacks.{Lacks}
 use Rattle.lacks.specs.Lacks.{Pieced, PiecedBelow, LacksIn}
+use Rattle.candidates.specs.declared.Trial.{Trial}
 
 -- the set at place i loops with the claims in force
 pub record LoopsAt (g : Graph) (force : Claims) (i : ℕ) : Type 0 where
@@ -69,23 +71,22 @@ abbrev pub InNone : List ℕ → ℕ → Type 0
 InNone lack i = (q : ℕ) → q < 64 → ¬ (i ∈ get_or lack q 0)
 
 -- r has the places at which no state is lacking, forward or backward
-abbrev pub Unstuck : ℕ → List ℕ → List ℕ → ℕ → Type 0
-Unstuck places to from r = (i : ℕ) → (i ∈ r) ↔ ((i ∈ places) × InNone to i × InNone from i)
+abbrev pub Unstuck : ℕ → Lacks → ℕ → Type 0
+Unstuck places lacks r = (i : ℕ) → (i ∈ r) ↔ ((i ∈ places) × InNone lacks.to i × InNone lacks.from i)
 
 -- the sets at the places fresh loop with the claims in force
 abbrev pub LoopingAt : Graph → Claims → ℕ → Type 0
 LoopingAt g force fresh = (i : ℕ) → i ∈ fresh → LoopsAt g force i
 
--- r is a part of p that stands at one of the places, where it is not empty
+-- r is a part of p with a state that stands at one of the places
 abbrev pub PartAmong : Graph → ℕ → ℕ → ℕ → Type 0
-PartAmong g places p r = 0 < r → (i : ℕ) × (i ∈ places) × (r ≡ get_or g.sets i 0) × (r ⊆ p)
+PartAmong g places p r = (0 < r) × ((i : ℕ) × (i ∈ places) × (r ≡ get_or g.sets i 0) × (r ⊆ p))
 
--- what a round is handed: the graph both ways, sets that loop, and the states lacking at the places, forward and backward
-pub record Handed (l back : List ℕ) (force : Claims) (fresh pieces places : ℕ) (to from : List ℕ) : Type 0 where
-  pub ways : BothWays l back
-  pub looping : LoopingAt (graph_of l) force fresh
-  pub to_lacks : LacksIn (graph_of l) force pieces places to
-  pub from_lacks : LacksIn (graph_of back) force pieces places from
+-- what a round is handed: sets that loop, and the states lacking at the places, forward and backward
+pub record Handed (g : Graph) (t : Trial) (lacks : Lacks) : Type 0 where
+  pub looping : LoopingAt g t.force t.fresh
+  pub to_lacks : LacksIn g t.force t.pieces t.places lacks.to
+  pub from_lacks : (back : Graph) → TurnedGraph g back → LacksIn back t.force t.pieces t.places lacks.from
 
 -- where the places are awaited, new has what a round opens; its loops that are not due hold anyway
 pub record OpensAwaited (g : Graph) (force : Claims) (n places : ℕ) (new : Claims) : Type 0 where

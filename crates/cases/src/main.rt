@@ -7,17 +7,18 @@
 mod asking;
 mod expressions;
 mod files;
+mod returned;
 
 ghost use Rattle.std.specs.Prelude.{◌≤◌, length};
 
 use machine::LONGEST_SHEET;
 use program_input::{LONGEST_PATH, argument, argument_count, open, read_full};
-use program_output::{beyond, first, same, say, say_number};
+use program_output::{first, say, say_number};
 use std::io::{Read, Result};
 use std::rt::{Env, Files};
 
-// What the number of a refusal is multiplied by.
-const REFUSAL: u64 = 4294967296;
+// More are passed over.
+const MOST_CASES: usize = 500;
 
 // What the second file of a pair holds.
 #[derive(Clone, Copy)]
@@ -31,10 +32,10 @@ enum Stored {
 // Opens the file that an argument names, and writes its name out.
 fn open_named<R: Env + Files + Print>(rt: &R, index: usize) -> Result<R::File> {
     let mut path = [0u8; LONGEST_PATH];
-    let length = argument(rt, index, &mut path);
-    say(rt, &path[..length]);
+    let path = argument(rt, index, &mut path);
+    say(rt, path);
     say(rt, b" ");
-    open(rt, &path[..length])
+    open(rt, path)
 }
 
 // Reads a file from its start into the buffer, and closes it.
@@ -48,7 +49,7 @@ fn read_file(mut file: impl Read + Drop, buffer: &mut [u8]) -> usize
 fn writes(batch: &[u8], text: &[u8]) -> bool {
     let shown = checker::shown(batch);
     let written = shown.text;
-    same(&written[..shown.length], text)
+    &written[..shown.length] == text
 }
 
 fn say_same(rt: &impl Print, is_same: bool) {
@@ -59,41 +60,33 @@ fn say_same(rt: &impl Print, is_same: bool) {
     }
 }
 
-// Says what is refused.
-fn say_refused(rt: &impl Print, code: u64, place: u64) {
-    say(rt, b"refuses ");
-    say_number(rt, code / REFUSAL);
-    say(rt, b" at ");
-    say_number(rt, place);
-}
-
 // Says whether the function of the library writes the text for the batch, or what it refuses.
 fn say_library(rt: &impl Print, batch: &[u8], text: &[u8]) {
     let mut out = [0u8; LONGEST_SHEET];
-    let mut place = 0u64;
-    let code = ffi::gozhmerik_sheet(batch, &mut out, &mut place);
-    if code < REFUSAL {
-        return say_same(rt, same(first(&out, code as usize), text));
+    match returned::sheet(batch, &mut out) {
+        Ok(n) => say_same(rt, first(&out, n as usize) == text),
+        Err(refused) => {
+            let _ = rt.print(refused);
+        }
     }
-    say_refused(rt, code, place);
 }
 
 // Does the text begin with the line of the verdict?
 fn says(text: &[u8], code: u64) -> bool {
     if code == 1 {
-        return same(first(text, 17), b"verdict nonempty ");
+        return text.starts_with(b"verdict nonempty ");
     }
-    same(first(text, 14), b"verdict empty ")
+    text.starts_with(b"verdict empty ")
 }
 
 // Says whether the verdict of the library is that of the text, or what it refuses.
 fn say_verdict(rt: &impl Print, batch: &[u8], text: &[u8]) {
-    let mut place = 0u64;
-    let code = ffi::gozhmerik_verdict(batch, &mut place);
-    if code < REFUSAL {
-        return say_same(rt, says(text, code));
+    match returned::verdict(batch) {
+        Ok(code) => say_same(rt, says(text, code)),
+        Err(refused) => {
+            let _ = rt.print(refused);
+        }
     }
-    say_refused(rt, code, place);
 }
 
 // Says what becomes of a batch that is asked for its sheet, and whether the program writes the text.
@@ -107,25 +100,17 @@ fn tell_sheet(rt: &impl Print, batch: &[u8], text: &[u8]) -> bool {
     is_same
 }
 
-// Does the name that an argument has end in the text?
-fn ends_in(rt: &impl Env, index: usize, text: &[u8]) -> bool {
-    let mut path = [0u8; LONGEST_PATH];
-    let length = argument(rt, index, &mut path);
-    if length < text.len() {
-        return false;
-    }
-    same(beyond(&path[..length], length - text.len()), text)
-}
-
 // What the file holds that an argument names, by the end of its name.
 fn kind_of(rt: &impl Env, index: usize) -> Stored {
-    if ends_in(rt, index, b".expression") {
+    let mut path = [0u8; LONGEST_PATH];
+    let path = argument(rt, index, &mut path);
+    if path.ends_with(b".expression") {
         return Stored::Expression;
     }
-    if ends_in(rt, index, b".batch") {
+    if path.ends_with(b".batch") {
         return Stored::Batch;
     }
-    if ends_in(rt, index, b".refusal") {
+    if path.ends_with(b".refusal") {
         return Stored::Refusal;
     }
     Stored::Sheet
@@ -158,29 +143,26 @@ fn gives<F: Read + Drop>(
     tell(rt, &input[..n], &text[..k], stored)
 }
 
-// Runs one case, says how it went, and counts it where it went wrong.
-fn run_case(rt: &(impl Env + Files + Print), input_index: usize, text_index: usize) -> u64
-    ensures { result ≤ 1 }
-{
+// Runs one case, and says how it went: whether the input gives the text.
+fn run_case(rt: &(impl Env + Files + Print), input_index: usize, text_index: usize) -> bool {
     let input_file = open_named(rt, input_index);
     let text_file = open_named(rt, text_index);
     let is_given = gives(rt, input_file, text_file, kind_of(rt, text_index));
     say(rt, b"\n");
-    if is_given { 0 } else { 1 }
+    is_given
 }
 
 fn main(rt: HostRuntime) {
-    let count = argument_count(&rt);
-    let mut index = 1;
-    let mut cases: u64 = 0;
-    let mut different: u64 = 0;
-    while index < 1000 && index + 1 < count {
-        different += run_case(&rt, index, index + 1);
-        cases += 1;
-        index += 2;
+    // Pairs of arguments behind the name of the program.
+    let cases = (argument_count(&rt).saturating_sub(1) / 2).min(MOST_CASES);
+    let mut different = 0u64;
+    for case in 0..cases {
+        if !run_case(&rt, case * 2 + 1, case * 2 + 2) {
+            different += 1;
+        }
     }
     say(&rt, b"cases ");
-    say_number(&rt, cases);
+    say_number(&rt, cases as u64);
     say(&rt, b" different ");
     say_number(&rt, different);
     say(&rt, b"\n");

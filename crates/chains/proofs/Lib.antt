@@ -1,2 +1,3 @@
 -- The laws of chains.
 pub mod Linking
+pub mod Passing

@@ -1,12 +1,13 @@
 -- Chains that grow by a place (`none_chained`, `chains_more`), and what a search along one says of all places (`sought_none`, `sought_place`).
-use Prim.Native.Nat.{ℕ, zero, suc, ◌+◌, ◌-◌, ◌≤◌, ◌<◌}
+use Prim.Native.Nat.{ℕ, zero, suc, ◌+◌, ◌≤◌, ◌<◌}
 use mathlib.Core.Path.{◌≡◌, refl, ap, sym, ◌∙◌, subst}
-use mathlib.Core.Logic.{◌⊎◌, inl, inr, ⊎_elim, ◌≢◌}
+use mathlib.Core.Logic.{◌⊎◌, inl, inr, ◌≢◌}
 use mathlib.Core.List.{List}
 use native.Mathlib.Omega.{arith}
 use native.Mathlib.Numerals.{add-one}
 use lib.ListN.{length, get_or, set, replicate}
 use lib.Seq.{get_or-set_same, get_or-set_other}
+use Rattle.std.specs.Prelude.{None, Some}
 use Rattle.lists.proofs.Deciding.{eqb_decides, ltb_decides, dec_decides}
 use Rattle.chains.specs.Chains.{Chained, here, on, Falls, Sought, Chains}
 
@@ -27,12 +28,6 @@ chained_cases {next} {j} {i} c = go c refl
     go : {l : ℕ} → Chained next l i → l ≡ suc j → (i ≡ j) ⊎ Chained next (get_or next j 0) i
     go here e = inl (omega arith)
     go (on {j = k} c) e = let f : k ≡ j = omega arith in inr (subst (λ x. Chained next (get_or next x 0) i) f c)
-
--- where the word at the place of a link is not x, x stands further on if anywhere
-pub chained_on : {next : List ℕ} (words : List ℕ) (x link : ℕ) → 1 ≤ link → get_or words (link - 1) 0 ≢ x → (i : ℕ) → get_or words i 0 ≡ x → Chained next link i → Chained next (get_or next (link - 1) 0) i
-chained_on {next} words x link some other i e c =
-    let f : link ≡ suc (link - 1) = omega arith in
-    ⊎_elim (λ g. absurd (other (subst (λ (j : ℕ). get_or words j 0 ≡ x) g e))) (λ d. d) (chained_cases (rw f at c))
 
 -- another array with the same links below n
 chained_as : {next new : List ℕ} (n : ℕ) → ((j : ℕ) → j < n → get_or new j 0 ≡ get_or next j 0) → Falls next n → {l i : ℕ} → l ≤ n → Chained next l i → Chained new l i
@@ -98,9 +93,9 @@ module _ {key : ℕ → ℕ} {heads next words : List ℕ} {n : ℕ} (c : Chains
       by i (no l) m d = let q : i ≡ n = omega arith in rw (q, is, newest) here
 
   -- what a search along the chain of x says of all places
-  module _ {x r : ℕ} (s : Sought words next (get_or heads (key x) 0) x r) where
-    pub sought_none : r ≡ 0 → (i : ℕ) → i < n → get_or words i 0 ≢ x
-    sought_none e i l q = s.missed e i (rw (ap key q) at (c.stands i l)) q
+  module _ {x : ℕ} where
+    pub sought_none : Sought words next (get_or heads (key x) 0) x None → (i : ℕ) → i < n → get_or words i 0 ≢ x
+    sought_none s i l q = s i (rw (ap key q) at (c.stands i l)) q
 
-    pub sought_place : r ≢ 0 → (r - 1 < n) × (get_or words (r - 1) 0 ≡ x)
-    sought_place e = let f : r ≡ suc (r - 1) = omega arith in (omega (arith, s.within, c.heads_few (key x)), s.found (r - 1) f)
+    pub sought_place : {i : ℕ} → Sought words next (get_or heads (key x) 0) x (Some i) → (i < n) × (get_or words i 0 ≡ x)
+    sought_place s = (omega (arith, s.0, c.heads_few (key x)), s.1)

@@ -5,26 +5,51 @@
 ghost use Rattle.std.specs.Prelude.{◌≡◌, ◌+◌, ◌<◌, ◌≤◌, length, get_or, set};
 ghost use Rattle.chains.specs.Chains.{Falls, Sought};
 
-// A link as a number.
-pub fn wide(link: u16) -> usize
-    ensures { result ≡ link }
-{
-    link as usize
+// The places of a chain that a loop has still to pass, the newest first.
+#[derive(Drop)]
+pub struct Links<'a> {
+    next: &'a [u16],
+    link: u16,
+    ghost within: { link ≤ length next.now },
+    ghost falls: { Falls next.now link },
 }
 
-// The link to the newest place of the chain from `first` on whose word is `x`, or 0.
-pub fn find(words: &[u64], next: &[u16], first: u16, x: u64) -> usize
+// The places of the chain from `first` on, the newest first.
+pub fn each(next: &[u16], first: u16) -> Links
+    requires { (first ≤ length next.now) × Falls next.now first }
+    ensures { (result.link ≡ first) × (result.next.now ≡ next.now) }
+{
+    Links { next, link: first }
+}
+
+impl<'a> Iterator for Links<'a> {
+    ghost use Rattle.chains.specs.Passing.{GivesPlace};
+    ghost use Rattle.std.specs.Iterator.{at_most};
+
+    type Item = usize;
+
+    ghost next_gives = { GivesPlace };
+
+    ghost remaining = { λ s. at_most s.link };
+
+    fn next(&mut self) -> Option<usize> {
+        let at = usize::from(self.link).checked_sub(1)?;
+        self.link = self.next[at];
+        Some(at)
+    }
+}
+
+// The newest place of the chain from `first` on whose word is `x`.
+pub fn find(words: &[u64], next: &[u16], first: u16, x: u64) -> Option<usize>
     requires { (first ≤ length words.now) × (first ≤ length next.now) × Falls next.now first }
     ensures { Sought words.now next.now first x result }
 {
-    let mut link = wide(first);
-    while link != 0 {
-        if words[link - 1] == x {
-            return link;
+    for at in each(next, first) {
+        if words[at] == x {
+            return Some(at);
         }
-        link = wide(next[link - 1]);
     }
-    0
+    None
 }
 
 // The place `n` is the newest of the chain `h`.

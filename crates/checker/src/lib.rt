@@ -1,23 +1,25 @@
 // One batch in; its sheet, its verdict or the expression of its walk out.
 #![tactic(auto)]
 
-ghost use Rattle.std.specs.Prelude.{◌≡◌, true, length};
+ghost use Rattle.std.specs.Prelude.{◌≡◌, ◌≤◌, true, length, Err};
 ghost use Rattle.lists.specs.Writing.{Wrote};
 ghost use Rattle.machine.specs.Program.{program};
-ghost use Rattle.search.specs.Graph.{graph_of, BothWays};
 ghost use Rattle.rounds.specs.Promises.{closed_as, Settles};
-ghost use Rattle.checker.specs.Promise.{Ready, Finishes, Expresses, GivesAsked, AnswersAsked};
+ghost use Rattle.checker.specs.Promise.{Finishes, Expresses, GivesAsked, AnswersAsked};
 ghost use Rattle.checker.specs.Promise.{Checks, GivesVerdict, GivesExpression, Roomy, Told};
 
+use causes::Cause;
 use loader::LoadedGraph;
-use machine::{Answer, LONGEST_BATCH, LONGEST_SHEET, MOST_ROWS, Phase, Verdict};
+use machine::{Answer, LONGEST_BATCH, LONGEST_SHEET, MOST_ROWS, Phase, Refusal, Success, Verdict};
 use rounds::Progress;
-use search::graphs;
-use search::graphs::{MASKS, Masks};
+use search::graphs::MASKS;
+use search::{IndexedGraph, TwoWayGraph};
+use sheet_lines::Line;
+use texts::{Text, Written};
 
 // A text at the start of an array that has room for any that the program writes, and its length.
 #[derive(Drop)]
-pub struct Written {
+pub struct Output {
     pub text: [u8; LONGEST_SHEET],
     pub length: usize,
 }
@@ -30,127 +32,109 @@ enum Asked {
     Verdict,
 }
 
-// Closes the automaton of a table and does rounds until it is settled. The graph turned round goes into `back`.
-fn settle(graph: &Masks, loaded: LoadedGraph, back: &mut Masks) -> Progress
-    requires { Ready graph.now loaded × (length back.old ≡ 448) }
-    ensures turned { BothWays graph.now back.new }
-    ensures settles { Settles (graph_of graph.now) loaded.initials loaded.finals
-        loaded.set_count result }
-{
-    graphs::turn_indexed(graph, back);
-    let k = loaded.set_count;
-    rounds::settle(graph, back, loaded.initials, loaded.finals, k)
+// A batch that is loaded: its graph, the words of its letter rows, and what it has beside them.
+#[derive(Drop)]
+struct Loaded<'a> {
+    graph: &'a IndexedGraph<'a>,
+    letters: &'a [u64; MOST_ROWS],
+    parts: LoadedGraph,
+    ghost few_sets: { parts.set_count ≤ 64 },
+    ghost few_letters: { parts.letter_count ≤ 256 },
 }
 
-// The same, told at once where all sets are idle: then it is settled as it is closed.
-fn settle_idle(graph: &Masks, loaded: LoadedGraph, idle: bool, back: &mut Masks) -> Progress
-    requires { Ready graph.now loaded × (length back.old ≡ 448) × (idle ≡ true
-        → Settles (graph_of graph.now) loaded.initials loaded.finals loaded.set_count (closed_as true)) }
-    ensures turned { BothWays graph.now back.new }
-    ensures settles { Settles (graph_of graph.now) loaded.initials loaded.finals
-        loaded.set_count result }
+// Refused, without a place.
+fn refused(cause: Cause) -> Answer
+    ensures { result ≡ Err (record { cause = cause; place = 0 }) }
 {
-    if idle {
-        graphs::turn_indexed(graph, back);
-        return rounds::without_rounds(true);
-    }
-    settle(graph, loaded, back)
+    Err(Refusal { cause, place: 0 })
 }
 
-// Closes the automaton of a table, settles it and prints its sheet. Where the first round opens nothing, the graph is not turned round.
-fn finish(
-    graph: &Masks,
-    letters: &[u64; MOST_ROWS],
-    loaded: LoadedGraph,
-    buffer: &mut [u8],
-) -> Answer
-    requires { Ready graph.now loaded }
-    ensures { Finishes graph.now letters.now loaded
-        buffer.old buffer.new result }
-{
-    let k = loaded.set_count;
-    let idle = rounds::all_idle(graph, k);
-    if rounds::is_vain(graph, loaded.initials, loaded.finals, k, idle) {
-        return whole_sheet::print_vain(buffer);
+impl<'a> Loaded<'a> {
+    // Closes the automaton and does rounds until it is settled; told at once where all sets are idle: then it is settled as it is closed.
+    fn settle(&self, both: &TwoWayGraph, idle: bool) -> Progress
+        requires same { both.now ≡ self.now.graph.now }
+        requires closed { idle ≡ true → Settles self.now.graph.now
+            self.now.parts.points.initials self.now.parts.points.finals self.now.parts.set_count (closed_as true) }
+        ensures { Settles self.now.graph.now
+            self.now.parts.points.initials self.now.parts.points.finals self.now.parts.set_count result }
+    {
+        if idle {
+            return rounds::without_rounds(true);
+        }
+        rounds::settle(both, self.parts.points, self.parts.set_count)
     }
-    let mut back = [0u64; MASKS];
-    let done = settle_idle(graph, loaded, idle, &mut back);
-    let phase = done.phase;
-    match phase {
-        Phase::Open => Answer::Refused(9, 0),
-        Phase::Running => Answer::Refused(11, 0),
-        Phase::Settled(v) => whole_sheet::print(
-            buffer,
-            v,
-            letters,
-            loaded.letter_count,
-            loaded.set_count,
-            graph,
-            &back,
-            loaded.initials,
-            loaded.finals,
-            done,
-        ),
-    }
-}
 
-// Closes the automaton of a table, settles it and writes its walk as an expression; 17 where the verdict is empty.
-fn express(
-    graph: &Masks,
-    letters: &[u64; MOST_ROWS],
-    loaded: LoadedGraph,
-    buffer: &mut [u8],
-) -> Answer
-    requires { Ready graph.now loaded }
-    ensures { Expresses graph.now letters.now loaded
-        buffer.old buffer.new result }
-{
-    let k = loaded.set_count;
-    let idle = rounds::all_idle(graph, k);
-    if rounds::is_vain(graph, loaded.initials, loaded.finals, k, idle) {
-        return Answer::Refused(17, 0);
-    }
-    let mut back = [0u64; MASKS];
-    let done = settle_idle(graph, loaded, idle, &mut back);
-    let phase = done.phase;
-    match phase {
-        Phase::Open => Answer::Refused(9, 0),
-        Phase::Running => Answer::Refused(11, 0),
-        Phase::Settled(v) => match v {
-            Verdict::Empty => Answer::Refused(17, 0),
-            Verdict::NonEmpty => expression::express(
+    // Closes the automaton, settles it and prints its sheet. Where the first round opens nothing, the graph is not turned round.
+    fn finish(&self, buffer: &mut [u8]) -> Answer
+        ensures { Finishes self.now.graph.now self.now.letters.now self.now.parts buffer.old buffer.new result }
+    {
+        let parts = self.parts;
+        let idle = rounds::all_idle(self.graph, parts.set_count);
+        if rounds::is_vain(self.graph, parts.points, parts.set_count, idle) {
+            return whole_sheet::print_vain(buffer);
+        }
+        let mut turned = [0u64; MASKS];
+        self.graph.turn_into(&mut turned);
+        let back = IndexedGraph::new(&turned);
+        let both = TwoWayGraph::new(self.graph, &back);
+        let done = self.settle(&both, idle);
+        match done.phase {
+            Phase::Open => refused(Cause::StillOpen),
+            Phase::Running => refused(Cause::StillRunning),
+            Phase::Settled(v) => whole_sheet::print(
                 buffer,
-                letters,
-                loaded.letter_count,
-                loaded.set_count,
-                graph,
-                &back,
-                loaded.initials,
-                loaded.finals,
-                done,
+                v,
+                self.letters,
+                parts.letter_count,
+                parts.set_count,
+                &both,
+                parts.points,
+                &done,
             ),
-        },
+        }
     }
-}
 
-// What is asked of the table that the masks are of.
-fn give(
-    asked: Asked,
-    graph: &Masks,
-    letters: &[u64; MOST_ROWS],
-    loaded: LoadedGraph,
-    buffer: &mut [u8],
-) -> Answer
-    requires { Ready graph.now loaded }
-    ensures { GivesAsked asked graph.now letters.now loaded
-        buffer.old buffer.new result }
-{
-    match asked {
-        Asked::Sheet => finish(graph, letters, loaded, buffer),
-        Asked::Expression => express(graph, letters, loaded, buffer),
-        Asked::Verdict => {
-            let v = rising::verdict(graph, loaded.initials, loaded.finals, loaded.set_count);
-            Answer::Decided(v)
+    // Closes the automaton, settles it and writes its walk as an expression; 17 where the verdict is empty.
+    fn express(&self, buffer: &mut [u8]) -> Answer
+        ensures { Expresses self.now.graph.now self.now.letters.now self.now.parts buffer.old buffer.new result }
+    {
+        let parts = self.parts;
+        let idle = rounds::all_idle(self.graph, parts.set_count);
+        if rounds::is_vain(self.graph, parts.points, parts.set_count, idle) {
+            return refused(Cause::VerdictEmpty);
+        }
+        let mut turned = [0u64; MASKS];
+        self.graph.turn_into(&mut turned);
+        let back = IndexedGraph::new(&turned);
+        let both = TwoWayGraph::new(self.graph, &back);
+        let done = self.settle(&both, idle);
+        match done.phase {
+            Phase::Open => refused(Cause::StillOpen),
+            Phase::Running => refused(Cause::StillRunning),
+            Phase::Settled(Verdict::Empty) => refused(Cause::VerdictEmpty),
+            Phase::Settled(Verdict::NonEmpty) => expression::express(
+                buffer,
+                self.letters,
+                parts.letter_count,
+                parts.set_count,
+                &both,
+                parts.points,
+                &done,
+            ),
+        }
+    }
+
+    // What is asked of it.
+    fn give(&self, asked: Asked, buffer: &mut [u8]) -> Answer
+        ensures { GivesAsked asked self.now.graph.now self.now.letters.now self.now.parts buffer.old buffer.new result }
+    {
+        match asked {
+            Asked::Sheet => self.finish(buffer),
+            Asked::Expression => self.express(buffer),
+            Asked::Verdict => {
+                let v = rising::verdict(self.graph, self.parts.points, self.parts.set_count);
+                Ok(Success::Decided(v))
+            }
         }
     }
 }
@@ -160,14 +144,16 @@ fn give(
 fn answer(asked: Asked, batch: &[u8], buffer: &mut [u8]) -> Answer
     ensures { AnswersAsked asked batch.now buffer.old buffer.new result }
 {
-    let mut graph = [0u64; MASKS];
+    let mut masks = [0u64; MASKS];
     let mut letters = [0u64; MOST_ROWS];
-    let loaded = loader::load(batch, &mut graph, &mut letters);
-    let answer = loaded.answer;
-    match answer {
-        Answer::Done => give(asked, &graph, &letters, loaded, buffer),
-        Answer::Wrote(_) | Answer::Decided(_) | Answer::Refused(_, _) => answer,
-    }
+    let parts = loader::load(batch, &mut masks, &mut letters)?;
+    let graph = &IndexedGraph::new(&masks);
+    let loaded = Loaded {
+        graph,
+        letters: &letters,
+        parts,
+    };
+    loaded.give(asked, buffer)
 }
 
 // Loads one batch, closes it, settles it and prints its sheet; or the refusal, and the buffer as it was.
@@ -178,6 +164,7 @@ pub fn check(batch: &[u8], sheet: &mut [u8]) -> Answer
 }
 
 // Loads one batch, and gives its verdict; or the refusal.
+#[tactic(auto, using(crate::proofs::Outcomes::verdict_told))]
 pub fn verdict(batch: &[u8]) -> Answer
     ensures { GivesVerdict batch.now result }
 {
@@ -198,21 +185,23 @@ fn show(input: &[u8], out: &mut [u8]) -> usize
     ensures { Wrote (program input.now) out.old out.new result }
 {
     if input.len() > LONGEST_BATCH {
-        return texts::put_text(out, b"too long\n");
+        return Text(b"too long\n").put(out);
     }
     match check(input, out) {
-        Answer::Done => 0,
-        Answer::Wrote(n) => n,
-        Answer::Decided(_) => 0,
-        Answer::Refused(n, place) => sheet_lines::put_refusal_line(out, n as u64, place as u64),
+        Ok(Success::Wrote(n)) => n,
+        Ok(Success::Done) => 0,
+        Ok(Success::Decided(_)) => 0,
+        Err(Refusal { cause, place }) => {
+            Line::Refusal(u8::from(cause) as u64, place as u64).put(out)
+        }
     }
 }
 
 // What the program `sheet` writes for its input.
-pub fn shown(input: &[u8]) -> Written
+pub fn shown(input: &[u8]) -> Output
     ensures { Told input.now result }
 {
     let mut text = [0u8; LONGEST_SHEET];
     let length = show(input, &mut text);
-    Written { text, length }
+    Output { text, length }
 }

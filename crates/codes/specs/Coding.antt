@@ -1,8 +1,7 @@
 -- An outcome as a number, a place and a buffer.
 use Rattle.std.specs.Prelude.{ℕ, ◌*◌, ◌≡◌, List, length}
-use Rattle.machine.specs.declared.Answer.{Answer}
 use Rattle.machine.specs.declared.Verdict.TheVariants.{NonEmpty, Empty}
-use Rattle.machine.specs.Calls.{Outcome, done, wrote, decided, refused, returned, due, buffer_after}
+use Rattle.machine.specs.Calls.{Answer, Outcome, done, wrote, decided, refused, returned, due, buffer_after}
 
 -- the length of the text, 1 for a non-empty and 0 for an empty verdict, or 2 to the power 32 times the number of the refusal
 abbrev pub code_of : Outcome → ℕ

@@ -3,22 +3,20 @@
 
 ghost use Rattle.codes.specs.Coding.{Codes};
 
-use machine::{Answer, Verdict};
+use machine::{Answer, Success, Verdict};
 
 // An answer as a number: the length of a text, a verdict, or 2^32 times the number of the refusal, whose place is written to `place`.
 pub fn code(answer: Answer, place: &mut u64) -> u64
     ensures { Codes answer place.old place.new result }
 {
     match answer {
-        Answer::Done => 0,
-        Answer::Wrote(n) => n as u64,
-        Answer::Decided(verdict) => match verdict {
-            Verdict::NonEmpty => 1,
-            Verdict::Empty => 0,
-        },
-        Answer::Refused(number, at) => {
-            *place = at as u64;
-            number as u64 * 4294967296
+        Ok(Success::Done) => 0,
+        Ok(Success::Wrote(n)) => n as u64,
+        Ok(Success::Decided(Verdict::NonEmpty)) => 1,
+        Ok(Success::Decided(Verdict::Empty)) => 0,
+        Err(refusal) => {
+            *place = refusal.place as u64;
+            u8::from(refusal.cause) as u64 * 4294967296
         }
     }
 }

@@ -1,6 +1,6 @@
 -- The laws that the proofs of `commands` share.
 pub mod Values
 pub mod Texts
-pub mod Seeking
+pub mod Words
 pub mod Saved
 pub mod Examples

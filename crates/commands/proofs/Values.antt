@@ -35,26 +35,6 @@ pub value_lower : (c : ℕ) → 97 ≤ c → c ≤ 102 → digit_value c ≡ c -
 unfolding digit_value
 value_lower c h g = simp (over 48 57 c (omega arith) (omega arith), within 97 102 c h g)
 
-pub value_upper : (c : ℕ) → 65 ≤ c → c ≤ 70 → digit_value c ≡ c - 55
-unfolding digit_value
-value_upper c h g = simp (over 48 57 c (omega arith) (omega arith), under 97 102 c (omega arith), within 65 70 c h g)
-
-pub value_low : (c : ℕ) → c < 48 → digit_value c ≡ 16
-unfolding digit_value
-value_low c h = simp (under 48 57 c h, under 97 102 c (omega arith), under 65 70 c (omega arith))
-
-pub value_middle : (c : ℕ) → 57 < c → c < 65 → digit_value c ≡ 16
-unfolding digit_value
-value_middle c h g = simp (over 48 57 c (omega arith) h, under 97 102 c (omega arith), under 65 70 c g)
-
-pub value_between : (c : ℕ) → 70 < c → c < 97 → digit_value c ≡ 16
-unfolding digit_value
-value_between c h g = simp (over 48 57 c (omega arith) (omega arith), under 97 102 c g, over 65 70 c (omega arith) h)
-
-pub value_high : (c : ℕ) → 102 < c → digit_value c ≡ 16
-unfolding digit_value
-value_high c h = simp (over 48 57 c (omega arith) (omega arith), over 97 102 c (omega arith) h, over 65 70 c (omega arith) (omega arith))
-
 -- ---- numbers that are cut at `most`
 
 module _ (most : ℕ) where

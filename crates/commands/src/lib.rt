@@ -6,10 +6,11 @@ ghost use Rattle.machine.specs.Text.{digit};
 ghost use Rattle.commands.specs.Digits.{digit_value, digits, bytes, number_from, at_most};
 ghost use Rattle.commands.specs.Meaning as m;
 ghost use Rattle.commands.specs.Meaning.{longest, words, passed_over, called, meaning};
-ghost use Rattle.commands.specs.Table.{alone_at, command_of, ends, further, seek};
-ghost use Rattle.commands.specs.Promise.{Means, Asks, TellsWord, Extends, Encodes, EncodesIn};
+ghost use Rattle.commands.specs.Table.{alone_as, command_of};
+ghost use Rattle.commands.specs.Promise.{Means, Asks, FindsSpace, Extends, Encodes, EncodesIn};
 
 use machine::LONGEST_SHEET;
+use texts::{Text, Written};
 
 // The calls that a batch comes with.
 #[derive(Clone, Copy)]
@@ -46,27 +47,26 @@ pub enum Naming {
 }
 
 // What a line asks for: a call with the count of bytes at the start of the batch (of a name too, which is put there), with the length
-// of the buffer that it lends, or with neither; or none.
+// of the buffer that it lends, or with neither.
 #[derive(Clone, Copy)]
-pub enum Command {
+pub enum Call {
     Changes(Change, usize),
     Reports(Report, usize),
     Moves(Move),
     Names(Naming, usize),
+}
+
+// Why a line asks for no call: it is passed over, or what it says is wrong.
+#[derive(Clone, Copy)]
+pub enum NoCall {
     Nothing,
     BadHex,
     TooLong,
     Unknown,
 }
 
-// The place in the table of the word that a line starts with, and where it ends in the line; past the last word for none.
-#[derive(Clone, Copy)]
-pub struct Found {
-    pub place: usize,
-    pub end: usize,
-}
-
-// The value of a digit of either case; 16 for any other byte.
+// The value of a digit of either case; 16 for any other byte, as `digit_value` says, which is no digit to any base.
+#[tactic(auto, unfolding(crate::specs::Digits::digit_value, crate::specs::Digits::between))]
 fn value(c: u8) -> u8
     ensures { result ≡ digit_value c }
 {
@@ -79,15 +79,14 @@ fn value(c: u8) -> u8
 }
 
 // Is every byte a digit to the base?
+#[tactic(auto, using(crate::proofs::Values::digits_fail, crate::proofs::Values::digits_end))]
 fn digits(text: &[u8], base: u8) -> bool
     ensures { result ≡ digits base text.now }
 {
-    let mut i = 0;
-    while i < text.len() {
-        if value(text[i]) >= base {
+    for c in text {
+        if value(*c) >= base {
             return false;
         }
-        i += 1;
     }
     true
 }
@@ -98,14 +97,10 @@ fn decode(text: &[u8], batch: &mut [u8]) -> usize
         ≤ length batch.old) }
     ensures { (result ≤ length batch.new) × (take result batch.new ≡ bytes text.now) }
 {
-    let mut i = 0;
-    let mut at = 0;
-    while at < text.len() {
-        batch[i] = value(text[at]) * 16 + value(text[at + 1]);
-        i += 1;
-        at += 2;
+    for i in 0..text.len() / 2 {
+        batch[i] = value(text[2 * i]) * 16 + value(text[2 * i + 1]);
     }
-    i
+    text.len() / 2
 }
 
 // The byte of a hex digit, in lower case.
@@ -121,18 +116,15 @@ fn put_pairs(bytes: &[u8], text: &mut [u8]) -> usize
     requires { length bytes.now + length bytes.now ≤ length text.old }
     ensures { Encodes bytes.now text.new result }
 {
-    let mut i = 0;
-    let mut at = 0;
-    while i < bytes.len() {
-        text[at] = digit_byte(bytes[i] / 16);
-        text[at + 1] = digit_byte(bytes[i] % 16);
-        i += 1;
-        at += 2;
+    for (i, b) in bytes.iter().enumerate() {
+        text[2 * i] = digit_byte(*b / 16);
+        text[2 * i + 1] = digit_byte(*b % 16);
     }
-    at
+    2 * bytes.len()
 }
 
 // Writes bytes as pairs of hex digits, in lower case; nothing where the text has no room for all of them.
+#[tactic(auto, using(crate::proofs::Texts::nothing_held))]
 pub fn encode(bytes: &[u8], text: &mut [u8]) -> usize
     ensures { EncodesIn bytes.now text.old text.new result }
 {
@@ -143,19 +135,19 @@ pub fn encode(bytes: &[u8], text: &mut [u8]) -> usize
 }
 
 // The call with the batch that hex digits name.
-fn with_batch(call: Change, text: &[u8], batch: &mut [u8]) -> Command
+fn with_batch(call: Change, text: &[u8], batch: &mut [u8]) -> Result<Call, NoCall>
     ensures { Means (m.batch call (length batch.old) text.now) batch.new result }
 {
     if text.len() % 2 != 0 {
-        return Command::BadHex;
+        return Err(NoCall::BadHex);
     }
     if !digits(text, 16) {
-        return Command::BadHex;
+        return Err(NoCall::BadHex);
     }
     if text.len() / 2 > batch.len() {
-        return Command::TooLong;
+        return Err(NoCall::TooLong);
     }
-    Command::Changes(call, decode(text, batch))
+    Ok(Call::Changes(call, decode(text, batch)))
 }
 
 // The longest buffer that a call is lent. No sheet and no save is longer than 6,400 bytes.
@@ -170,6 +162,7 @@ fn longest(call: Report) -> usize
 }
 
 // The number, or `most` where it is more.
+#[tactic(auto, unfolding(crate::specs::Digits::at_most))]
 fn at_most(most: usize, n: usize) -> usize
     ensures { result ≡ at_most most n }
 {
@@ -182,165 +175,116 @@ fn number(text: &[u8], most: usize) -> usize
     ensures { result ≡ at_most most (number_from 0 text.now) }
 {
     let mut n = 0;
-    let mut i = 0;
-    while i < text.len() {
-        n = at_most(most, n * 10 + value(text[i]) as usize);
-        i += 1;
+    for c in text {
+        n = at_most(most, n * 10 + usize::from(value(*c)));
     }
     n
 }
 
 // The call with a buffer of the length that decimal digits name, one at least.
-fn with_length(call: Report, text: &[u8]) -> Command
+fn with_length(call: Report, text: &[u8]) -> Result<Call, NoCall>
     ensures { Asks (m.lends call text.now) result }
 {
     if text.len() == 0 {
-        return Command::Unknown;
+        return Err(NoCall::Unknown);
     }
     if !digits(text, 10) {
-        return Command::Unknown;
+        return Err(NoCall::Unknown);
     }
-    Command::Reports(call, number(text, longest(call)))
+    Ok(Call::Reports(call, number(text, longest(call))))
 }
 
 // The call with a name, which is put to the start of the batch.
-fn with_name(call: Naming, text: &[u8], batch: &mut [u8]) -> Command
+#[tactic(auto, using(crate::proofs::Texts::name_long))]
+fn with_name(call: Naming, text: &[u8], batch: &mut [u8]) -> Result<Call, NoCall>
     ensures { Means (m.with_name call (length batch.old) text.now) batch.new result }
 {
     if text.len() > batch.len() {
-        return Command::TooLong;
+        return Err(NoCall::TooLong);
     }
-    Command::Names(call, texts::put_text(batch, text))
+    Ok(Call::Names(call, Text(text).put(batch)))
 }
 
 // Is the line empty or a comment?
+#[tactic(auto, using(crate::proofs::Texts::passed_empty, crate::proofs::Texts::passed_first))]
 fn is_passed_over(line: &[u8]) -> bool
     ensures { result ≡ passed_over line.now }
 {
-    if line.len() == 0 {
-        return true;
-    }
-    line[0] == b'#'
+    line.is_empty() || line[0] == b'#'
 }
 
-// Does a word that goes up to `i` end there in the line?
-fn ends(line: &[u8], i: usize) -> bool
-    ensures { result ≡ ends line.now i }
+// The place of the first space.
+fn space(line: &[u8]) -> Option<usize>
+    ensures { FindsSpace line.now result }
 {
-    if i < line.len() {
-        return line[i] == b' ';
-    }
-    i == line.len()
+    line.iter().position(|c| *c == b' ')
 }
 
-// The place after a byte of a word; past the end of the line where another byte stands in it.
-fn further(line: &[u8], i: usize, c: u8) -> usize
-    ensures { result ≡ further line.now i c }
+// What a word asks for where it stands alone.
+// A `match` on the words would leave a goal for each byte in which two of them differ.
+#[tactic(auto, unfolding(crate::specs::Meaning::words, crate::specs::Table::alone_as))]
+fn alone(word: &[u8]) -> Result<Call, NoCall>
+    ensures { result ≡ command_of (alone_as words word.now) }
 {
-    if i >= line.len() {
-        return line.len() + 1;
-    }
-    if line[i] != c {
-        return line.len() + 1;
-    }
-    i + 1
-}
-
-// The first word of the table that the line starts with, before a space or its end.
-fn seek(line: &[u8], table: &[u8]) -> Found
-    ensures { result ≡ seek line.now table.now 0 0 }
-{
-    let mut place = 0;
-    let mut end = 0;
-    let mut at = 0;
-    while at < table.len() {
-        let c = table[at];
-        at += 1;
-        if c != b'\n' {
-            end = further(line, end, c);
-        } else {
-            if ends(line, end) {
-                return Found { place, end };
-            }
-            place += 1;
-            end = 0;
-        }
-    }
-    Found {
-        place,
-        end: line.len(),
-    }
-}
-
-// The table of words, in the order of `alone`.
-fn find(line: &[u8]) -> Found
-    ensures { TellsWord line.now result }
-{
-    seek(
-        line,
-        b"load\nwithdraw\nprint\nsave\nclose\nround\nreopen\nverdict\nmark\nreturn\nexpression\n",
-    )
-}
-
-// What a word of the table asks for where it stands alone.
-fn alone(place: usize) -> Command
-    ensures { result ≡ command_of (alone_at words place) }
-{
-    match place {
-        0 => Command::Changes(Change::Load, 0),
-        1 => Command::Changes(Change::Withdraw, 0),
-        2 => Command::Reports(Report::Print, LONGEST_SHEET),
-        3 => Command::Reports(Report::Save, LONGEST_SHEET),
-        4 => Command::Moves(Move::Close),
-        5 => Command::Moves(Move::Round),
-        6 => Command::Moves(Move::Reopen),
-        7 => Command::Moves(Move::Verdict),
-        8 => Command::Names(Naming::Mark, 0),
-        9 => Command::Names(Naming::Return, 0),
-        10 => Command::Reports(Report::Expression, EXPRESSION_ROOM),
-        _ => Command::Unknown,
+    if word == b"load".as_slice() {
+        Ok(Call::Changes(Change::Load, 0))
+    } else if word == b"withdraw".as_slice() {
+        Ok(Call::Changes(Change::Withdraw, 0))
+    } else if word == b"print".as_slice() {
+        Ok(Call::Reports(Report::Print, LONGEST_SHEET))
+    } else if word == b"save".as_slice() {
+        Ok(Call::Reports(Report::Save, LONGEST_SHEET))
+    } else if word == b"close".as_slice() {
+        Ok(Call::Moves(Move::Close))
+    } else if word == b"round".as_slice() {
+        Ok(Call::Moves(Move::Round))
+    } else if word == b"reopen".as_slice() {
+        Ok(Call::Moves(Move::Reopen))
+    } else if word == b"verdict".as_slice() {
+        Ok(Call::Moves(Move::Verdict))
+    } else if word == b"mark".as_slice() {
+        Ok(Call::Names(Naming::Mark, 0))
+    } else if word == b"return".as_slice() {
+        Ok(Call::Names(Naming::Return, 0))
+    } else if word == b"expression".as_slice() {
+        Ok(Call::Reports(Report::Expression, EXPRESSION_ROOM))
+    } else {
+        Err(NoCall::Unknown)
     }
 }
 
 // What the word asks for with a text behind it.
-fn with_text(word: Command, text: &[u8], batch: &mut [u8]) -> Command
+fn with_text(word: Call, text: &[u8], batch: &mut [u8]) -> Result<Call, NoCall>
     ensures { Extends word (length batch.old) text.now batch.new result }
 {
     match word {
-        Command::Changes(call, _) => with_batch(call, text, batch),
-        Command::Reports(call, _) => with_length(call, text),
-        Command::Names(call, _) => with_name(call, text, batch),
-        _ => Command::Unknown,
+        Call::Changes(call, _) => with_batch(call, text, batch),
+        Call::Reports(call, _) => with_length(call, text),
+        Call::Names(call, _) => with_name(call, text, batch),
+        Call::Moves(_) => Err(NoCall::Unknown),
     }
 }
 
-// What stands from a place on.
-fn rest(line: &[u8], at: usize) -> &[u8]
-    requires { at ≤ length line.now }
-    ensures { result.now ≡ drop at line.now }
-{
-    &line[at..]
-}
-
-// The command of a line that starts with a word of the table.
-fn called(line: &[u8], batch: &mut [u8]) -> Command
+// The call of a line that starts with a word.
+fn called(line: &[u8], batch: &mut [u8]) -> Result<Call, NoCall>
     ensures { Means (called words (length batch.old) line.now) batch.new result }
 {
-    let found = find(line);
-    let end = found.end;
-    let word = alone(found.place);
-    if end == line.len() {
-        return word;
+    match space(line) {
+        None => alone(line),
+        Some(at) => {
+            let word = alone(&line[..at])?;
+            with_text(word, &line[at + 1..], batch)
+        }
     }
-    with_text(word, rest(line, end + 1), batch)
 }
 
-// The command of a line. A batch that the line brings is decoded to the start of `batch`, a name is put there.
-pub fn parse(line: &[u8], batch: &mut [u8]) -> Command
+// The call of a line. A batch that the line brings is decoded to the start of `batch`, a name is put there.
+#[tactic(auto, unfolding(crate::specs::Meaning::meaning))]
+pub fn parse(line: &[u8], batch: &mut [u8]) -> Result<Call, NoCall>
     ensures { Means (meaning (length batch.old) line.now) batch.new result }
 {
     if is_passed_over(line) {
-        return Command::Nothing;
+        return Err(NoCall::Nothing);
     }
     called(line, batch)
 }

@@ -4,18 +4,16 @@ use mathlib.Core.Path.{◌≡◌, refl, ap, sym, ◌∙◌}
 use mathlib.Core.List.{List, [], ◌∷◌, ◌++◌}
 use lib.ListN.{length, drop, length-append, length-drop}
 use native.Mathlib.Omega.{arith}
-use Rattle.machine.specs.declared.Answer.TheVariants.{Refused}
-use Rattle.machine.specs.Calls.{Call, load, withdraw, close, round, reopen, verdict, print, save, expression, Outcome, done, wrote, decided, refused, returned, call, buffer_after}
+use Rattle.machine.specs.Calls.{Call, load, withdraw, close, round, reopen, verdict, print, save, expression, Outcome, done, wrote, decided, refused, Returned, due, call, buffer_after}
 use Rattle.machine.specs.Marks.{Marked, MarkedCall, on, mark, return_to, MarkedNext, marked_call}
 use Rattle.machine.specs.Causes.{Writes, sheets, saves, expresses}
-use Rattle.machine.proofs.Answers.{answer_of, answer_by, refused_by}
 use Rattle.machine.proofs.Outcomes.{comes}
 use Rattle.machine.proofs.Marks.{Came, came_on, came_misnamed, came_marked, came_full, came_back, came_absent, came, marked_refusals, refused_same}
 use Rattle.session.specs.declared.Session.{Session}
 use Rattle.session.specs.declared.Reply.{Reply}
 use Rattle.session.specs.Record.{record_of}
 use Rattle.demands.specs.Trace.{Exchange, given, lent, Buffered, onward, plain_after}
-use Rattle.demands.specs.Demands.{Answered, Demand1}
+use Rattle.demands.specs.Demands.{RefusedAs, Answered, Demand1}
 use Rattle.demands.proofs.Reached.{Stands, does, reached}
 
 empty : (l : List ℕ) → length l ≡ 0 → l ≡ []
@@ -59,12 +57,20 @@ module _ (x : Marked) where
   buffered (came_back name m k h) old new l j = same_buffer (return_to name) old new l j
   buffered (came_absent name k h) old new l j = same_buffer (return_to name) old new l j
 
+-- the outcome for which a refusal is due
+due_refused : (o : Outcome) {n place : ℕ} → due o ≡ due (refused n place) → o ≡ refused n place
+due_refused done e = let v = ap (λ (x : Returned). x.number) e in let z : ◌≡◌ {A = ℕ} 0 1 = cc in absurd (omega arith)
+due_refused (wrote l) e = let v = ap (λ (x : Returned). x.number) e in let z : ◌≡◌ {A = ℕ} 0 1 = cc in absurd (omega arith)
+due_refused (decided w) e = let v = ap (λ (x : Returned). x.number) e in let z : ◌≡◌ {A = ℕ} 0 1 = cc in absurd (omega arith)
+due_refused (refused k at) {n} {place} e =
+    let v = ap (λ (x : Returned). x.number) e in let w = ap (λ (x : Returned). x.values) e in let i : k ≡ n = cc in let j : at ≡ place = cc in cc
+
 answered : (x : Marked) (s : Session) (e : Exchange MarkedCall Reply) → Stands x s e → Answered x s e
 answered x s e h = record {
   result = (does h).tells.answer_is;
   refused = λ n place. (
     (λ i. (marked_refusals x e.asked n place h.record_is.formed h.served.brings).0 (by n place i)),
-    λ c. answer_by (does h).tells ∙ ap answer_of ((marked_refusals x e.asked n place h.record_is.formed h.served.brings).1 c),
+    λ c. (does h).tells.answer_is ∙ ap due ((marked_refusals x e.asked n place h.record_is.formed h.served.brings).1 c),
   );
   unchanged = λ n place i. (
     (does h).session_is ∙ ap record_of (refused_same x e.asked n place (by n place i)) ∙ sym h.record_is.whole,
@@ -73,8 +79,8 @@ answered x s e h = record {
   buffered = buffered x (came x e.asked) e.old e.new h.served.lends (does h).tells.buffer_is;
 }
   where
-    by : (n place : ℕ) → e.reply.answer ≡ Refused n place → (marked_call x e.asked).answer ≡ refused n place
-    by n place i = refused_by (marked_call x e.asked).answer n place (sym (does h).tells.answer_is ∙ ap returned i)
+    by : (n place : ℕ) → RefusedAs e.reply.answer n place → (marked_call x e.asked).answer ≡ refused n place
+    by n place i = due_refused (marked_call x e.asked).answer (sym (does h).tells.answer_is ∙ i)
 
 pub demand_1 : Demand1
 demand_1 s f es t before later e i = answered (plain_after before) (given onward s before) e (reached s f es t before later e i)

@@ -15,7 +15,7 @@ use Rattle.orderings.specs.Timelines.{timelines}
 use Rattle.orderings.proofs.Walks.{allowed_more}
 use Rattle.orderings.proofs.Depths.{accepted_iff_depth}
 use Rattle.orderings.proofs.Timelines.{lawful}
-use Rattle.machine.specs.declared.Answer.{Answer}
+use Rattle.machine.specs.Calls.{Answer}
 use Rattle.machine.specs.declared.Verdict.{Verdict}
 use Rattle.machine.specs.declared.Verdict.TheVariants.{NonEmpty, Empty}
 use Rattle.machine.specs.declared.Phase.TheVariants.{Settled}

@@ -3,8 +3,9 @@ use Prim.Native.Nat.{ℕ}
 use mathlib.Core.Path.{◌≡◌, refl, ap, ◌∙◌}
 use mathlib.Core.List.{List}
 use lib.ListN.{length}
-use Rattle.machine.specs.declared.Answer.{Answer}
-use Rattle.machine.specs.declared.Answer.TheVariants.{Wrote}
+use Rattle.machine.specs.Calls.{Answer}
+use Rattle.std.specs.Prelude.{Ok}
+use Rattle.machine.specs.declared.Success.TheVariants.{Wrote}
 use Rattle.machine.specs.Calls.{expression, Outcome, done, wrote, decided, refused, call, Tells}
 use Rattle.machine.specs.Marks.{Marked, MarkedCall, on}
 use Rattle.machine.specs.Statements.{Expresses}
@@ -19,7 +20,7 @@ use Rattle.demands.proofs.Demand2.{written}
 use Rattle.demands.proofs.Requests.{session_kept}
 
 -- where no text was written, the buffer is as it was
-untouched : (o : Outcome) {old new : List ℕ} {a : Answer} → Tells o old new a → ¬ ((n : ℕ) × (a ≡ Wrote n)) → new ≡ old
+untouched : (o : Outcome) {old new : List ℕ} {a : Answer} → Tells o old new a → ¬ ((n : ℕ) × (a ≡ Ok (Wrote n))) → new ≡ old
 untouched done t f = t.buffer_is
 untouched (wrote l) t f = absurd (f (length l, answer_by t))
 untouched (decided v) t f = t.buffer_is

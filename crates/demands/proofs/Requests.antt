@@ -5,7 +5,8 @@ use mathlib.Core.Logic.{◌↔◌}
 use mathlib.Core.List.{List}
 use lib.ListN.{length}
 use native.Mathlib.Omega.{arith}
-use Rattle.machine.specs.declared.Answer.TheVariants.{Done, Decided}
+use Rattle.std.specs.Prelude.{Ok}
+use Rattle.machine.specs.declared.Success.TheVariants.{Done, Decided}
 use Rattle.machine.specs.declared.Verdict.{Verdict}
 use Rattle.machine.specs.declared.Verdict.TheVariants.{NonEmpty}
 use Rattle.machine.specs.declared.Phase.{Phase}
@@ -61,10 +62,10 @@ module _ (x : Marked) (s : Session) (e : Exchange MarkedCall Reply) (h : Stands 
   session_kept k = (does h).session_is ∙ ap record_of now_is ∙ ap (λ (m : Machine). record_of (with_now x m)) k ∙ sym h.record_is.whole
 
 module _ (x : Marked) (s : Session) (e : Exchange MarkedCall Reply) (h : Stands x s e) (i : e.asked ≡ on round) where
-  done_running : e.reply.answer ≡ Done → x.now.phase ≡ Running
+  done_running : e.reply.answer ≡ Ok Done → x.now.phase ≡ Running
   done_running d = rounds_from x.now (comes x.now round done ((answer_iff x s e h i done done_by).0 d))
 
-  running_done : x.now.phase ≡ Running → e.reply.answer ≡ Done
+  running_done : x.now.phase ≡ Running → e.reply.answer ≡ Ok Done
   running_done r = (answer_iff x s e h i done done_by).1 (ap (λ (y : Next). y.answer) (runs x.now r))
 
   round_counted : OneRound x.now s e
@@ -87,7 +88,7 @@ request_14 = record {
 -- ---- C-22
 
 module _ (x : Marked) (s : Session) (e : Exchange MarkedCall Reply) (h : Stands x s e) (i : e.asked ≡ on verdict) where
-  told_iff : (v : Verdict) → (e.reply.answer ≡ Decided v) ↔ ((call x.now verdict).answer ≡ decided v)
+  told_iff : (v : Verdict) → (e.reply.answer ≡ Ok (Decided v)) ↔ ((call x.now verdict).answer ≡ decided v)
   told_iff v = answer_iff x s e h i (decided v) (λ q. decided_by q v)
 
   one_verdict : OneVerdict x.now s e

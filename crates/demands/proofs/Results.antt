@@ -12,7 +12,7 @@ use Rattle.rows.specs.declared.Row.{Row}
 use Rattle.rows.specs.Rows.{AllFit}
 use Rattle.rows.specs.Keys.{high, low}
 use Rattle.rows.proofs.Keys.{key_apart}
-use Rattle.machine.specs.declared.Answer.{Answer}
+use Rattle.machine.specs.Calls.{Answer}
 use Rattle.machine.specs.declared.Phase.{Phase}
 use Rattle.machine.specs.declared.Phase.TheVariants.{Open, Running, Settled}
 use Rattle.machine.specs.Machine.{Machine, fresh, open_with}
@@ -24,7 +24,9 @@ use Rattle.machine.proofs.Settling.{after_after}
 use Rattle.row_table.specs.Arrays.{padded}
 use Rattle.marks.specs.declared.Kept.{Kept}
 use Rattle.marks.specs.declared.Marks.{Marks}
-use Rattle.marks.specs.Record.{name_number, kept_of, marks_of}
+use Rattle.marks.specs.declared.Mark.{Mark as Entry}
+use Rattle.machine.proofs.Marks.{answer_known}
+use Rattle.marks.specs.Record.{kept_of, marks_of, mark_of}
 use Rattle.marks.proofs.Naming.{number_only}
 use Rattle.session.specs.declared.Session.{Session}
 use Rattle.session.specs.declared.Reply.{Reply}
@@ -91,15 +93,16 @@ mark_same {k} {k'} i j = ap (λ (l : List ℕ). record { name = l; kept = k.kept
 abbrev Kind : List Mark → Type 0
 Kind l = (k : Mark) → k among l → Name k.name × WellFormed k.kept
 
-marks_one : (l l' : List Mark) → Kind l → Kind l' → map (λ k. name_number k.name) l ≡ map (λ k. name_number k.name) l' → map (λ k. kept_of k.kept) l ≡ map (λ k. kept_of k.kept) l' → l ≡ l'
-marks_one [] [] p q e f = refl
-marks_one [] (k ∷ l) p q e f = absurd (omega (arith, ap length e))
-marks_one (k ∷ l) [] p q e f = absurd (omega (arith, ap length e))
-marks_one (k ∷ l) (k' ∷ l') p q e f =
+marks_one : (l l' : List Mark) → Kind l → Kind l' → map mark_of l ≡ map mark_of l' → l ≡ l'
+marks_one [] [] p q e = refl
+marks_one [] (k ∷ l) p q e = absurd (omega (arith, ap length e))
+marks_one (k ∷ l) [] p q e = absurd (omega (arith, ap length e))
+marks_one (k ∷ l) (k' ∷ l') p q e =
     let g = p k (Memᴰ.head refl) in let h = q k' (Memᴰ.head refl) in
-    let i : k.name ≡ k'.name = number_only k.name k'.name g.0.letters h.0.letters (cc) in
-    let j : k.kept ≡ k'.kept = kept_one k.kept k'.kept g.1 h.1 (cc) in
-    let r = marks_one l l' (λ x n. p x (Memᴰ.tail n)) (λ x n. q x (Memᴰ.tail n)) (cc) (cc) in
+    let f : mark_of k ≡ mark_of k' = cc in
+    let i : k.name ≡ k'.name = number_only k.name k'.name g.0.letters h.0.letters (ap (λ (m : Entry). m.name) f) in
+    let j : k.kept ≡ k'.kept = kept_one k.kept k'.kept g.1 h.1 (ap (λ (m : Entry). m.kept) f) in
+    let r = marks_one l l' (λ x n. p x (Memᴰ.tail n)) (λ x n. q x (Memᴰ.tail n)) (cc) in
     let n : k ≡ k' = mark_same i j in
     cc
 
@@ -107,9 +110,7 @@ marks_of_one : (l l' : List Mark) → Kind l → Kind l' → marks_of l ≡ mark
 unfolding marks_of
 marks_of_one l l' p q e =
     let n : length l ≡ length l' = ap (λ (s : Marks). s.count) e in
-    marks_one l l' p q
-    (padded_one most_marks 0 _ _ (simp length-map n) (ap (λ (s : Marks). s.names) e))
-    (padded_one most_marks (kept_of fresh) _ _ (simp length-map n) (ap (λ (s : Marks). s.kept) e))
+    marks_one l l' p q (padded_one most_marks (record { name = 0; kept = kept_of fresh }) _ _ (simp length-map n) (ap (λ (s : Marks). s.marks) e))
 
 pub represents_one : (x x' : Marked) (s : Session) → Represents x s → Represents x' s → x ≡ x'
 represents_one x x' s h g =
@@ -135,7 +136,7 @@ module _ (x : Marked) (s : Session) (h : Represents x s) where
     brings = b;
     lends = l;
     keeps = λ x' g. subst (λ (y : Marked). Does y c old (buffer_after (marked_call x c).answer old) (answered x c old).reply) (represents_one x x' s h g)
-        (record { session_is = refl; tells = record { answer_is = answer_returns (marked_call x c).answer; buffer_is = refl } });
+        (record { session_is = refl; tells = record { answer_is = answer_returns (marked_call x c).answer (answer_known x c h.formed b); buffer_is = refl } });
   }
 
   -- nothing else keeps the promise

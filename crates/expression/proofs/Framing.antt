@@ -1,7 +1,9 @@
 -- Frames are about every machine that the arrays hold: that of the walk (`walk_frames`), those of a set with an open claim (`tour_frames`,
--- `pieces_frames`), and that of the claim of a step, whose set is sought (`found_set`, `omega_frame`, `back_frame`, `mix_frame`). `loop_round` and
--- `mix_round`: where the rounds stand.
-use Prim.Native.Nat.{ℕ, zero, suc, ◌+◌, ◌-◌, ◌≤◌, ◌<◌}
+-- `pieces_frames`), and that of a claim, whose set is sought (`found_at`, `found_none`, `loop_frame`, `mix_frame`). `loop_round` and `mix_round`:
+-- where the rounds stand.
+use Prim.Native.Nat.{ℕ, ◌+◌, ◌-◌, ◌≤◌, ◌<◌}
+use Rattle.std.specs.Prelude.{Option, None, Some}
+use Rattle.std.proofs.lemmas.Option.{none-some}
 use mathlib.Core.Path.{◌≡◌, refl, ap, sym, ◌∙◌, subst}
 use mathlib.Core.Logic.{inl, inr, ⊎_elim, ◌↔◌}
 use mathlib.Core.List.Memᴰ
@@ -36,12 +38,11 @@ use Rattle.search.proofs.Accepting.{all_claims}
 use Rattle.rounds.specs.Arrays.{rounds_of}
 use Rattle.rounds.proofs.OpenClaims.{round_there, forced_by}
 use Rattle.rounds.proofs.Noting.{rounds_length, rounds_past}
-use Rattle.walks.specs.declared.Choice.TheVariants.{Taken}
-use Rattle.tours.specs.declared.Shape.{Shape}
-use Rattle.tours.specs.declared.Shape.TheVariants.{Whole, Tour, Pieces}
-use Rattle.tours.specs.declared.Frame.{Frame}
+use Rattle.tours.specs.declared.frames.Shape.{Shape}
+use Rattle.tours.specs.declared.frames.Shape.TheVariants.{Whole, Tour, Pieces}
+use Rattle.tours.specs.declared.frames.Frame.{Frame}
 use Rattle.tours.specs.Frames.{Held, claims_for, About, Framed}
-use Rattle.expression.specs.Frames.{Noted, round_for, Frames, Before, OpenedBefore, SetFrame, FindsSet, ClaimFrame, StepFrame, PlaceFrame}
+use Rattle.expression.specs.Frames.{Noted, round_for, Frames, Before, OpenedBefore, SetFrame, FindsSet, LimitFrame, PlaceFrame}
 
 -- a frame from its parts
 frames_by : {m : Machine} {g : Graph} {k : ℕ} {r : Frame} (shape : Shape) (P : ℕ) → r.shape ≡ shape → r.set ≡ P
@@ -51,7 +52,7 @@ frames_by {m} {g} {k} {r} shape P e f framed rounded = record {
   rounded = rounded ∙ (ap (round_for m shape) (sym f) ∙ ap (λ (s : Shape). round_for m s r.set) (sym e));
 }
 
-module _ {m : Machine} {g : Graph} {words heads links : List ℕ} {n : ℕ} {back : Graph} {k : ℕ} (held : Held m g words heads links n back k)
+module _ {m : Machine} {g : Graph} {words : List ℕ} {n : ℕ} {back : Graph} {k : ℕ} (held : Held m g words n back k)
     {opened : List ℕ} (noted : Noted m opened) where
   abbrev set : ℕ → ℕ
   set i = get_or g.sets i 0
@@ -142,8 +143,9 @@ module _ {m : Machine} {g : Graph} {words heads links : List ℕ} {n : ℕ} {bac
 
   pub walk_frames : (before : Claims) (initials finals : ℕ) → OpenedBefore opened 0 k 130 before.loops → OpenedBefore opened 64 k 130 before.mixes
       → m.phase ≡ Settled NonEmpty → Initials m.rows initials → Finals m.rows finals
-      → Frames m g k (record { shape = Whole; set = all_mask; starts = initials; ends = finals; force = before; round = 130 })
-  walk_frames before initials finals a b settled i f = record {
+      → (low : (q : ℕ) → Whole ≡ Tour q → q < 64)
+      → Frames m g k (record { shape = Whole; set = all_mask; starts = initials; ends = finals; force = before; round = 130; low = low })
+  walk_frames before initials finals a b settled i f low = record {
     framed = record { about = (refl, i, f, settled); all = before; forced = all_forced before a b; inner = all_claims g before };
     rounded = refl;
   }
@@ -195,74 +197,72 @@ module _ {m : Machine} {g : Graph} {words heads links : List ℕ} {n : ℕ} {bac
   -- ---- a set that is sought
 
   -- that of an open claim is found
-  pub found_set : (c : Claim) → c among open_claims m → (i : ℕ) → FindsSet back.sets k (set_of c) i → (i < k) × (set i ≡ set_of c)
-  found_set c o i f =
+  found_set : (c : Claim) → c among open_claims m → (r : Option ℕ) → FindsSet back.sets k (set_of c) r → (i : ℕ) × (r ≡ Some i) × (i < k) × (set i ≡ set_of c)
+  found_set c o r f =
       let p = set_place m.rows g.sets k held.masked.sets_are (set_of c) (open_holds m.rows m.openings ground c o).0 in
       let up = sets_rise m.rows g.sets k held.masked.sets_are (sym held.count) in
-      let e = f (λ x y a b. omega (arith, up x y a b, held.turned.sets_are x, held.turned.sets_are y)) p.0 p.1 (held.turned.sets_are p.0 ∙ sym p.2) in
-      (omega (arith, e, p.1), ap (λ (j : ℕ). set j) e ∙ sym p.2)
+      (p.0, f (λ x y a b. omega (arith, up x y a b, held.turned.sets_are x, held.turned.sets_are y)) p.0 p.1 (held.turned.sets_are p.0 ∙ sym p.2), p.1, sym p.2)
 
-  tour_claim : (q P i : ℕ) (r : Frame) → q ∈ P → loops P among open_claims m → FindsSet back.sets k P i → SetFrame back k opened (Tour q) i (get_or opened i 0) r
+  pub found_at : (c : Claim) → c among open_claims m → (i : ℕ) → FindsSet back.sets k (set_of c) (Some i) → (i < k) × (set i ≡ set_of c)
+  found_at c o i f =
+      let p = found_set c o (Some i) f in
+      let e : i ≡ p.0 = cc in
+      (omega (arith, e, p.2), ap (λ (j : ℕ). set j) e ∙ p.3)
+
+  pub found_none : (c : Claim) → c among open_claims m → ¬ FindsSet back.sets k (set_of c) None
+  found_none c o f = none-some _ (found_set c o None f).1
+
+  tour_claim : (q P i : ℕ) (r : Frame) → q ∈ P → loops P among open_claims m → FindsSet back.sets k P (Some i) → SetFrame back k opened (Tour q) i (get_or opened i 0) r
       → Frames m g k r × (r.shape ≡ Tour q) × (r.set ≡ P)
-  tour_claim q P i r q_in o f s = let p = found_set (loops P) o i f in (
+  tour_claim q P i r q_in o f s = let p = found_at (loops P) o i f in (
     tour_frames i q r p.0 (subst (λ (Q : ℕ). q ∈ Q) (sym p.1) q_in) (subst (λ (Q : ℕ). loops Q among open_claims m) (sym p.1) o) s,
     s.shape_is,
     s.set_is ∙ (held.turned.sets_are i ∙ p.1),
   )
 
-  pieces_claim : (P i : ℕ) (r : Frame) → mixes P among open_claims m → FindsSet back.sets k P i → SetFrame back k opened Pieces i (get_or opened (64 + i) 0) r
+  pieces_claim : (P i : ℕ) (r : Frame) → mixes P among open_claims m → FindsSet back.sets k P (Some i) → SetFrame back k opened Pieces i (get_or opened (64 + i) 0) r
       → Frames m g k r × (r.shape ≡ Pieces) × (r.set ≡ P)
-  pieces_claim P i r o f s = let p = found_set (mixes P) o i f in (
+  pieces_claim P i r o f s = let p = found_at (mixes P) o i f in (
     pieces_frames i p.0 (subst (λ (Q : ℕ). mixes Q among open_claims m) (sym p.1) o) r s,
     s.shape_is,
     s.set_is ∙ (held.turned.sets_are i ∙ p.1),
   )
 
--- ---- the claim of a step
+-- ---- a claim
 
-module _ (b : Graph) (k : ℕ) (opened : List ℕ) (a P to i : ℕ) (r : Frame) (f : FindsSet b.sets k P i) where
-  pub omega_frame : SetFrame b k opened (Tour a) i (get_or opened i 0) r → ClaimFrame b k opened a 1 P to r
-  omega_frame s m g words heads links n held noted goes = tour_claim held noted a P i r goes.0.0.1 goes.1 f s
+module _ (b : Graph) (k : ℕ) (opened : List ℕ) (P i : ℕ) (r : Frame) (f : FindsSet b.sets k P (Some i)) where
+  pub loop_frame : (q : ℕ) → SetFrame b k opened (Tour q) i (get_or opened i 0) r → LimitFrame b k opened (Tour q) P (Some r)
+  loop_frame q s m g words n held noted o = tour_claim held noted q P i r o.0 o.1 f s
 
-  pub back_frame : SetFrame b k opened (Tour to) i (get_or opened i 0) r → ClaimFrame b k opened a 2 P to r
-  back_frame s m g words heads links n held noted goes = tour_claim held noted to P i r goes.0.0.1 goes.1 f s
+  pub mix_frame : SetFrame b k opened Pieces i (get_or opened (64 + i) 0) r → LimitFrame b k opened Pieces P (Some r)
+  mix_frame s m g words n held noted o = pieces_claim held noted P i r o f s
 
-  pub mix_frame : (kind : ℕ) → 2 < kind → SetFrame b k opened Pieces i (get_or opened (64 + i) 0) r → ClaimFrame b k opened a kind P to r
-  mix_frame zero h s = absurd (omega arith)
-  mix_frame (suc zero) h s = absurd (omega arith)
-  mix_frame (suc (suc zero)) h s = absurd (omega arith)
-  mix_frame (suc (suc (suc j))) h s = λ m g words heads links n held noted goes. pieces_claim held noted P i r goes.1 f s
+-- its set is one of the machine's
+pub no_loop : (b : Graph) (k : ℕ) (opened : List ℕ) (P q : ℕ) → FindsSet b.sets k P None → LimitFrame b k opened (Tour q) P None
+no_loop b k opened P q f m g words n held noted o = found_none held noted (loops P) o.1 f
 
-module _ (b : Graph) (k : ℕ) (opened : List ℕ) (a kind value to : ℕ) (r : Frame) where
-  pub letter_step : kind ≡ 0 → r.round ≡ 0 → StepFrame b k opened a (Taken kind value to) r
-  letter_step e h = subst (λ (x : ℕ). StepFrame b k opened a (Taken x value to) r) (sym e) h
-
-  pub claim_step : 0 < kind → ClaimFrame b k opened a kind value to r → StepFrame b k opened a (Taken kind value to) r
-  claim_step h f = by kind h f
-    where
-      by : (x : ℕ) → 0 < x → ClaimFrame b k opened a x value to r → StepFrame b k opened a (Taken x value to) r
-      by zero h f = absurd (omega arith)
-      by (suc j) h f = f
+pub no_mix : (b : Graph) (k : ℕ) (opened : List ℕ) (P : ℕ) → FindsSet b.sets k P None → LimitFrame b k opened Pieces P None
+no_mix b k opened P f m g words n held noted o = found_none held noted (mixes P) o f
 
 -- ---- the claim at a place of the array
 
-module _ (b : Graph) (k : ℕ) (opened : List ℕ) (slot : ℕ) (r : Frame) where
-  pub tour_place : (q : ℕ) → slot < 64 → q ∈ get_or b.sets slot 0 → SetFrame b k opened (Tour q) slot (get_or opened slot 0) r → PlaceFrame b k opened slot r
-  tour_place q h j s m g words heads links n held noted o = let l = loop_below held noted slot h o in (
+module _ (b : Graph) (k : ℕ) (opened : List ℕ) (slot : ℕ) where
+  pub tour_place : (r : Frame) (q : ℕ) → slot < 64 → q ∈ get_or b.sets slot 0 → SetFrame b k opened (Tour q) slot (get_or opened slot 0) r → PlaceFrame b k opened slot (Some r)
+  tour_place r q h j s m g words n held noted o = let l = loop_below held noted slot h o in (
     tour_frames held noted slot q r l (subst (λ (Q : ℕ). q ∈ Q) (held.turned.sets_are slot) j) ((open_iff held noted _).0 (omega (arith, o, loop_round held noted slot l))) s,
     inl (q, h, s.shape_is, s.set_is ∙ held.turned.sets_are slot),
   )
 
   -- no set is 0
-  pub none_place : slot < 64 → get_or b.sets slot 0 ≡ 0 → PlaceFrame b k opened slot r
-  none_place h e m g words heads links n held noted o =
+  pub none_place : slot < 64 → get_or b.sets slot 0 ≡ 0 → PlaceFrame b k opened slot None
+  none_place h e m g words n held noted o =
       let l = loop_below held noted slot h o in
       let c = loops (get_or g.sets slot 0) in
       let open_here : c among open_claims m = (open_iff held noted c).0 (omega (arith, o, loop_round held noted slot l)) in
       absurd (omega (arith, e, held.turned.sets_are slot, (set_fits m.rows held.formed.table.fit (set_of c) (open_holds m.rows m.openings (grounded m held.formed) c open_here).0).0))
 
-  pub pieces_place : 64 ≤ slot → slot < 128 → SetFrame b k opened Pieces (slot - 64) (get_or opened slot 0) r → PlaceFrame b k opened slot r
-  pieces_place h h' s m g words heads links n held noted o =
+  pub pieces_place : (r : Frame) → 64 ≤ slot → slot < 128 → SetFrame b k opened Pieces (slot - 64) (get_or opened slot 0) r → PlaceFrame b k opened slot (Some r)
+  pieces_place r h h' s m g words n held noted o =
       let e : slot ≡ 64 + (slot - 64) = omega arith in
       let o' = subst (λ (x : ℕ). 0 < get_or opened x 0) e o in
       let l = mix_below held noted (slot - 64) (omega arith) o' in (

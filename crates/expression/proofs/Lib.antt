@@ -7,5 +7,4 @@ pub mod Summing
 pub mod Noting
 pub mod Putting
 pub mod Going
-pub mod Halves
 pub mod Expressing

@@ -1,10 +1,11 @@
 -- The parts of a frame, one after another, are its text (`legs_text`): that of a tour of a set (`tour_text`), of its pieces (`pieces_text`) or the
--- expression (`whole_text`). A step is written as what opens it, the text of its claim's frame and what closes it (`step_spelled`). The steps
+-- expression (`whole_text`). A step is written as what opens it, the text of its claim's frame and what closes it (`omega_spelled`, `back_spelled`, `mix_spelled`). The steps
 -- of the parts are steps of the machine (`parts_go`), whose claims opened in earlier rounds (`parts_earlier`). No text is empty (`text_some`).
 -- A cursor that has not ended stands at a part (`live_part`).
 use Prim.Native.Nat.{ℕ, zero, suc, ◌/◌, ◌%◌, ◌<◌}
 use mathlib.Core.Path.{◌≡◌, refl, ap, sym, ◌∙◌, subst}
 use mathlib.Core.Bool.{Bool, true, false}
+use Rattle.std.specs.Prelude.{Option, None, Some}
 use mathlib.Core.Option.{none, some, none-ne-some}
 use mathlib.Core.Logic.{⊎_elim, ◌≢◌}
 use mathlib.Core.List.Memᴰ
@@ -33,14 +34,13 @@ use Rattle.machine.proofs.Turning.{rest, trip}
 use Rattle.machine.proofs.Justified.{near, rest_in, rest_has, open_holds}
 use Rattle.machine.proofs.Spelling.{StepBelow, below_open, shortest_steps, nearest_steps, piece_steps, open_below, part_fixed}
 use Rattle.machine.proofs.Ending.{rounds_end}
-use Rattle.walks.specs.Choices.{named}
-use Rattle.tours.specs.declared.Shape.{Shape}
-use Rattle.tours.specs.declared.Shape.TheVariants.{Whole, Tour, Pieces}
-use Rattle.tours.specs.declared.Frame.{Frame}
-use Rattle.tours.specs.declared.Cursor.{Cursor}
+use Rattle.tours.specs.declared.frames.Shape.{Shape}
+use Rattle.tours.specs.declared.frames.Shape.TheVariants.{Whole, Tour, Pieces}
+use Rattle.tours.specs.declared.frames.Frame.{Frame}
+use Rattle.tours.specs.declared.frames.Cursor.{Cursor}
 use Rattle.tours.specs.Frames.{About, neighbour, piece_of, hops, legs}
 use Rattle.tours.specs.Parts.{Part, part_of, leg_parts, parts_of, separator}
-use Rattle.tours.specs.Cursors.{legs_left, Stands}
+use Rattle.tours.specs.Cursors.{legs_left, StandsAt}
 use Rattle.search.specs.Graph.{Graph}
 use Rattle.expression.specs.Texts.{before_text, part_text, shape_text, label_open, label_close}
 use Rattle.expression.specs.Frames.{round_for, Goes, shape_of}
@@ -49,28 +49,28 @@ use Rattle.expression.specs.Frames.{round_for, Goes, shape_of}
 
 module _ (R : Step → List ℕ) where
   -- parts with a dot before each
-  dots : (x : List ℕ) (w : Walk) → x ++ gather (part_text R) (map (λ s. part_of 46 (some s)) w) ≡ joined 46 (x ∷ map R w)
+  dots : (x : List ℕ) (w : Walk) → x ++ gather (part_text R) (map (λ s. part_of (Some 46) (some s)) w) ≡ joined 46 (x ∷ map R w)
   dots x [] = append-nil x
   dots x (s ∷ w) = ap (λ (l : List ℕ). x ++ (46 ∷ l)) (dots (R s) w)
 
   -- a leg's parts are what stands before it, and its walk
-  pub leg_text : (c : ℕ) (w : Walk) → gather (part_text R) (leg_parts c w) ≡ before_text c ++ walk_text R w
+  pub leg_text : (c : Option ℕ) (w : Walk) → gather (part_text R) (leg_parts c w) ≡ before_text c ++ walk_text R w
   leg_text c [] = append-nil (before_text c ++ text "e")
   leg_text c (t ∷ w) = append_assoc (before_text c) (R t) _ ∙ ap (λ (l : List ℕ). before_text c ++ l) (dots (R t) w)
 
   module _ (s : ℕ) where
     -- legs with a byte before each
-    legs_after : (x : List ℕ) (ws : List Walk) → x ++ gather (part_text R) (parts_of (suc s) (suc s) ws) ≡ joined (suc s) (x ∷ map (walk_text R) ws)
+    legs_after : (x : List ℕ) (ws : List Walk) → x ++ gather (part_text R) (parts_of (Some s) s ws) ≡ joined s (x ∷ map (walk_text R) ws)
     legs_after x [] = append-nil x
-    legs_after x (w ∷ ws) = ap (λ (l : List ℕ). x ++ l) (gather_append (part_text R) (leg_parts (suc s) w) (parts_of (suc s) (suc s) ws)
-        ∙ ap (λ (l : List ℕ). l ++ gather (part_text R) (parts_of (suc s) (suc s) ws)) (leg_text (suc s) w)
-        ∙ ap (λ (l : List ℕ). suc s ∷ l) (legs_after (walk_text R w) ws))
+    legs_after x (w ∷ ws) = ap (λ (l : List ℕ). x ++ l) (gather_append (part_text R) (leg_parts (Some s) w) (parts_of (Some s) s ws)
+        ∙ ap (λ (l : List ℕ). l ++ gather (part_text R) (parts_of (Some s) s ws)) (leg_text (Some s) w)
+        ∙ ap (λ (l : List ℕ). s ∷ l) (legs_after (walk_text R w) ws))
 
     -- the parts of legs are their walks, with a byte between them
-    pub legs_text : (ws : List Walk) → gather (part_text R) (parts_of 0 (suc s) ws) ≡ joined (suc s) (map (walk_text R) ws)
+    pub legs_text : (ws : List Walk) → gather (part_text R) (parts_of None s ws) ≡ joined s (map (walk_text R) ws)
     legs_text [] = refl
-    legs_text (w ∷ ws) = gather_append (part_text R) (leg_parts 0 w) (parts_of (suc s) (suc s) ws)
-        ∙ ap (λ (l : List ℕ). l ++ gather (part_text R) (parts_of (suc s) (suc s) ws)) (leg_text 0 w)
+    legs_text (w ∷ ws) = gather_append (part_text R) (leg_parts None w) (parts_of (Some s) s ws)
+        ∙ ap (λ (l : List ℕ). l ++ gather (part_text R) (parts_of (Some s) s ws)) (leg_text None w)
         ∙ legs_after (walk_text R w) ws
 
   -- one walk after another
@@ -106,17 +106,17 @@ hops_some f a (b ∷ l) n = cons≢nil
 -- ---- the steps of the parts
 
 -- a part's step is one of a leg
-part_step : (c sep : ℕ) (ws : List Walk) (p : Part) → p among parts_of c sep ws → (t : Step) → p.step ≡ some t → (v : Walk) × v among ws × t among v
+part_step : (c : Option ℕ) (sep : ℕ) (ws : List Walk) (p : Part) → p among parts_of c sep ws → (t : Step) → p.step ≡ some t → (v : Walk) × v among ws × t among v
 part_step c sep [] p i t e = absurd (Memᴰ.not-nil i)
-part_step c sep (v ∷ ws) p i t e = ⊎_elim (λ j. (v, Memᴰ.head refl, of_leg v j)) (λ j. let r = part_step sep sep ws p j t e in (r.0, Memᴰ.tail r.1, r.2)) (Memᴰ.append_cases (leg_parts c v) i)
+part_step c sep (v ∷ ws) p i t e = ⊎_elim (λ j. (v, Memᴰ.head refl, of_leg v j)) (λ j. let r = part_step (Some sep) sep ws p j t e in (r.0, Memᴰ.tail r.1, r.2)) (Memᴰ.append_cases (leg_parts c v) i)
   where
-    same : (s : Step) (b : ℕ) → p ≡ part_of b (some s) → t ≡ s
+    same : (s : Step) (b : Option ℕ) → p ≡ part_of b (some s) → t ≡ s
     same s b f = let g = ap (λ (x : Part). x.step) f in cc
 
     of_leg : (v : Walk) → p among leg_parts c v → t among v
     of_leg [] j = absurd (none-ne-some t (sym (ap (λ (x : Part). x.step) (Memᴰ.eq_of_singleton j)) ∙ e))
     of_leg (s ∷ v) j = ⊎_elim (λ f. Memᴰ.head (same s c f))
-        (λ k. let r = map_out (λ s. part_of 46 (some s)) p v k in Memᴰ.tail (subst (λ x. x among v) (sym (same r.0 46 r.2)) r.1)) (Memᴰ.cases_cons j)
+        (λ k. let r = map_out (λ s. part_of (Some 46) (some s)) p v k in Memᴰ.tail (subst (λ x. x among v) (sym (same r.0 (Some 46) r.2)) r.1)) (Memᴰ.cases_cons j)
 
 -- ---- no text is empty
 
@@ -137,9 +137,9 @@ module _ (R : Step → List ℕ) (some_step : (t : Step) → 0 < length (R t)) w
   walk_some [] = omega arith
   walk_some (t ∷ w) = joined_some 46 (R t) (map R w) (some_step t)
 
-  legs_some : (s : ℕ) (ws : List Walk) → ws ≢ [] → 0 < length (gather (part_text R) (parts_of 0 (suc s) ws))
+  legs_some : (s : ℕ) (ws : List Walk) → ws ≢ [] → 0 < length (gather (part_text R) (parts_of None s ws))
   legs_some s [] n = absurd (n refl)
-  legs_some s (w ∷ ws) n = rw (legs_text R s (w ∷ ws)) (joined_some (suc s) (walk_text R w) (map (walk_text R) ws) (walk_some w))
+  legs_some s (w ∷ ws) n = rw (legs_text R s (w ∷ ws)) (joined_some s (walk_text R w) (map (walk_text R) ws) (walk_some w))
 
 spelled_some : (rows : List Row) (l : List Opening) (R : Step → List ℕ) (p : ℕ) (x : Label) (q : ℕ) → 0 < length (spelled rows l R p x q)
 spelled_some rows l R p (letter a) q = number_some a
@@ -163,10 +163,10 @@ writer_some m t = by m.rounds
 
 pub whole_text : (m : Machine) (P : ℕ) → shape_text m Whole P ≡ expression_of m
 unfolding expression_of
-whole_text m P = legs_text (writer m) 45 (legs m Whole P)
+whole_text m P = legs_text (writer m) 46 (legs m Whole P)
 
 pub pieces_text : (m : Machine) (P : ℕ) → shape_text m Pieces P ≡ joined 44 (map (walk_text (writer m)) (pieces m.rows (earlier m.openings (mixes P)) P))
-pieces_text m P = legs_text (writer m) 43 (legs m Pieces P)
+pieces_text m P = legs_text (writer m) 44 (legs m Pieces P)
 
 -- a tour goes on from its first state, and its states are those of the set
 rest_some : (P q : ℕ) → q ∈ P → rest P q ≢ []
@@ -192,7 +192,7 @@ module _ (m : Machine) (w : WellFormed m) where
   pub tour_text : (P q : ℕ) → q ∈ P → loops P among open_claims m
       → shape_text m (Tour q) P ≡ walk_text (writer m) (tour m.rows (earlier m.openings (loops P)) P q)
   unfolding tour
-  tour_text P q h i = legs_text (writer m) 45 (legs m (Tour q) P)
+  tour_text P q h i = legs_text (writer m) 46 (legs m (Tour q) P)
       ∙ rw (trip P q) (sym (tour_legs (writer m) (λ a b. neighbour P a b m) q (rest P q) (rest_some P q h)
       (λ v j. let r = hops_out (λ a b. neighbour P a b m) (q ∷ rest P q) v j in
       λ e. near_some P i r.0 r.1 (trip_in P q h r.0 r.2) (trip_in P q h r.1 r.3) (sym r.4 ∙ e))))
@@ -200,12 +200,17 @@ module _ (m : Machine) (w : WellFormed m) where
   -- ---- a step
 
   -- a step of a claim is what opens it, the text of the claim, and what closes it
-  pub step_spelled : (a kind P b : ℕ) → Goes m a (named (suc kind) P) b
-      → writer m (step a (named (suc kind) P) b)
-      ≡ label_open (named (suc kind) P) ++ (shape_text m (shape_of a (named (suc kind) P) b) P ++ label_close (named (suc kind) P))
-  step_spelled a zero P b g = part_fixed m w (step a (ω P) b) g.1 ∙ ap (λ (l : List ℕ). text "(" ++ (l ++ text ")w")) (sym (tour_text P a g.0.0.1 g.1))
-  step_spelled a (suc zero) P b g = part_fixed m w (step a (back P) b) g.1 ∙ ap (λ (l : List ℕ). text "(" ++ (l ++ text ")v")) (sym (tour_text P b g.0.0.1 g.1))
-  step_spelled a (suc (suc k)) P b g = part_fixed m w (step a (mix P) b) g.1 ∙ ap (λ (l : List ℕ). text "sh(" ++ (l ++ text ")")) (sym (pieces_text m P))
+  abbrev Spelled : ℕ → Label → ℕ → ℕ → Type 0
+  Spelled a l P b = Goes m a l b → writer m (step a l b) ≡ label_open l ++ (shape_text m (shape_of a l b) P ++ label_close l)
+
+  pub omega_spelled : (a P b : ℕ) → Spelled a (ω P) P b
+  omega_spelled a P b g = part_fixed m w (step a (ω P) b) g.1 ∙ ap (λ (l : List ℕ). text "(" ++ (l ++ text ")w")) (sym (tour_text P a g.0.0.1 g.1))
+
+  pub back_spelled : (a P b : ℕ) → Spelled a (back P) P b
+  back_spelled a P b g = part_fixed m w (step a (back P) b) g.1 ∙ ap (λ (l : List ℕ). text "(" ++ (l ++ text ")v")) (sym (tour_text P b g.0.0.1 g.1))
+
+  pub mix_spelled : (a P b : ℕ) → Spelled a (mix P) P b
+  mix_spelled a P b g = part_fixed m w (step a (mix P) b) g.1 ∙ ap (λ (l : List ℕ). text "sh(" ++ (l ++ text ")")) (sym (pieces_text m P))
 
   -- ---- the steps of the parts, and their claims
 
@@ -219,9 +224,9 @@ module _ (m : Machine) (w : WellFormed m) where
   leg_steps Pieces P v i t j = let r = map_out (λ s. piece_of P s m) v (members P) i in
       piece_steps m.rows m.openings (mixes P) P r.0 t (subst (λ (u : Walk). t among u) r.2 j)
 
-  module _ (shape : Shape) (P : ℕ) (p : Part) (i : p among parts_of 0 (separator shape) (legs m shape P)) (t : Step) (e : p.step ≡ some t) where
+  module _ (shape : Shape) (P : ℕ) (p : Part) (i : p among parts_of None (separator shape) (legs m shape P)) (t : Step) (e : p.step ≡ some t) where
     abbrev below : StepBelow m.rows m.openings (round_for m shape P) t
-    below = let r = part_step 0 (separator shape) (legs m shape P) p i t e in leg_steps shape P r.0 r.1 t r.2
+    below = let r = part_step None (separator shape) (legs m shape P) p i t e in leg_steps shape P r.0 r.1 t r.2
 
     -- the step of a part is a step of the machine
     pub parts_go : Goes m t.from t.label t.to
@@ -237,31 +242,28 @@ module _ (m : Machine) (w : WellFormed m) where
         (omega (arith, f, g, d.low o.0 o.1), omega (arith, f, g, o.3))
 
     -- and so the frame of its claim has an earlier round
-    pub step_earlier : (a kind Q b : ℕ) → t ≡ step a (named (suc kind) Q) b
-        → (0 < round_for m (shape_of a (named (suc kind) Q) b) Q) × (round_for m (shape_of a (named (suc kind) Q) b) Q < round_for m shape P)
-    step_earlier a zero Q b h = parts_earlier (loops Q) (ap (λ (x : Step). needs x.label) h)
-    step_earlier a (suc zero) Q b h = parts_earlier (loops Q) (ap (λ (x : Step). needs x.label) h)
-    step_earlier a (suc (suc j)) Q b h = parts_earlier (mixes Q) (ap (λ (x : Step). needs x.label) h)
+    pub step_earlier : (a : ℕ) (l : Label) (b : ℕ) (c : Claim) → t ≡ step a l b → needs l ≡ some c → (0 < round_of m.openings c) × (round_of m.openings c < round_for m shape P)
+    step_earlier a l b c h e = parts_earlier c (ap (λ (x : Step). needs x.label) h ∙ e)
 
   -- ---- no text is empty
 
   pub text_some : (shape : Shape) (P starts ends : ℕ) → About m shape P starts ends → 0 < length (shape_text m shape P)
-  text_some Whole P starts ends h = legs_some (writer m) (writer_some m) 45 (legs m Whole P) cons≢nil
-  text_some (Tour q) P starts ends h = legs_some (writer m) (writer_some m) 45 (legs m (Tour q) P)
+  text_some Whole P starts ends h = legs_some (writer m) (writer_some m) 46 (legs m Whole P) cons≢nil
+  text_some (Tour q) P starts ends h = legs_some (writer m) (writer_some m) 46 (legs m (Tour q) P)
       (subst (λ (k : List ℕ). hops (λ a b. neighbour P a b m) k ≢ []) (sym (trip P q)) (hops_some (λ a b. neighbour P a b m) q (rest P q) (rest_some P q h.0)))
   text_some Pieces P starts ends h = let k = (open_holds m.rows m.openings (grounded m w) (mixes P) h.0).1.stepped in
-      legs_some (writer m) (writer_some m) 43 (legs m Pieces P)
+      legs_some (writer m) (writer_some m) 44 (legs m Pieces P)
       (λ e. Memᴰ.not-nil (subst (λ (ws : List Walk). piece_of P k.0 m among ws) e (map_in (λ s. piece_of P s m) ((members_iff P k.0).1 k.2.0))))
 
 -- ---- where a cursor stands
 
 pub live_part : (m : Machine) (words : List ℕ) (n : ℕ) (g : Graph) (f : Frame) (layers : List ℕ) (c : Cursor) (l : List Part)
-    → Stands m words n g f layers c l → c.live ≡ true → (p : Part) × (k : List Part) × (l ≡ p ∷ k)
-live_part m words n g f layers c l s e = let r = s.live e in by r.0 r.2
+    → StandsAt m words n g f layers c l → (p : Part) × (k : List Part) × (l ≡ p ∷ k)
+live_part m words n g f layers c l s = let r = s.walk in by r.0 r.2
   where
     later : List Part
-    later = parts_of (separator f.shape) (separator f.shape) (legs_left m f.shape f.set c)
+    later = parts_of (Some (separator f.shape)) (separator f.shape) (legs_left m f.shape f.set c)
 
     by : (w : Walk) → l ≡ leg_parts c.before w ++ later → (p : Part) × (k : List Part) × (l ≡ p ∷ k)
     by [] h = (part_of c.before none, later, h)
-    by (t ∷ w) h = (part_of c.before (some t), map (λ s. part_of 46 (some s)) w ++ later, h)
+    by (t ∷ w) h = (part_of c.before (some t), map (λ s. part_of (Some 46) (some s)) w ++ later, h)

@@ -1,10 +1,14 @@
 -- The frames of the walk and of claims, and the rounds that opened the claims, in one array.
-use Rattle.std.specs.Prelude.{ℕ, zero, suc, ◌+◌, ◌<◌, ◌≡◌, ◌⊎◌, ◌↔◌, List, ◌++◌, get_or}
-use Rattle.std.proofs.Math.Option.{Option}
+use Rattle.std.specs.Prelude.{ℕ, ◌+◌, ◌<◌, ◌≡◌, ◌⊎◌, ◌↔◌, List, ◌++◌, get_or, Option, None, Some}
+use Rattle.std.specs.Option.{IsSomeAnd}
+use Rattle.std.proofs.Math.Option as Math
 use Rattle.lists.specs.Tests.{◌among◌}
 use Rattle.masks.specs.Mask.{◌∈◌}
 use Rattle.orderings.specs.Steps.{loops, mixes, Label, letter, ω, back, mix, Step, Possible, needs}
 use Rattle.orderings.specs.Systems.{InForce}
+use Rattle.machine.specs.declared.Step as Code
+use Rattle.machine.specs.declared.StepLabel.{StepLabel}
+use Rattle.machine.specs.declared.StepLabel.TheVariants.{Letter, Omega, Back, Mix}
 use Rattle.machine.specs.declared.Verdict.TheVariants.{NonEmpty}
 use Rattle.machine.specs.declared.Phase.TheVariants.{Settled}
 use Rattle.machine.specs.Machine.{Machine, open_claims}
@@ -15,12 +19,9 @@ use Rattle.search.specs.declared.Claims.{Claims}
 use Rattle.search.specs.Graph.{Graph}
 use Rattle.search.specs.Hops.{InnerClaims}
 use Rattle.search.specs.Masked.{Initials, Finals}
-use Rattle.walks.specs.Choices.{named}
-use Rattle.walks.specs.declared.Choice.{Choice}
-use Rattle.walks.specs.declared.Choice.TheVariants.{Taken, Nothing}
-use Rattle.tours.specs.declared.Shape.{Shape}
-use Rattle.tours.specs.declared.Shape.TheVariants.{Whole, Tour, Pieces}
-use Rattle.tours.specs.declared.Frame.{Frame}
+use Rattle.tours.specs.declared.frames.Shape.{Shape}
+use Rattle.tours.specs.declared.frames.Shape.TheVariants.{Whole, Tour, Pieces}
+use Rattle.tours.specs.declared.frames.Frame.{Frame}
 use Rattle.tours.specs.Frames.{Held, FramedBy}
 use Rattle.tours.specs.Cursors.{LeadsTo, Chosen}
 
@@ -60,12 +61,12 @@ pub record SetFrame (b : Graph) (k : ℕ) (opened : List ℕ) (shape : Shape) (i
   pub round_is : r.round ≡ round
 
 -- the place of P among n sets in order
-abbrev pub FindsSet : List ℕ → ℕ → ℕ → ℕ → Type 0
-FindsSet sets n P r = Rising sets n → (i : ℕ) → i < n → get_or sets i 0 ≡ P → r ≡ i
+abbrev pub FindsSet : List ℕ → ℕ → ℕ → Option ℕ → Type 0
+FindsSet sets n P r = Rising sets n → (i : ℕ) → i < n → get_or sets i 0 ≡ P → r ≡ Some i
 
 -- of every machine that the arrays hold
 abbrev pub OfHeld : Graph → ℕ → List ℕ → (Machine → Graph → Type 0) → Type 0
-OfHeld b k opened T = (m : Machine) (g : Graph) (words heads links : List ℕ) (n : ℕ) → Held m g words heads links n b k → Noted m opened → T m g
+OfHeld b k opened T = (m : Machine) (g : Graph) (words : List ℕ) (n : ℕ) → Held m g words n b k → Noted m opened → T m g
 
 -- of the walk
 abbrev pub WalkFrame : ℕ → List ℕ → ℕ → ℕ → Frame → Type 0
@@ -77,8 +78,8 @@ abbrev pub Goes : Machine → ℕ → Label → ℕ → Type 0
 Goes m a l b = Possible m.rows a l b × InForce (λ c. c among open_claims m) (needs l)
 
 -- where the step of a part at a leads to, if it has one
-abbrev pub LeadsOn : ℕ → Choice → ℕ → Type 0
-LeadsOn a step r = (o : Option Step) → Chosen a o step → LeadsTo r o
+abbrev pub LeadsOn : ℕ → Option Code.Step → ℕ → Type 0
+LeadsOn a step r = (o : Math.Option Step) → Chosen a o step → LeadsTo r o
 
 -- what a step is written out as: a tour from where an omega step starts or a back step ends, or pieces
 abbrev pub shape_of : ℕ → Label → ℕ → Shape
@@ -87,16 +88,26 @@ shape_of a (ω P) b = Tour a
 shape_of a (back P) b = Tour b
 shape_of a (mix P) b = Pieces
 
--- of the claim of a step from a of a kind that is no letter's
-abbrev pub ClaimFrame : Graph → ℕ → List ℕ → ℕ → ℕ → ℕ → ℕ → Frame → Type 0
-ClaimFrame b k opened a kind P to r = OfHeld b k opened (λ m g. Goes m a (named kind P) to
-    → Frames m g k r × (r.shape ≡ shape_of a (named kind P) to) × (r.set ≡ P))
+-- the claim about P that a shape writes out is open
+abbrev pub OpenFor : Machine → Shape → ℕ → Type 0
+OpenFor m Whole P = ⊥
+OpenFor m (Tour q) P = (q ∈ P) × loops P among open_claims m
+OpenFor m Pieces P = mixes P among open_claims m
 
--- of the claim of a step from a; round 0 where it has none
-abbrev pub StepFrame : Graph → ℕ → List ℕ → ℕ → Choice → Frame → Type 0
-StepFrame b k opened a Nothing r = r.round ≡ 0
-StepFrame b k opened a (Taken zero value to) r = r.round ≡ 0
-StepFrame b k opened a (Taken (suc kind) P to) r = ClaimFrame b k opened a (suc kind) P to r
+-- of this claim, where it is open
+abbrev pub LimitFrame : Graph → ℕ → List ℕ → Shape → ℕ → Option Frame → Type 0
+LimitFrame b k opened shape P r = OfHeld b k opened (λ m g. OpenFor m shape P → IsSomeAnd r (λ f. Frames m g k f × (f.shape ≡ shape) × (f.set ≡ P)))
+
+-- of the claim of a step from a; none where it has none
+abbrev pub LabelFrame : Graph → ℕ → List ℕ → ℕ → StepLabel → ℕ → Option Frame → Type 0
+LabelFrame b k opened a (Letter x) to r = r ≡ None
+LabelFrame b k opened a (Omega P) to r = LimitFrame b k opened (Tour a) P r
+LabelFrame b k opened a (Back P) to r = LimitFrame b k opened (Tour to) P r
+LabelFrame b k opened a (Mix P) to r = LimitFrame b k opened Pieces P r
+
+abbrev pub StepFrame : Graph → ℕ → List ℕ → ℕ → Option Code.Step → Option Frame → Type 0
+StepFrame b k opened a None r = r ≡ None
+StepFrame b k opened a (Some t) r = LabelFrame b k opened a t.label t.to r
 
 -- it is about the claim at a place of the array: a tour of the set at that place, or the pieces of the one 64 places before
 abbrev pub AtPlace : Graph → ℕ → Frame → Type 0
@@ -104,5 +115,5 @@ AtPlace g slot f = ((q : ℕ) × (slot < 64) × (f.shape ≡ Tour q) × (f.set �
     ⊎ ((i : ℕ) × (slot ≡ 64 + i) × (f.shape ≡ Pieces) × (f.set ≡ get_or g.sets i 0))
 
 -- of the claim at a place of the array, where it is open
-abbrev pub PlaceFrame : Graph → ℕ → List ℕ → ℕ → Frame → Type 0
-PlaceFrame b k opened slot r = OfHeld b k opened (λ m g. 0 < get_or opened slot 0 → Frames m g k r × AtPlace g slot r)
+abbrev pub PlaceFrame : Graph → ℕ → List ℕ → ℕ → Option Frame → Type 0
+PlaceFrame b k opened slot r = OfHeld b k opened (λ m g. 0 < get_or opened slot 0 → IsSomeAnd r (λ f. Frames m g k f × AtPlace g slot f))

@@ -1,18 +1,12 @@
 // What is written out for the walk and for each claim, and with which claims.
-ghost use Rattle.std.specs.Prelude.{◌≡◌, ◌≤◌, ◌<◌, length};
-ghost use Rattle.search.specs.Graph.{graph_of};
-ghost use Rattle.tours.specs.Frames.{LowShape};
-ghost use Rattle.tours.specs.Cursors.{LowChoice};
-ghost use Rattle.expression.specs.Frames.{OpenedBefore, SetFrame, FindsSet, WalkFrame, ClaimFrame, StepFrame, PlaceFrame};
+ghost use Rattle.std.specs.Prelude.{◌≡◌, ℕ, ◌≤◌, ◌<◌, IfSome};
+ghost use Rattle.tours.specs.declared.frames.Shape.TheVariants.{Tour, Pieces};
+ghost use Rattle.expression.specs.Frames.{OpenedBefore, SetFrame, FindsSet, WalkFrame, LimitFrame, StepFrame, PlaceFrame};
 
-use machine::MOST_ROUNDS;
+use machine::{MOST_ROUNDS, Step, StepLabel};
 use masks::{PLACES, Places, Set, intersection, lowest, with};
-use search::Claims;
-use search::graphs::{Masks, SETS, lefts_at, rights_at, set_at};
-use search::moves::inner;
-use sorted_keys::{Place, find_word};
+use search::{Claims, Endpoints, IndexedGraph};
 use tours::{Frame, Shape};
-use walks::Choice;
 
 // The loop and the mix of each set.
 pub const CLAIMS: usize = PLACES + PLACES;
@@ -29,13 +23,11 @@ fn opened_before(opened: &Opened, base: usize, set_count: usize, round: u8) -> P
     ensures { OpenedBefore opened.now base set_count round result }
 {
     let mut r: Places = 0;
-    let mut i = 0;
-    while i < set_count {
+    for i in 0..set_count {
         let k = opened[base + i];
         if 0 < k && k < round {
             r = with(r, i as u8);
         }
-        i += 1;
     }
     r
 }
@@ -52,17 +44,16 @@ fn earlier(opened: &Opened, set_count: usize, round: u8) -> Claims
 }
 
 // The walk from an initial to a final state.
-pub fn of_walk(opened: &Opened, set_count: usize, initials: Set, finals: Set) -> Frame
+pub fn of_walk(opened: &Opened, set_count: usize, points: Endpoints) -> Frame
     requires { set_count ≤ 64 }
-    ensures low { LowShape result.shape }
-    ensures frames { WalkFrame set_count opened.now initials finals result }
+    ensures { WalkFrame set_count opened.now points.initials points.finals result }
 {
     let force = earlier(opened, set_count, AFTER_ALL);
     Frame {
         shape: Shape::Whole,
         set: !0u64,
-        starts: initials,
-        ends: finals,
+        starts: points.initials,
+        ends: points.finals,
         force,
         round: AFTER_ALL,
     }
@@ -70,129 +61,104 @@ pub fn of_walk(opened: &Opened, set_count: usize, initials: Set, finals: Set) ->
 
 // The set at place `i`, toured or in pieces, with the claims opened before the round. The graph is turned round: its rights are the lefts.
 fn of_set(
-    back: &Masks,
+    back: &IndexedGraph,
     opened: &Opened,
     set_count: usize,
     shape: Shape,
     i: usize,
     round: u8,
 ) -> Frame
-    requires { (set_count ≤ 64) × (i < 64) }
-    ensures { SetFrame (graph_of back.now) set_count opened.now shape i round result }
+    requires { (set_count ≤ 64) × (i < 64) × ((q : ℕ) → shape ≡ Tour q → q < 64) }
+    ensures { SetFrame back.now set_count opened.now shape i round result }
 {
-    let p = set_at(back, i);
+    let p = back.set_at(i);
     let before = earlier(opened, set_count, round);
-    let force = inner(back, before, p);
+    let force = back.inner(before, p);
     Frame {
         shape,
         set: p,
-        starts: intersection(rights_at(back, i), p),
-        ends: intersection(lefts_at(back, i), p),
+        starts: intersection(back.rights_at(i), p),
+        ends: intersection(back.lefts_at(i), p),
         force,
         round,
     }
 }
 
-// Nothing is written out.
-fn nothing() -> Frame
-    ensures { LowShape result.shape × (result.round ≡ 0) }
-{
-    let force = Claims { loops: 0, mixes: 0 };
-    Frame {
-        shape: Shape::Whole,
-        set: 0,
-        starts: 0,
-        ends: 0,
-        force,
-        round: 0,
-    }
-}
-
 // The place of a set among those of the graph.
-pub fn place_of(masks: &[Set], set_count: usize, p: Set) -> usize
-    requires { (set_count ≤ 64) × (length masks.now ≡ 448) }
-    ensures low { result < 64 }
-    ensures finds { FindsSet (graph_of masks.now).sets set_count p result }
+pub fn place_of(back: &IndexedGraph, set_count: usize, p: Set) -> Option<usize>
+    requires { set_count ≤ 64 }
+    ensures low { IfSome result (λ i. i < 64) }
+    ensures finds { FindsSet back.now.sets set_count p result }
 {
-    let place = find_word(&masks[SETS..], set_count, p);
-    match place {
-        Place::At(i) => i,
-        Place::Gap(_) => 0,
+    let sets = back.sets();
+    match sets[..set_count].binary_search(&p) {
+        Ok(i) => Some(i),
+        Err(_) => None,
     }
 }
 
-// The claim of a step of a kind from `a` to `b`: 1 omega, 2 back, else mix.
-fn of_claim(
-    back: &Masks,
-    opened: &Opened,
-    set_count: usize,
-    kind: u8,
-    p: Set,
-    a: u8,
-    b: u8,
-) -> Frame
-    requires { (set_count ≤ 64) × (0 < kind) × (a < 64) × (b < 64) }
-    ensures low { LowShape result.shape }
-    ensures frames { ClaimFrame (graph_of back.now) set_count opened.now a kind p b result }
+// The claim that a set loops, toured from the state `q`.
+fn of_loop(back: &IndexedGraph, opened: &Opened, set_count: usize, p: Set, q: u8) -> Option<Frame>
+    requires { (set_count ≤ 64) × (q < 64) }
+    ensures { LimitFrame back.now set_count opened.now (Tour q) p result }
 {
-    let i = place_of(back, set_count, p);
-    match kind {
-        1 => of_set(back, opened, set_count, Shape::Tour(a), i, opened[i]),
-        2 => of_set(back, opened, set_count, Shape::Tour(b), i, opened[i]),
-        _ => of_set(
-            back,
-            opened,
-            set_count,
-            Shape::Pieces,
-            i,
-            opened[PLACES + i],
-        ),
-    }
+    let i = place_of(back, set_count, p)?;
+    Some(of_set(back, opened, set_count, Shape::Tour(q), i, opened[i]))
+}
+
+// The claim that a set mixes, in its pieces.
+fn of_mix(back: &IndexedGraph, opened: &Opened, set_count: usize, p: Set) -> Option<Frame>
+    requires { set_count ≤ 64 }
+    ensures { LimitFrame back.now set_count opened.now Pieces p result }
+{
+    let i = place_of(back, set_count, p)?;
+    Some(of_set(
+        back,
+        opened,
+        set_count,
+        Shape::Pieces,
+        i,
+        opened[PLACES + i],
+    ))
 }
 
 // The claim of a step from `a`: a tour from where an omega step starts or a back step ends, or pieces. A letter, or no step, has none.
-pub fn of_step(back: &Masks, opened: &Opened, set_count: usize, a: u8, step: Choice) -> Frame
-    requires { (set_count ≤ 64) × (a < 64) × LowChoice step }
-    ensures low { LowShape result.shape }
-    ensures frames { StepFrame (graph_of back.now) set_count opened.now a step result }
+pub fn of_step(
+    back: &IndexedGraph,
+    opened: &Opened,
+    set_count: usize,
+    a: u8,
+    step: Option<Step>,
+) -> Option<Frame>
+    requires { (set_count ≤ 64) × (a < 64) × IfSome step (λ t. t.to < 64) }
+    ensures { StepFrame back.now set_count opened.now a step result }
 {
-    match step {
-        Choice::Nothing => nothing(),
-        Choice::Taken(kind, p, b) => {
-            if kind == 0 {
-                return nothing();
-            }
-            of_claim(back, opened, set_count, kind, p, a, b)
-        }
+    let step = step?;
+    match step.label {
+        StepLabel::Letter(_) => None,
+        StepLabel::Omega(p) => of_loop(back, opened, set_count, p, a),
+        StepLabel::Back(p) => of_loop(back, opened, set_count, p, step.to),
+        StepLabel::Mix(p) => of_mix(back, opened, set_count, p),
     }
 }
 
 // The claim at a place of the array: a tour, from the lowest state, or pieces.
-pub fn of_place(back: &Masks, opened: &Opened, set_count: usize, slot: usize) -> Frame
+pub fn of_place(
+    back: &IndexedGraph,
+    opened: &Opened,
+    set_count: usize,
+    slot: usize,
+) -> Option<Frame>
     requires { (set_count ≤ 64) × (slot < 128) }
-    ensures low { LowShape result.shape }
-    ensures frames { PlaceFrame (graph_of back.now) set_count opened.now slot result }
+    ensures { PlaceFrame back.now set_count opened.now slot result }
 {
+    let round = opened[slot];
     if PLACES <= slot {
-        return of_set(
-            back,
-            opened,
-            set_count,
-            Shape::Pieces,
-            slot - PLACES,
-            opened[slot],
-        );
+        return Some(of_set(back, opened, set_count, Shape::Pieces, slot - PLACES, round));
     }
-    let p = set_at(back, slot);
+    let p = back.set_at(slot);
     if p == 0 {
-        return nothing();
+        return None;
     }
-    of_set(
-        back,
-        opened,
-        set_count,
-        Shape::Tour(lowest(p)),
-        slot,
-        opened[slot],
-    )
+    Some(of_set(back, opened, set_count, Shape::Tour(lowest(p)), slot, round))
 }

@@ -6,16 +6,15 @@ pub mod lengths;
 pub mod writing;
 
 ghost use Rattle.std.specs.Prelude.{◌≡◌, ◌≤◌, ◌++◌, length};
-ghost use Rattle.search.specs.Graph.{BothWays};
-ghost use Rattle.automaton.specs.Promise.{automaton_of};
 ghost use Rattle.expression.specs.Promise.{ExpressesWalk};
 
 use crate::frames::{CLAIMS, Opened};
-use crate::lengths::Length;
-use machine::{Answer, MOST_ROWS, MOST_SETS};
-use masks::{PLACES, STATES, Set};
+use causes::Cause;
+use machine::{Answer, MOST_ROWS, MOST_SETS, Refusal, Success};
+use masks::PLACES;
 use rounds::Progress;
-use search::graphs::Masks;
+use search::{Endpoints, TwoWayGraph};
+use walks::Letters;
 
 // The rounds of the loops, and then those of the mixes.
 fn opened_in(looped: &[u8; MOST_SETS], mixed: &[u8; MOST_SETS]) -> Opened
@@ -23,52 +22,50 @@ fn opened_in(looped: &[u8; MOST_SETS], mixed: &[u8; MOST_SETS]) -> Opened
         → result ≡ looped.now ++ mixed.now }
 {
     let mut opened = [0u8; CLAIMS];
-    let mut i = 0;
-    while i < PLACES {
-        opened[i] = looped[i];
-        opened[PLACES + i] = mixed[i];
-        i += 1;
-    }
+    opened[..PLACES].copy_from_slice(looped);
+    opened[PLACES..].copy_from_slice(mixed);
     opened
 }
 
 // The expression into the buffer; nothing where the buffer is too short: its length is known first, as far as it fits. The letter rows are among
-// the first `count` words, in any order. `back` is the graph turned round.
+// the first `count` words, in any order.
 pub fn express(
     buffer: &mut [u8],
     words: &[u64; MOST_ROWS],
     count: usize,
     set_count: usize,
-    graph: &Masks,
-    back: &Masks,
-    initials: Set,
-    finals: Set,
-    rounds: Progress,
+    graph: &TwoWayGraph,
+    points: Endpoints,
+    progress: &Progress,
 ) -> Answer
-    requires { (count ≤ 256) × (set_count ≤ 64) × BothWays graph.now back.now }
+    requires { (count ≤ 256) × (set_count ≤ 64) }
     ensures sized { length buffer.new ≡ length buffer.old }
-    ensures expresses { ExpressesWalk words.now count set_count
-        (automaton_of graph.now initials finals) rounds buffer.old buffer.new result }
+    ensures expresses { ExpressesWalk words.now count set_count graph.now points progress.now
+        buffer.old buffer.new result }
 {
-    let looped = rounds.loop_rounds;
-    let mixed = rounds.mix_rounds;
-    let opened = opened_in(&looped, &mixed);
-    let mut first = [0u16; STATES];
-    let mut next = [0u16; MOST_ROWS];
-    walks::by_source(words, count, &mut first, &mut next);
+    let back = graph.back();
+    let opened = opened_in(&progress.loop_rounds, &progress.mix_rounds);
+    let letters = Letters::new(words, count);
     let most = buffer.len();
-    let mut bytes = [0usize; CLAIMS];
-    let done = rounds.rounds;
+    let mut bytes = [None; CLAIMS];
     lengths::note_all(
-        &mut bytes, words, &first, &next, back, &opened, set_count, done, most,
+        &mut bytes,
+        &letters,
+        back,
+        &opened,
+        set_count,
+        progress.rounds,
+        most,
     );
-    let walk = frames::of_walk(&opened, set_count, initials, finals);
-    let length = lengths::of_frame(words, &first, &next, back, set_count, &bytes, walk, most);
-    match length {
-        Length::Over => Answer::Refused(12, 0),
-        Length::Fits(_) => {
-            let wrote = writing::put(buffer, words, &first, &next, back, &opened, set_count, walk);
-            Answer::Wrote(wrote)
+    let walk = frames::of_walk(&opened, set_count, points);
+    match lengths::of_frame(&letters, back, set_count, &bytes, walk, most) {
+        None => Err(Refusal {
+            cause: Cause::ShortBuffer,
+            place: 0,
+        }),
+        Some(_) => {
+            let wrote = writing::put(buffer, &letters, back, &opened, set_count, walk);
+            Ok(Success::Wrote(wrote))
         }
     }
 }

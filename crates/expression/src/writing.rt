@@ -1,23 +1,19 @@
 // The text of the walk, of a tour or of pieces, into a lent buffer.
-ghost use Rattle.std.specs.Prelude.{◌≡◌, ◌+◌, ◌≤◌, ◌<◌, length};
+ghost use Rattle.std.specs.Prelude.{◌≡◌, ◌+◌, ◌≤◌, length};
 ghost use Rattle.lists.specs.Tests.{Decides};
 ghost use Rattle.machine.specs.Text.{number_text};
-ghost use Rattle.search.specs.Graph.{graph_of, Indexed};
-ghost use Rattle.walks.specs.Choices.{Chained};
-ghost use Rattle.tours.specs.Frames.{LowShape};
 ghost use Rattle.expression.specs.Texts.{before_text, open_text, close_text};
 ghost use Rattle.expression.specs.Promise.{PutsAt, PutsFrame};
 
 use crate::frames;
 use crate::frames::Opened;
 use crate::lengths::target;
-use machine::MOST_ROWS;
-use masks::STATES;
-use search::graphs::Masks;
-use texts::{Item, item_at, number_len, text_at};
+use machine::{Step, StepLabel};
+use search::IndexedGraph;
+use texts::{Number, Text, Written, number_len};
 use tours::Frame;
 use tours::legs::LAYERS;
-use walks::Choice;
+use walks::Letters;
 
 // Is there room for `n` bytes from `at` on?
 fn has_room(len: usize, at: usize, n: usize) -> bool
@@ -31,7 +27,7 @@ fn bytes_at(buf: &mut [u8], at: usize, text: &[u8]) -> usize
     ensures { PutsAt text.now buf.old buf.new at result }
 {
     if has_room(buf.len(), at, text.len()) {
-        return text_at(buf, at, text);
+        return Text(text).put_at(buf, at);
     }
     at
 }
@@ -41,102 +37,82 @@ fn number_at(buf: &mut [u8], at: usize, n: u64) -> usize
     ensures { PutsAt (number_text n) buf.old buf.new at result }
 {
     if has_room(buf.len(), at, number_len(n)) {
-        return item_at(buf, at, Item::Number(n));
+        return Number(n).put_at(buf, at);
     }
     at
 }
 
 // What stands before a part: nothing, a dot or a comma.
-fn before_at(buf: &mut [u8], at: usize, before: u8) -> usize
+fn before_at(buf: &mut [u8], at: usize, before: Option<u8>) -> usize
     ensures { PutsAt (before_text before) buf.old buf.new at result }
 {
-    if before == 0 {
-        return at;
+    match before {
+        None => at,
+        Some(c) => bytes_at(buf, at, &[c]),
     }
-    let text = [before; 1];
-    bytes_at(buf, at, &text)
 }
 
 // A part up to the text within it: what stands before it, and its letter, `e`, or what opens the text of its claim.
-fn open_at(buf: &mut [u8], at: usize, before: u8, step: Choice) -> usize
+fn open_at(buf: &mut [u8], at: usize, before: Option<u8>, step: Option<Step>) -> usize
     ensures { PutsAt (open_text before step) buf.old buf.new at result }
 {
     let next = before_at(buf, at, before);
     match step {
-        Choice::Nothing => bytes_at(buf, next, b"e"),
-        Choice::Taken(kind, value, _) => match kind {
-            0 => number_at(buf, next, value),
-            1 => bytes_at(buf, next, b"("),
-            2 => bytes_at(buf, next, b"("),
-            _ => bytes_at(buf, next, b"sh("),
+        None => bytes_at(buf, next, b"e"),
+        Some(step) => match step.label {
+            StepLabel::Letter(a) => number_at(buf, next, a as u64),
+            StepLabel::Omega(_) => bytes_at(buf, next, b"("),
+            StepLabel::Back(_) => bytes_at(buf, next, b"("),
+            StepLabel::Mix(_) => bytes_at(buf, next, b"sh("),
         },
     }
 }
 
 // What closes the text of a claim.
-fn close_at(buf: &mut [u8], at: usize, step: Choice) -> usize
+fn close_at(buf: &mut [u8], at: usize, step: Option<Step>) -> usize
     ensures { PutsAt (close_text step) buf.old buf.new at result }
 {
     match step {
-        Choice::Nothing => at,
-        Choice::Taken(kind, _, _) => match kind {
-            0 => at,
-            1 => bytes_at(buf, at, b")w"),
-            2 => bytes_at(buf, at, b")v"),
-            _ => bytes_at(buf, at, b")"),
+        None => at,
+        Some(step) => match step.label {
+            StepLabel::Letter(_) => at,
+            StepLabel::Omega(_) => bytes_at(buf, at, b")w"),
+            StepLabel::Back(_) => bytes_at(buf, at, b")v"),
+            StepLabel::Mix(_) => bytes_at(buf, at, b")"),
         },
     }
-}
-
-// Is it a round in which a claim opened, before another one?
-fn is_earlier(round: u8, other: u8) -> bool
-    ensures { Decides result ((0 < round) × (round < other)) }
-{
-    if 0 < round { round < other } else { false }
 }
 
 // Writes the text of a frame: its parts, and within each the text of its claim, which opened in an earlier round.
 pub fn put(
     buf: &mut [u8],
-    words: &[u64; MOST_ROWS],
-    first: &[u16; STATES],
-    next: &[u16; MOST_ROWS],
-    back: &Masks,
+    letters: &Letters,
+    back: &IndexedGraph,
     opened: &Opened,
     set_count: usize,
     frame: Frame,
 ) -> usize
-    requires { Chained first.now next.now words.now × (set_count ≤ 64) × LowShape frame.shape
-        × Indexed back.now }
+    requires { set_count ≤ 64 }
     ensures sized { length buf.new ≡ length buf.old }
     ensures within { result ≤ length buf.new }
-    ensures puts { PutsFrame words.now first.now next.now
-        (graph_of back.now) set_count opened.now frame
+    ensures puts { PutsFrame letters.now.words.now letters.now.count back.now set_count opened.now frame
         buf.old buf.new result }
 {
     let mut layers = [0u64; LAYERS];
-    let mut cursor = tours::begin(back, frame, &mut layers);
     let mut at = 0;
-    while cursor.live {
-        let step = tours::step_at(words, first, next, back, frame, cursor, &layers);
+    let mut next = tours::begin(back, frame, &mut layers);
+    while let Some(cursor) = next {
+        let step = tours::step_at(letters, back, frame, cursor, &layers);
         at = open_at(buf, at, cursor.before, step);
-        let within = frames::of_step(back, opened, set_count, cursor.state, step);
-        if is_earlier(within.round, frame.round) {
-            at = at
-                + put(
-                    &mut buf[at..],
-                    words,
-                    first,
-                    next,
-                    back,
-                    opened,
-                    set_count,
-                    within,
-                );
+        if let Some(within) = frames::of_step(back, opened, set_count, cursor.state, step) {
+            // The round falls whatever the arrays hold.
+            if within.round < frame.round {
+                at = at + put(&mut buf[at..], letters, back, opened, set_count, within);
+            }
         }
         at = close_at(buf, at, step);
         let to = target(step, cursor.state);
-        cursor = tours::advance(back, frame, cursor, to, &mut layers);
+        next = tours::advance(back, frame, cursor, to, &mut layers);
     }
     at
 }

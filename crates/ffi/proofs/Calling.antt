@@ -5,7 +5,7 @@ use mathlib.Core.List.{List, ◌++◌}
 use lib.ListN.{length, take, drop}
 use lib.Seq.{length-take-le}
 use Rattle.rows.specs.Rows.{batch_of}
-use Rattle.machine.specs.declared.Answer.{Answer}
+use Rattle.machine.specs.Calls.{Answer}
 use Rattle.machine.specs.Calls.{Outcome, refused, written, buffer_after}
 use Rattle.machine.proofs.Answers.{front_after}
 use Rattle.machine.specs.Program.{outcome, batch_verdict, batch_expression}

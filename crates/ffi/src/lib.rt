@@ -11,6 +11,7 @@ const MOST_LENT: usize = 4294967295;
 
 // Checks one batch. Returns the length of its sheet, which it writes; or 2^32 times the number of the refusal, whose place it
 // writes to `place`, and leaves the buffer as it was.
+#[tactic(auto, using(crate::proofs::Calling::called))]
 pub fn gozhmerik_sheet(batch: &[u8], sheet: &mut [u8], place: &mut u64) -> u64
     ensures { Called batch.now sheet.old sheet.new
         place.old place.new result }
@@ -20,6 +21,7 @@ pub fn gozhmerik_sheet(batch: &[u8], sheet: &mut [u8], place: &mut u64) -> u64
 
 // The verdict of one batch: 1 where it is non-empty, 0 where it is empty; or 2^32 times the number of the refusal, whose place it writes
 // to `place`.
+#[tactic(auto, using(crate::proofs::Calling::called_verdict))]
 pub fn gozhmerik_verdict(batch: &[u8], place: &mut u64) -> u64
     ensures { CalledVerdict batch.now place.old place.new result }
 {
@@ -30,7 +32,7 @@ pub fn gozhmerik_verdict(batch: &[u8], place: &mut u64) -> u64
 fn lent(size: usize) -> usize
     ensures { (result ≡ lent size) × (result ≤ size) }
 {
-    if MOST_LENT < size { MOST_LENT } else { size }
+    size.min(MOST_LENT)
 }
 
 // The walk of one batch as an expression. Returns the length of the text, which it writes; or 2^32 times the number of the refusal, whose

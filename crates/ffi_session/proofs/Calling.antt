@@ -9,8 +9,9 @@ use native.Mathlib.Omega.{arith}
 use native.Mathlib.Numerals.{add-one}
 use borrow.Author.Tests.{ne_eqb}
 use Rattle.lists.specs.Tests.{gather}
-use Rattle.machine.specs.declared.Answer.{Answer}
-use Rattle.machine.specs.declared.Answer.TheVariants.{Done}
+use Rattle.machine.specs.Calls.{Answer}
+use Rattle.std.specs.Prelude.{Ok}
+use Rattle.machine.specs.declared.Success.TheVariants.{Done}
 use Rattle.machine.specs.Calls.{Outcome, done, wrote, decided, refused, buffer_after, due}
 use Rattle.machine.specs.Marks.{MarkedCall, mark, return_to, marked_call, MarkedBrings}
 use Rattle.machine.proofs.Marks.{marked_formed, fresh_formed}
@@ -115,7 +116,7 @@ pub record Making (batch calls old : List ℕ) (i : ℕ) (r : Reply) (l : List �
   pub leads : after now (gather (call_of batch (length old)) (drop i calls)) ≡ left_by batch calls old
 
 module _ (batch calls old : List ℕ) where
-  pub making_start : (s : Session) → Fresh s → Making batch calls old 0 (reply s Done) old
+  pub making_start : (s : Session) → Fresh s → Making batch calls old 0 (reply s (Ok Done)) old
   making_start s f = record {
     now = at_first old;
     shows = record { session_is = record { formed = fresh_formed; whole = f }; answer_is = refl; buffer_is = refl };

@@ -1,7 +1,7 @@
 -- The calls that bytes name (`call_of`), what the plain machine comes to under them (`after`), and its last answer as a number (`CalledSession`).
 use Rattle.std.specs.Prelude.{ℕ, ◌≡◌, cond, List, [], ◌∷◌, eqb, length}
 use Rattle.lists.specs.Tests.{gather}
-use Rattle.machine.specs.declared.Answer.{Answer}
+use Rattle.machine.specs.Calls.{Answer}
 use Rattle.machine.specs.Calls.{load, withdraw, close, round, reopen, verdict, print, save, expression, Outcome, done, returned, due, buffer_after}
 use Rattle.machine.specs.Marks.{Marked, fresh_marked, MarkedCall, on, mark, return_to, marked_call}
 use Rattle.session.specs.declared.Reply.{Reply}

@@ -4,7 +4,7 @@
 ghost use Rattle.ffi_session.specs.Promise.{Makes, Answers, CalledSession};
 
 use codes::code;
-use machine::Answer;
+use machine::{Answer, Success};
 use session::{Reply, Session};
 
 // The call that the byte names; where it names none, all stays as it was.
@@ -32,13 +32,12 @@ fn make_call(before: Reply, byte: u8, batch: &[u8], buffer: &mut [u8]) -> Reply
 fn make_calls(batch: &[u8], calls: &[u8], buffer: &mut [u8]) -> Answer
     ensures { Answers batch.now calls.now buffer.old buffer.new result }
 {
-    let session = Session::fresh();
-    let answer = Answer::Done;
-    let mut reply = Reply { session, answer };
-    let mut i = 0;
-    while i < calls.len() {
-        reply = make_call(reply, calls[i], batch, buffer);
-        i += 1;
+    let mut reply = Reply {
+        session: Session::fresh(),
+        answer: Ok(Success::Done),
+    };
+    for byte in calls {
+        reply = make_call(reply, *byte, batch, buffer);
     }
     reply.answer
 }

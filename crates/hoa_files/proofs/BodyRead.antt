@@ -11,7 +11,11 @@ use Rattle.lists.proofs.Places.{last_of}
 use Rattle.masks.specs.Mask.{member}
 use Rattle.masks.proofs.Member.{lt_or_le}
 use Rattle.machine.specs.Sheet.{line}
-use Rattle.hoa_files.specs.declared.ReadFile.{ReadFile}
+use Rattle.std.specs.Prelude.{Result}
+use Rattle.causes.specs.declared.Cause.{Cause}
+use Rattle.causes.specs.Numbers.{number_of}
+use Rattle.machine.specs.declared.Refusal.{Refusal}
+use Rattle.buchi_rows.specs.declared.BuchiMasks.{BuchiMasks}
 use Rattle.hoa_files.specs.Automata.{BuchiState, state_line, edge_line, end_line}
 use Rattle.hoa_files.specs.Files.{FileCause}
 use Rattle.hoa_files.specs.Reading.{◌begin_with◌, TakesLine, RefusesLine, TakesHead, edge_place, MarksOne, InMasks, FinishesFile, TellsFile}
@@ -69,23 +73,24 @@ module _ {l : List ℕ} {n s at count marked edges : ℕ} (b : BodyRead l n s at
                 (subst (λ (z : List BuchiState). EdgesIn z edges) e edges_in) (λ t. one t ∙ ap (λ i. member t edges || eqb t i) place);
           }
 
-  pub body_refused : (cause : ℕ) → RefusesLine (drop at l) n count cause → FileCause l cause at
-  body_refused cause r = part_refused b.part cause (subst (λ k. RefusesLine (drop at l) n k cause) b.count_is r)
+  pub body_refused : (cause : Cause) → RefusesLine (drop at l) n count (number_of cause) → FileCause l (number_of cause) at
+  body_refused cause r = part_refused b.part (number_of cause) (subst (λ k. RefusesLine (drop at l) n k (number_of cause)) b.count_is r)
 
-  pub body_end : (r : ReadFile) → count ≡ n → TakesLine (drop at l) end_line 8 → at + 8 ≤ length l → FinishesFile l (at + 8) (record { states = n; start = s; marked = marked; edges = edges }) r → TellsFile l r
-  body_end r h (stands, length_is) room (more, all) = ⊎_elim beyond whole (lt_or_le (at + 8) (length l))
+  pub body_end : (a : BuchiMasks) (r : Result BuchiMasks Refusal) → (a.states ≡ n) × (a.start ≡ s) × (a.marked ≡ marked) × (a.edges ≡ edges) → count ≡ n → TakesLine (drop at l) end_line 8
+      → at + 8 ≤ length l → FinishesFile l (at + 8) a r → TellsFile l r
+  body_end a r is h (stands, length_is) room (more, all) = ⊎_elim beyond whole (lt_or_le (at + 8) (length l))
     where
       every : length b.states ≡ n
       every = sym b.count_is ∙ h
 
       beyond : at + 8 < length l → TellsFile l r
-      beyond g = subst (TellsFile l) (sym (more g)) (part_more b.part every stands g)
+      beyond g = rw (more g) (part_more b.part every stands g)
 
       whole : length l ≤ at + 8 → TellsFile l r
-      whole g = subst (TellsFile l) (sym (all g)) (record { start = s; states = b.states }, part_end b.part every stands (omega arith), held)
+      whole g = rw (all g) (record { start = s; states = b.states }, part_end b.part every stands (omega arith), held)
         where
-          held : InMasks (record { start = s; states = b.states }) (record { states = n; start = s; marked = marked; edges = edges })
-          held = record { states_are = sym every; start_is = refl; marked_are = b.marked_in; edges_are = b.edges_in }
+          held : InMasks (record { start = s; states = b.states }) a
+          held = record { states_are = is.0 ∙ sym every; start_is = is.1; marked_are = rw is.2 b.marked_in; edges_are = rw is.3 b.edges_in }
 
 -- the bytes of a line are within the file
 pub line_within : (l next : List ℕ) (at length_of : ℕ) → at ≤ length l → TakesLine (drop at l) next length_of → (0 < length_of) × (at + length_of ≤ length l)

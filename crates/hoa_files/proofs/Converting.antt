@@ -1,16 +1,15 @@
 -- What reading and writing tell of a file is the promise of the call (`converts_read`, `converts_refused`).
-use Prim.Native.Nat.{ℕ, ◌≤◌}
+use Prim.Native.Nat.{ℕ}
 use mathlib.Core.Path.{◌≡◌, refl, sym, ◌∙◌, subst}
 use mathlib.Core.Logic.{inl, inr}
 use mathlib.Core.List.{List}
-use native.Mathlib.Omega.{arith}
 use Rattle.rows.specs.declared.Row.{Row}
 use Rattle.rows.specs.Rows.{batch_of}
-use Rattle.machine.specs.declared.Answer.{Answer}
-use Rattle.machine.specs.declared.Answer.TheVariants.{Refused}
-use Rattle.machine.specs.Calls.{returned, TellsText}
-use Rattle.hoa_files.specs.declared.BuchiMasks.{BuchiMasks}
-use Rattle.hoa_files.specs.declared.ReadFile.TheVariants as f
+use Rattle.std.specs.Prelude.{Ok, Err}
+use Rattle.causes.specs.Numbers.{number_of}
+use Rattle.machine.specs.declared.Refusal.{Refusal}
+use Rattle.machine.specs.Calls.{refused, Answer, due, TellsText}
+use Rattle.buchi_rows.specs.declared.BuchiMasks.{BuchiMasks}
 use Rattle.hoa_files.specs.Automata.{Buchi}
 use Rattle.hoa_files.specs.Files.{IsFileOf}
 use Rattle.hoa_files.specs.Tables.{RowsOf}
@@ -30,11 +29,7 @@ pub has_one_table : (l : List ℕ) (rows rows' : List Row) → HasTable l rows �
 has_one_table l rows rows' t u =
     one_table u.automaton rows rows' u.file_is.0 (subst (λ (h : Buchi). RowsOf h rows) (one_file l t.automaton u.automaton t.file_is u.file_is) t.rows_are) u.rows_are
 
--- what was read has at most six states
-pub read_few : (l : List ℕ) (a : BuchiMasks) → TellsFile l (f.Read a) → a.states ≤ 6
-read_few l a t = omega (arith, t.2.states_are, t.1.0.at_most_six)
-
-pub converts_read : (l old new : List ℕ) (a : BuchiMasks) (r : Answer) → TellsFile l (f.Read a) → TellsText (batch_of (rows_of a)) old new r → Converts l old new r
+pub converts_read : (l old new : List ℕ) (a : BuchiMasks) (r : Answer) → TellsFile l (Ok a) → TellsText (batch_of (rows_of a)) old new r → Converts l old new r
 converts_read l old new a r (h, i, p) w = record {
   some_outcome = inl (rows_of a, t);
   accepted = λ rows u. subst (λ (k : List Row). TellsText (batch_of k) old new r) (has_one_table l (rows_of a) rows t u) w;
@@ -44,9 +39,9 @@ converts_read l old new a r (h, i, p) w = record {
     t : HasTable l (rows_of a)
     t = record { automaton = h; file_is = i; rows_are = masked_table h a i.0 p }
 
-pub converts_refused : (l old : List ℕ) (n place : ℕ) → TellsFile l (f.Refused n place) → Converts l old old (Refused n place)
-converts_refused l old n place c = record {
-  some_outcome = inr (n, (place, c));
-  accepted = λ rows u. absurd (file_has_no_cause l u.automaton n place u.file_is c);
-  refuses = λ n' place' d. let e = cause_once l n n' place place' c d in record { answer_is = λ x. returned (Refused (e.0 x) (e.1 x)); buffer_is = refl };
+pub converts_refused : (l old : List ℕ) (r : Refusal) → TellsFile l (Err r) → Converts l old old (Err r)
+converts_refused l old r c = record {
+  some_outcome = inr (number_of r.cause, (r.place, c));
+  accepted = λ rows u. absurd (file_has_no_cause l u.automaton (number_of r.cause) r.place u.file_is c);
+  refuses = λ n place d. let e = cause_once l (number_of r.cause) n r.place place c d in record { answer_is = λ x. due (refused (e.0 x) (e.1 x)); buffer_is = refl };
 }

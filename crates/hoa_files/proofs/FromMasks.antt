@@ -14,7 +14,7 @@ use Rattle.rows.specs.declared.Row.{Row}
 use Rattle.rows.specs.declared.Row.TheVariants.{Initial, Final}
 use Rattle.rows.specs.Rows.{row_bytes}
 use Rattle.rows.proofs.RowOrder.{row_kind, kind_order}
-use Rattle.hoa_files.specs.declared.BuchiMasks.{BuchiMasks}
+use Rattle.buchi_rows.specs.declared.BuchiMasks.{BuchiMasks}
 use Rattle.hoa_files.specs.Automata.{Buchi, Readable}
 use Rattle.hoa_files.specs.Tables.{RowOf, the_start, the_final, an_edge, a_limit, RowsOf}
 use Rattle.hoa_files.specs.Reading.{edge_place, InMasks}

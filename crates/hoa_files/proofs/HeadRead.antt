@@ -1,20 +1,24 @@
 -- The head of a file, line by line: what its lines tell (`head_first`, `head_count`, `head_outside`, `head_counted`; `start_none`, `start_outside`,
--- `start_fixed`, `start_all`), and the same from what is found at its places: the count of states (`no_count`, `none_counted`, `many_counted`,
--- `count_taken`), the start (`no_start`, `start_beyond`) and the lines behind it (`fixed_missing`, `head_taken`).
+-- `start_fixed`, `start_all`), and the same from what is found at its places: the count of states (`no_count`, `count_outside`,
+-- `count_taken`), the start (`no_start`, `start_beyond`) and the lines behind it (`fixed_missing`, `head_taken`);
+-- and how these are passed one after another (`passed_more`, `passed_up_to`).
 use Prim.Native.Nat.{ℕ, ◌+◌, ◌≤◌, ◌<◌}
 use mathlib.Core.Path.{◌≡◌, refl, ap, sym, ◌∙◌, subst}
-use mathlib.Core.Logic.{◌⊎◌, ⊎_elim, ◌≢◌, inl, inr}
+use mathlib.Core.Logic.{◌⊎◌, ⊎_elim, inl, inr}
 use mathlib.Core.List.{List, [], ◌∷◌, ◌++◌, append_assoc, append_cancel_left, head-eq_of_cons-eq, tail-eq_of_cons-eq}
 use lib.ListN.{length, drop, length-append}
 use native.Mathlib.Omega.{arith}
 use Rattle.lists.specs.Tests.{gather}
 use Rattle.machine.specs.Text.{text, number_text}
 use Rattle.machine.specs.Sheet.{line}
+use Rattle.std.specs.Prelude.{Option, Some, None, Ok, Err}
+use Rattle.causes.specs.declared.Cause.TheVariants.{BadLine}
+use Rattle.machine.specs.declared.Refusal.{Refusal}
 use Rattle.hoa_files.specs.declared.Numbered.{Numbered}
 use Rattle.hoa_files.specs.Automata.{Buchi, head_lines, lines}
 use Rattle.hoa_files.specs.Files.{OfTheForm, WithoutCause, FileCause, number_outside}
-use Rattle.hoa_files.specs.Reading.{◌begin_with◌, fixed_lines, StandsFixed, all_stand, up_to, TakesCount, TakesHead, FindsNumbered}
-use Rattle.hoa_files.proofs.Starting.{behind_text, begins_more, count_more, count_all, begins_all, begin_room}
+use Rattle.hoa_files.specs.Reading.{◌begin_with◌, fixed_lines, PassesLine, TellsFixed, Stopped, up_to, TakesCount, TakesHead, FindsNumbered}
+use Rattle.hoa_files.proofs.Starting.{behind_text, begins_more, count_more, count_all, begins_all, next_stands, next_missing}
 use Rattle.hoa_files.proofs.LineTexts.{outside, up_to_ten}
 use Rattle.hoa_files.proofs.Causes.{no_line_found}
 use Rattle.hoa_files.proofs.Telling.{to_end, line_of_count, line_of_start, count_once, start_once}
@@ -122,83 +126,79 @@ module _ {l : List ℕ} {n at : ℕ} (c : TakesCount l n at) where
             never (more, begins_more b.0 before t r more i (q ∙ ap (λ (v : List ℕ). line v ++ more) (sym (head-eq_of_cons-eq same))))
 
     -- a line of them does not stand
-    start_fixed : x < n → (r : ℕ) → StandsFixed (drop next l) r → r ≢ 52 → FileCause l 20 (next + r)
-    start_fixed h r (all_stand s) d = absurd (d refl)
-    start_fixed h r (up_to before later t e s never) d =
-        fixed_stops h before later t e (s.0, sym start_rest ∙ s.1) (λ v. never (v.0, start_rest ∙ v.1))
+    start_fixed : x < n → (r : ℕ) → Stopped (drop next l) r → FileCause l 20 (next + r)
+    start_fixed h r (up_to before later t e s never) = fixed_stops h before later t e (s.0, sym start_rest ∙ s.1) (λ v. never (v.0, start_rest ∙ v.1))
 
     -- they all stand
-    start_all : x < n → StandsFixed (drop next l) 52 → TakesHead l n x (next + 52)
-    start_all h f = go 52 f refl
-      where
-        go : (r : ℕ) → StandsFixed (drop next l) r → r ≡ 52 → TakesHead l n x (next + 52)
-        go r (all_stand s) e = record {
-          some_states = c.some_states;
-          at_most_six = c.at_most_six;
-          start_inside = h;
-          stands = (s.0, begins_all l (three_lines n x) fixed_lines b.0 s.0 three_stand (sym start_rest ∙ s.1));
-          length_is = omega (arith, next_is, count_all (three_lines n x) fixed_lines);
-        }
-        go r (up_to before later t e s never) d =
-            absurd (omega (arith, d, ap (λ (f : List (List ℕ)). length (gather line f)) e, count_all before (t ∷ later), length-append (line t) (gather line later), length-append t (10 ∷ [])))
+    start_all : x < n → drop next l begin_with gather line fixed_lines → TakesHead l n x (next + 52)
+    start_all h s = record {
+      some_states = c.some_states;
+      at_most_six = c.at_most_six;
+      start_inside = h;
+      stands = (s.0, begins_all l (three_lines n x) fixed_lines b.0 s.0 three_stand (sym start_rest ∙ s.1));
+      length_is = omega (arith, next_is, count_all (three_lines n x) fixed_lines);
+    }
+
+-- ---- the four lines, one after another
+
+-- the first of them stand from a place on, up to another
+abbrev pub Passed : List ℕ → ℕ → List (List ℕ) → ℕ → Type 0
+Passed l at before next = (drop at l begin_with gather line before) × (next ≡ at + length (gather line before))
+
+pub passed_none : (l : List ℕ) (at : ℕ) → Passed l at [] at
+passed_none l at = ((drop at l, refl), omega arith)
+
+module _ (l : List ℕ) (at : ℕ) (before : List (List ℕ)) (t : List ℕ) {next : ℕ} (p : Passed l at before next) where
+  pub passed_more : (n : ℕ) → PassesLine l next (line t) (Ok n) → Passed l at (before ++ (t ∷ [])) n
+  passed_more n q = (
+    next_stands l at before t p.0 (subst (λ (k : ℕ). drop k l begin_with line t) p.1 q.0),
+    omega (arith, p.1, q.1, count_more before t),
+  )
+
+  pub passed_up_to : (later : List (List ℕ)) (r : Refusal) → fixed_lines ≡ before ++ (t ∷ later) → PassesLine l next (line t) (Err r) → TellsFixed l at (Err r)
+  passed_up_to later r e q = (
+    length (gather line before),
+    up_to before later t e p.0 (next_missing l at before t (subst (λ (k : ℕ). ¬ (drop k l begin_with line t)) p.1 q.1)),
+    q.0 ∙ ap (λ (k : ℕ). record { cause = BadLine; place = k }) p.1,
+  )
 
 -- ---- what is found at a place lies within the file
 
-pub numbered_within : (word tail l : List ℕ) (at : ℕ) (r : Numbered) → FindsNumbered word tail (drop at l) r → 0 < r.length → at ≤ length l → at + r.length ≤ length l
-numbered_within word tail l at r f h k = let p = f.found h in omega (arith, p.1.length_is, begin_room l (word ++ (number_text p.0 ++ tail)) at k p.1.stands)
-
-pub fixed_within : (l : List ℕ) (at k : ℕ) → at ≤ length l → StandsFixed (drop at l) k → at + k ≤ length l
-fixed_within l at k h (all_stand s) = begin_room l (gather line fixed_lines) at h s
-fixed_within l at k h (up_to before later _ e s never) = begin_room l (gather line before) at h s
-
-pub count_within : {l : List ℕ} {n at : ℕ} → TakesCount l n at → at ≤ length l
-count_within {l} {n} c =
-    let t : List ℕ = gather line (text "HOA: v1" ∷ (text "States: " ++ number_text n) ∷ []) in
-    omega (arith, c.length_is, begin_room l t 0 (omega arith) c.stands)
-
 -- ---- the count of states, from what is found
 
-module _ {l : List ℕ} (b : l begin_with line (text "HOA: v1")) (r : Numbered) (f : FindsNumbered (text "States: ") (10 ∷ []) (drop 8 l) r) where
-  pub no_count : r.length ≡ 0 → FileCause l 20 8
-  no_count z = head_count l b (λ x p. omega (arith, (f.every x p).0))
+module _ {l : List ℕ} (b : l begin_with line (text "HOA: v1")) {r : Option Numbered} (f : FindsNumbered (text "States: ") (10 ∷ []) (drop 8 l) r) where
+  pub no_count : r ≡ None → FileCause l 20 8
+  no_count z = head_count l b (λ x p. let e = f.every x p in absurd (cc (e.1, z)))
 
-  pub none_counted : 0 < r.length → r.number ≡ 0 → FileCause l 21 8
-  none_counted h z = let p = f.found h in
-      let x : p.0 ≡ 0 = omega (arith, up_to_ten p.0 r.number p.1.number_is (omega arith)) in
-      head_outside l b p.0 p.1.stands (inl x)
-
-  pub many_counted : 0 < r.length → 6 < r.number → FileCause l 21 8
-  many_counted h k = let p = f.found h in
-      let x : 6 < p.0 = omega (arith, outside p.0 r.number 7 p.1.number_is (omega arith) (omega arith)) in
-      head_outside l b p.0 p.1.stands (inr x)
-
-  pub count_taken : 0 < r.length → r.number ≢ 0 → r.number ≤ 6 → TakesCount l r.number (8 + r.length)
-  count_taken h z k = let p = f.found h in
-      let x : p.0 ≡ r.number = up_to_ten p.0 r.number p.1.number_is (omega arith) in
-      subst (λ (n : ℕ). TakesCount l n (8 + r.length)) x
-      (subst (λ (count : ℕ). TakesCount l p.0 (8 + count)) (sym p.1.length_is) (head_counted l b p.0 p.1.stands (omega arith) (omega arith)))
+  module _ (m : Numbered) (is : r ≡ Some m) where
+    pub count_outside : (m.number ≡ 0) ⊎ (6 < m.number) → FileCause l 21 8
+    count_outside o = let p = f.found m is in
+        head_outside l b p.0 p.1.stands (⊎_elim
+        (λ z. inl (omega (arith, up_to_ten p.0 m.number p.1.number_is (omega arith))))
+        (λ k. inr (omega (arith, outside p.0 m.number 7 p.1.number_is (omega arith) (omega arith)))) o)
 
 -- ---- the start and the lines behind it, from what is found
 
-module _ {l : List ℕ} {n at : ℕ} (c : TakesCount l n at) (r : Numbered) (f : FindsNumbered (text "Start: ") (10 ∷ []) (drop at l) r) where
-  pub no_start : r.length ≡ 0 → FileCause l 20 at
-  no_start z = start_none c (λ x p. omega (arith, (f.every x p).0))
+module _ {l : List ℕ} {n at : ℕ} (c : TakesCount l n at) {r : Option Numbered} (f : FindsNumbered (text "Start: ") (10 ∷ []) (drop at l) r) where
+  pub no_start : r ≡ None → FileCause l 20 at
+  no_start z = start_none c (λ x p. let e = f.every x p in absurd (cc (e.1, z)))
 
-  pub start_beyond : 0 < r.length → n ≤ r.number → FileCause l 21 at
-  start_beyond h k = let p = f.found h in
-      start_outside c p.0 p.1.stands (outside p.0 r.number n p.1.number_is k (omega (arith, c.at_most_six)))
+  module _ (m : Numbered) (is : r ≡ Some m) where
+    pub start_beyond : n ≤ m.number → FileCause l 21 at
+    start_beyond k = let p = f.found m is in
+        start_outside c p.0 p.1.stands (outside p.0 m.number n p.1.number_is k (omega (arith, c.at_most_six)))
 
-  module _ (h : 0 < r.length) (k : r.number < n) where
-    start_told : (f.found h).0 ≡ r.number
-    start_told = let p = f.found h in up_to_ten p.0 r.number p.1.number_is (omega (arith, c.at_most_six))
+    module _ (k : m.number < n) where
+      start_told : (f.found m is).0 ≡ m.number
+      start_told = let p = f.found m is in up_to_ten p.0 m.number p.1.number_is (omega (arith, c.at_most_six))
 
-    pub fixed_missing : (same : ℕ) → StandsFixed (drop (at + r.length) l) same → same ≢ 52 → FileCause l 20 (at + r.length + same)
-    fixed_missing same s d = let p = f.found h in
-        subst (λ (m : ℕ). StandsFixed (drop (at + m) l) same → FileCause l 20 (at + m + same)) (sym p.1.length_is)
-        (λ t. start_fixed c p.0 p.1.stands (omega (arith, start_told)) same t d) s
+      pub fixed_missing : (stop : ℕ) → Stopped (drop (at + m.length) l) stop → FileCause l 20 (at + m.length + stop)
+      fixed_missing stop s = let p = f.found m is in
+          subst (λ (k : ℕ). Stopped (drop (at + k) l) stop → FileCause l 20 (at + k + stop)) (sym p.1.length_is)
+          (λ t. start_fixed c p.0 p.1.stands (omega (arith, start_told)) stop t) s
 
-    pub head_taken : (same : ℕ) → StandsFixed (drop (at + r.length) l) same → same ≡ 52 → TakesHead l n r.number (at + r.length + 52)
-    head_taken same s e = let p = f.found h in
-        subst (λ (x : ℕ). TakesHead l n x (at + r.length + 52)) start_told
-        (subst (λ (m : ℕ). StandsFixed (drop (at + m) l) 52 → TakesHead l n p.0 (at + m + 52)) (sym p.1.length_is)
-        (start_all c p.0 p.1.stands (omega (arith, start_told))) (subst (StandsFixed (drop (at + r.length) l)) e s))
+      pub head_taken : drop (at + m.length) l begin_with gather line fixed_lines → TakesHead l n m.number (at + m.length + 52)
+      head_taken s = let p = f.found m is in
+          subst (λ (x : ℕ). TakesHead l n x (at + m.length + 52)) start_told
+          (subst (λ (k : ℕ). drop (at + k) l begin_with gather line fixed_lines → TakesHead l n p.0 (at + k + 52)) (sym p.1.length_is)
+          (start_all c p.0 p.1.stands (omega (arith, start_told))) s)

@@ -6,7 +6,7 @@ use lib.ListN.{length}
 use native.Mathlib.Omega.{arith}
 use Rattle.masks.proofs.Marking.{some_mask}
 use Rattle.rows.specs.declared.Row.{Row}
-use Rattle.hoa_files.specs.declared.BuchiMasks.{BuchiMasks}
+use Rattle.buchi_rows.specs.declared.BuchiMasks.{BuchiMasks}
 use Rattle.hoa_files.specs.Automata.{Buchi, Readable}
 use Rattle.hoa_files.specs.Tables.{Edge, IsMarked, RowsOf}
 use Rattle.hoa_files.specs.Reading.{edge_place, InMasks}
@@ -18,7 +18,7 @@ module _ (h : Buchi) where
   some_masks r =
       let m = some_mask (IsMarked h) (dec_marked h) 64 (omega arith) in
       let e = some_mask (λ k. Edge h (k / 6) (k % 6)) (λ k. dec_edge h (k / 6) (k % 6)) 64 (omega arith) in (
-        record { states = length h.states; start = h.start; marked = m.0; edges = e.0 },
+        record { states = length h.states; start = h.start; marked = m.0; edges = e.0; at_most_six = r.at_most_six },
         record {
           states_are = refl;
           start_is = refl;

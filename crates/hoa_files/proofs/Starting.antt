@@ -1,11 +1,16 @@
 -- Bytes that begin with a text: place by place (`begin_more`, `begin_all`, `begin_place`), in parts (`begin_both`, `begin_first`, `begin_behind`),
 -- and with lines: one more, and what is left behind it (`begins_more`, `count_more`, `next_cut`; `next_stands`, `next_missing`).
-use Prim.Native.Nat.{ℕ, ◌+◌, ◌≤◌, ◌<◌}
+use Prim.Native.Nat.{ℕ, ◌+◌, ◌-◌, ◌≤◌}
 use mathlib.Core.Path.{◌≡◌, ap, sym, ◌∙◌, subst}
 use mathlib.Core.List.{List, [], ◌∷◌, ◌++◌, append_assoc}
-use lib.ListN.{length, get_or, take, drop, length-append, length-drop, take-append-drop, get_or-append}
-use lib.Seq.{take-suc, drop_at, drop-drop, drop-append_seam, get_or-drop}
-use native.Mathlib.Numerals.{add-one}
+use lib.ListN.{length, take, drop, length-append, length-drop}
+use lib.Seq.{take_all, drop_at, drop-drop, drop-append_seam}
+use denote.Ref.{Bor}
+use lib.Dec.{eqb}
+use Rattle.std.specs.Prelude.{Option, Some, None, MatchOption, ◌≢◌, true, false}
+use Rattle.std.specs.Cmp.Lexicographic.{pointwise}
+use Rattle.std.proofs.lemmas.Slice.Eq.{strip_prefix_is}
+use Rattle.std.proofs.lemmas.Bool.Decides.{Decides-eqb}
 use native.Mathlib.Omega.{arith}
 use Rattle.lists.specs.Tests.{gather}
 use Rattle.lists.proofs.Places.{gather_append, gather_last}
@@ -18,28 +23,31 @@ begin_both l s t p q =
     let e : p.0 ≡ t ++ q.0 = sym (ap (drop (length s)) p.1 ∙ drop-append_seam s p.0) ∙ q.1 in
     (q.0, p.1 ∙ ap (λ (m : List ℕ). s ++ m) e ∙ sym (append_assoc s t q.0))
 
-pub begin_first : (l s t : List ℕ) → l begin_with (s ++ t) → l begin_with s
-begin_first l s t p = (t ++ p.0, p.1 ∙ append_assoc s t p.0)
-
 pub begin_behind : (l s t : List ℕ) → l begin_with (s ++ t) → drop (length s) l begin_with t
 begin_behind l s t p = (p.0, ap (drop (length s)) (p.1 ∙ append_assoc s t p.0) ∙ drop-append_seam s (t ++ p.0))
-
--- what stands at each place, and that there is room
-pub begin_place : (l t : List ℕ) (at i : ℕ) → drop at l begin_with t → i < length t → get_or l (at + i) 0 ≡ get_or t i 0
-begin_place l t at i p h = sym (get_or-drop at l i 0) ∙ ap (λ (m : List ℕ). get_or m i 0) p.1 ∙ get_or-append t p.0 0 i h
 
 pub begin_room : (l t : List ℕ) (at : ℕ) → at ≤ length l → drop at l begin_with t → at + length t ≤ length l
 begin_room l t at h p = omega (arith, length-drop at l, length-append t p.0, ap length p.1)
 
--- one place more, and all
-pub begin_more : (l t : List ℕ) (at i : ℕ) → at + length t ≤ length l → i < length t → take i (drop at l) ≡ take i t → get_or l (at + i) 0 ≡ get_or t i 0
-    → take (i + 1) (drop at l) ≡ take (i + 1) t
-begin_more l t at i r h e g =
-    let k : i < length (drop at l) = omega (arith, length-drop at l) in
-    rw (add-one, take-suc (drop at l) i 0 k, take-suc t i 0 h, e, get_or-drop at l i 0, g)
+-- what `strip_prefix` tells
+abbrev pub Strips : List ℕ → List ℕ → Option (Bor (List ℕ)) → Type 0
+Strips l t r = MatchOption r (pointwise eqb (take (length t) l) t ≡ false) (λ x. (pointwise eqb (take (length t) l) t ≡ true) × (x.now ≡ drop (length t) l) × (length x.now + length t ≡ length l))
 
-pub begin_all : (l t : List ℕ) → take (length t) l ≡ t → l begin_with t
-begin_all l t e = (drop (length t) l, sym (take-append-drop (length t) l) ∙ ap (λ (m : List ℕ). m ++ drop (length t) l) e)
+pub stripped : (l t : List ℕ) (r : Option (Bor (List ℕ))) (x : Bor (List ℕ)) → Strips l t r → r ≡ Some x → l ≡ t ++ x.now
+stripped l t r x s e = subst (λ (r : Option (Bor (List ℕ))). MatchOption r ((more : List ℕ) → l ≢ t ++ more) (λ x. l ≡ t ++ x.now)) e (strip_prefix_is Decides-eqb l t r s)
+
+pub not_stripped : (l t : List ℕ) (r : Option (Bor (List ℕ))) → Strips l t r → r ≡ None → (more : List ℕ) → l ≢ t ++ more
+not_stripped l t r s e = subst (λ (r : Option (Bor (List ℕ))). MatchOption r ((more : List ℕ) → l ≢ t ++ more) (λ x. l ≡ t ++ x.now)) e (strip_prefix_is Decides-eqb l t r s)
+
+-- of the bytes from a place on
+pub from_place : (l : List ℕ) (k : ℕ) → take (length l - k) (drop k l) ≡ drop k l
+from_place l k = take_all (length l - k) (drop k l) (simp length-drop (omega arith))
+
+pub stripped_from : (l : List ℕ) (k : ℕ) (t : List ℕ) (r : Option (Bor (List ℕ))) (x : Bor (List ℕ)) → Strips (take (length l - k) (drop k l)) t r → r ≡ Some x → drop k l ≡ t ++ x.now
+stripped_from l k t r x s e = sym (from_place l k) ∙ stripped _ t r x s e
+
+pub not_stripped_from : (l : List ℕ) (k : ℕ) (t : List ℕ) (r : Option (Bor (List ℕ))) → Strips (take (length l - k) (drop k l)) t r → r ≡ None → (more : List ℕ) → drop k l ≢ t ++ more
+not_stripped_from l k t r s e more i = not_stripped _ t r s e more (from_place l k ∙ i)
 
 -- from a place behind a place
 pub begin_further : (l t : List ℕ) (at n : ℕ) → drop (at + n) l begin_with t → drop n (drop at l) begin_with t

@@ -3,11 +3,10 @@ use Rattle.std.specs.Prelude.{ℕ, ◌≤◌, ◌<◌, ◌≡◌, ◌⊎◌, Lis
 use Rattle.lists.specs.Writing.{Wrote}
 use Rattle.rows.specs.declared.Row.{Row}
 use Rattle.rows.specs.Rows.{batch_of}
-use Rattle.machine.specs.declared.Answer.{Answer}
 use Rattle.machine.specs.Text.{text}
 use Rattle.machine.specs.Sheet.{line}
 use Rattle.machine.specs.Program.{refusal_line}
-use Rattle.machine.specs.Calls.{refused, Tells, TellsText}
+use Rattle.machine.specs.Calls.{Answer, refused, Tells, TellsText}
 use Rattle.hoa_files.specs.declared.Converted.{Converted}
 use Rattle.hoa_files.specs.Automata.{Buchi}
 use Rattle.hoa_files.specs.Files.{IsFileOf, FileCause}

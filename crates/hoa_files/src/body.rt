@@ -1,82 +1,83 @@
 // The body of a file: its states with their edges, and the end.
-ghost use Rattle.std.specs.Prelude.{◌≤◌, ◌<◌, length, drop};
-ghost use Rattle.hoa_files.specs.Reading.{FindsEdge, TellsState, TellsStateOrEnd, TellsLine, TakesHead, MarksOne, FinishesFile, TellsFile};
+ghost use Rattle.std.specs.Prelude.{◌≤◌, ◌<◌, length};
+ghost use Rattle.hoa_files.specs.Reading.{NoDigitFirst, FindsState, FindsEdge, TellsState, TellsStateOrEnd, TellsLine, TakesHead, MarksOne, FinishesFile, TellsFile};
 
-use crate::parts::{is_digit, numbered, stands};
-use crate::{BodyLine, BuchiMasks, Numbered, ReadFile};
+use crate::parts::numbered;
+use crate::{BodyLine, Head, Numbered};
+use buchi_rows::BuchiMasks;
+use causes::Cause;
+use machine::Refusal;
 use masks::Set;
 
-// The line of the state that comes next.
-fn state_line(file: &[u8], at: usize, next: u8) -> BodyLine
-    requires { (at ≤ length file.now) × (next < 10) }
-    ensures { TellsState (drop at file.now) next result }
+// The length of the line of a state with the tail, if it stands at the head.
+fn state_length(rest: &[u8], state: u8, tail: &[u8]) -> Option<usize>
+    requires { (state < 10) × (0 < length tail.now) × NoDigitFirst tail.now }
+    ensures { FindsState tail.now rest.now state result }
 {
-    let plain = numbered(file, at, b"State: ", b"\n");
-    if plain.length != 0 {
-        if plain.number == next {
-            return BodyLine::State(false, plain.length);
-        }
-        return BodyLine::Refused(20);
+    let line = numbered(rest, b"State: ", tail)?;
+    if line.number == state {
+        Some(line.length)
+    } else {
+        None
     }
-    let marked = numbered(file, at, b"State: ", b" {0}\n");
-    if marked.length != 0 {
-        if marked.number == next {
-            return BodyLine::State(true, marked.length);
-        }
+}
+
+// The line of the state that comes next, unmarked or marked.
+fn state_line(rest: &[u8], next: u8) -> Result<BodyLine, Cause>
+    requires { next < 10 }
+    ensures { TellsState rest.now next result }
+{
+    if let Some(length) = state_length(rest, next, b"\n") {
+        return Ok(BodyLine::State(false, length));
     }
-    BodyLine::Refused(20)
+    if let Some(length) = state_length(rest, next, b" {0}\n") {
+        return Ok(BodyLine::State(true, length));
+    }
+    Err(Cause::BadLine)
 }
 
 // The line of the next state, or the end where all have come.
-fn state_or_end(file: &[u8], at: usize, states: u8, count: u8) -> BodyLine
-    requires { (at ≤ length file.now) × (count ≤ states) × (states ≤ 6) }
-    ensures { TellsStateOrEnd (drop at file.now) states count result }
+fn state_or_end(rest: &[u8], states: u8, count: u8) -> Result<BodyLine, Cause>
+    requires { (count ≤ states) × (states ≤ 6) }
+    ensures { TellsStateOrEnd rest.now states count result }
 {
     if count < states {
-        return state_line(file, at, count);
+        return state_line(rest, count);
     }
-    if stands(file, at, b"--END--\n") {
-        return BodyLine::End;
+    match rest.strip_prefix(b"--END--\n") {
+        Some(_) => Ok(BodyLine::End),
+        None => Err(Cause::BadLine),
     }
-    BodyLine::Refused(20)
 }
 
-// The line of an edge at the place; most lead to a state of one digit, which is told at a glance.
-fn edge_at(file: &[u8], at: usize) -> Numbered
-    requires { at ≤ length file.now }
-    ensures { FindsEdge (drop at file.now) result }
+// The line of an edge; most lead to a state of one digit, which is told at a glance.
+fn edge_at(rest: &[u8]) -> Option<Numbered>
+    ensures { FindsEdge rest.now result }
 {
-    if 6 <= file.len() - at {
-        if stands(file, at, b"[t] ") {
-            if is_digit(file[at + 4]) {
-                if file[at + 5] == b'\n' {
-                    return Numbered {
-                        length: 6,
-                        number: file[at + 4] - b'0',
-                    };
-                }
-            }
-        }
+    if let [b'[', b't', b']', b' ', digit @ b'0'..=b'9', b'\n', ..] = rest {
+        return Some(Numbered {
+            length: 6,
+            number: *digit - b'0',
+        });
     }
-    numbered(file, at, b"[t] ", b"\n")
+    numbered(rest, b"[t] ", b"\n")
 }
 
-// The line at the place, where so many states have come.
-fn body_line(file: &[u8], at: usize, states: u8, count: u8) -> BodyLine
-    requires { (at ≤ length file.now) × (count ≤ states) × (states ≤ 6) }
-    ensures { TellsLine (drop at file.now) states count result }
+// The line at the head, where so many states have come.
+fn body_line(rest: &[u8], states: u8, count: u8) -> Result<BodyLine, Cause>
+    requires { (count ≤ states) × (states ≤ 6) }
+    ensures { TellsLine rest.now states count result }
 {
     if count == 0 {
-        return state_or_end(file, at, states, count);
+        return state_or_end(rest, states, count);
     }
-    let edge = edge_at(file, at);
-    if edge.length == 0 {
-        return state_or_end(file, at, states, count);
+    let Some(edge) = edge_at(rest) else {
+        return state_or_end(rest, states, count);
+    };
+    if states <= edge.number {
+        return Err(Cause::BadNumber);
     }
-    if edge.number >= states {
-        return BodyLine::Refused(21);
-    }
-    BodyLine::Edge(edge.number, edge.length)
+    Ok(BodyLine::Edge(edge.number, edge.length))
 }
 
 // The marked states with one more, if it is marked.
@@ -92,48 +93,52 @@ fn mark(marked: Set, state: u8, is_marked: bool) -> Set
 }
 
 // The file's end where nothing stands behind the last line.
-fn finish(file: &[u8], at: usize, automaton: BuchiMasks) -> ReadFile
+fn finish(file: &[u8], at: usize, automaton: BuchiMasks) -> Result<BuchiMasks, Refusal>
     ensures { FinishesFile file.now at automaton result }
 {
     if at < file.len() {
-        return ReadFile::Refused(20, at);
+        return Err(Refusal {
+            cause: Cause::BadLine,
+            place: at,
+        });
     }
-    ReadFile::Read(automaton)
+    Ok(automaton)
 }
 
-// The body from the place on, of so many states.
-pub fn read_body(file: &[u8], from: usize, states: u8, start: u8) -> ReadFile
-    requires { TakesHead file.now states start from }
+// The body behind the head.
+pub fn read_body(file: &[u8], head: Head) -> Result<BuchiMasks, Refusal>
+    requires { TakesHead file.now head.states head.start head.length }
     ensures { TellsFile file.now result }
 {
-    let mut at = from;
+    let mut at = head.length;
     let mut count: u8 = 0;
     let mut marked: Set = 0;
     let mut edges: Set = 0;
+    // The lines come to their end: no range counts them.
     loop {
-        match body_line(file, at, states, count) {
-            BodyLine::State(is_marked, length) => {
+        match body_line(&file[at..], head.states, count) {
+            Ok(BodyLine::State(is_marked, length)) => {
                 marked = mark(marked, count, is_marked);
                 count += 1;
                 at += length;
             }
-            BodyLine::Edge(to, length) => {
+            Ok(BodyLine::Edge(to, length)) => {
                 edges = masks::with(edges, 6 * (count - 1) + to);
                 at += length;
             }
-            BodyLine::End => {
+            Ok(BodyLine::End) => {
                 return finish(
                     file,
                     at + 8,
                     BuchiMasks {
-                        states,
-                        start,
+                        states: head.states,
+                        start: head.start,
                         marked,
                         edges,
                     },
                 );
             }
-            BodyLine::Refused(cause) => return ReadFile::Refused(cause, at),
+            Err(cause) => return Err(Refusal { cause, place: at }),
         }
     }
 }

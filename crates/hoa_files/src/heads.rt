@@ -1,69 +1,78 @@
 // The lines of a file before its body.
-ghost use Rattle.std.specs.Prelude.{◌≤◌, length, drop};
-ghost use Rattle.hoa_files.specs.Reading.{StandsFixed, TakesCount, TellsHead};
+ghost use Rattle.std.specs.Prelude.{◌≤◌, length};
+ghost use Rattle.hoa_files.specs.Reading.{PassesLine, TellsFixed, TakesCount, TellsHead};
 
 use crate::Head;
-use crate::parts::{numbered, stands};
+use crate::parts::numbered;
+use causes::Cause;
+use machine::Refusal;
 
-// How many bytes the four lines before the body have.
-const FIXED: usize = 52;
-
-// How many bytes of the four lines before the body stand at the place: those of all, or of all before the first that does not.
-fn fixed_lines(file: &[u8], at: usize) -> usize
+// The place behind the line, where it stands at the place.
+fn pass(file: &[u8], at: usize, line: &[u8]) -> Result<usize, Refusal>
     requires { at ≤ length file.now }
-    ensures { StandsFixed (drop at file.now) result }
+    ensures { PassesLine file.now at line.now result }
 {
-    if !stands(file, at, b"AP: 0\n") {
-        return 0;
+    match file[at..].strip_prefix(line) {
+        Some(_) => Ok(at + line.len()),
+        None => Err(Refusal {
+            cause: Cause::BadLine,
+            place: at,
+        }),
     }
-    if !stands(file, at + 6, b"acc-name: Buchi\n") {
-        return 6;
-    }
-    if !stands(file, at + 22, b"Acceptance: 1 Inf(0)\n") {
-        return 22;
-    }
-    if !stands(file, at + 43, b"--BODY--\n") {
-        return 43;
-    }
-    FIXED
+}
+
+// The place behind the four lines before the body, which are the same in every file.
+fn pass_fixed(file: &[u8], at: usize) -> Result<usize, Refusal>
+    requires { at ≤ length file.now }
+    ensures { TellsFixed file.now at result }
+{
+    let name = pass(file, at, b"AP: 0\n")?;
+    let acceptance = pass(file, name, b"acc-name: Buchi\n")?;
+    let body = pass(file, acceptance, b"Acceptance: 1 Inf(0)\n")?;
+    pass(file, body, b"--BODY--\n")
 }
 
 // The head from the line of the start on.
-fn read_start(file: &[u8], at: usize, states: u8) -> Head
+fn read_start(file: &[u8], at: usize, states: u8) -> Result<Head, Refusal>
     requires { TakesCount file.now states at }
     ensures { TellsHead file.now result }
 {
-    let start = numbered(file, at, b"Start: ", b"\n");
-    if start.length == 0 {
-        return Head::Refused(20, at);
+    let Some(start) = numbered(&file[at..], b"Start: ", b"\n") else {
+        return Err(Refusal {
+            cause: Cause::BadLine,
+            place: at,
+        });
+    };
+    if states <= start.number {
+        return Err(Refusal {
+            cause: Cause::BadNumber,
+            place: at,
+        });
     }
-    if start.number >= states {
-        return Head::Refused(21, at);
-    }
-    let next = at + start.length;
-    let same = fixed_lines(file, next);
-    if same != FIXED {
-        return Head::Refused(20, next + same);
-    }
-    Head::Read(states, start.number, next + FIXED)
+    let length = pass_fixed(file, at + start.length)?;
+    Ok(Head {
+        states,
+        start: start.number,
+        length,
+    })
 }
 
 // The head of a file.
-pub fn read_head(file: &[u8]) -> Head
+pub fn read_head(file: &[u8]) -> Result<Head, Refusal>
     ensures { TellsHead file.now result }
 {
-    if !stands(file, 0, b"HOA: v1\n") {
-        return Head::Refused(20, 0);
+    let at = pass(file, 0, b"HOA: v1\n")?;
+    let Some(states) = numbered(&file[at..], b"States: ", b"\n") else {
+        return Err(Refusal {
+            cause: Cause::BadLine,
+            place: at,
+        });
+    };
+    if states.number == 0 || 6 < states.number {
+        return Err(Refusal {
+            cause: Cause::BadNumber,
+            place: at,
+        });
     }
-    let states = numbered(file, 8, b"States: ", b"\n");
-    if states.length == 0 {
-        return Head::Refused(20, 8);
-    }
-    if states.number == 0 {
-        return Head::Refused(21, 8);
-    }
-    if states.number > 6 {
-        return Head::Refused(21, 8);
-    }
-    read_start(file, 8 + states.length, states.number)
+    read_start(file, at + states.length, states.number)
 }

@@ -1,65 +1,28 @@
-// What may stand at a place of a file: a text, a number, a line with a number.
-ghost use Rattle.std.specs.Prelude.{◌≤◌, ◌<◌, length, drop};
-ghost use Rattle.lists.specs.Tests.{Decides};
-ghost use Rattle.hoa_files.specs.Reading.{◌begin_with◌, IsDigit, NoDigitFirst, RunsTo, CountsDigits};
-ghost use Rattle.hoa_files.specs.Reading.{TellsNumber, FindsNumbered};
+// What may stand at the head of some bytes: a number, a line with a number.
+ghost use Rattle.std.specs.Prelude.{◌≤◌, ◌<◌, length};
+ghost use Rattle.hoa_files.specs.Reading.{NoDigitFirst, RunsTo, CountsDigits, TellsNumber, FindsNumbered};
 
 use crate::Numbered;
 
-// Does the text stand at the place?
-pub fn stands(file: &[u8], at: usize, text: &[u8]) -> bool
-    requires { at ≤ length file.now }
-    ensures { Decides result (drop at file.now begin_with text.now) }
+// How many digits stand at the head.
+fn digits(rest: &[u8]) -> usize
+    ensures { RunsTo rest.now result }
 {
-    if text.len() > file.len() - at {
-        return false;
-    }
-    let mut i = 0;
-    while i < text.len() {
-        if file[at + i] != text[i] {
-            return false;
-        }
-        i += 1;
-    }
-    true
+    rest.iter()
+        .position(|c| !c.is_ascii_digit())
+        .unwrap_or(rest.len())
 }
 
-pub fn is_digit(c: u8) -> bool
-    ensures { Decides result (IsDigit c) }
+// How many digits the number at the head has: several have no zero at their head.
+fn count_digits(rest: &[u8]) -> Option<usize>
+    ensures { CountsDigits rest.now result }
 {
-    match c {
-        48..=57 => true,
-        _ => false,
+    match digits(rest) {
+        0 => None,
+        1 => Some(1),
+        _ if rest[0] == b'0' => None,
+        count => Some(count),
     }
-}
-
-// The place behind the digits that stand at the place.
-fn behind_digits(file: &[u8], at: usize) -> usize
-    requires { at ≤ length file.now }
-    ensures { RunsTo file.now at result }
-{
-    let mut i = at;
-    while i < file.len() {
-        if !is_digit(file[i]) {
-            return i;
-        }
-        i += 1;
-    }
-    i
-}
-
-// How many digits the number has that stands at the place, 0 for none: several have no zero at their head.
-fn count_digits(file: &[u8], at: usize) -> usize
-    requires { at ≤ length file.now }
-    ensures { CountsDigits (drop at file.now) result }
-{
-    let count = behind_digits(file, at) - at;
-    if 1 < count {
-        if file[at] == b'0' {
-            return 0;
-        }
-    }
-    count
 }
 
 // The number of these digits: one of several is ten at least.
@@ -70,33 +33,16 @@ fn number_of(digit: u8, count: usize) -> u8
     if count == 1 { digit - b'0' } else { 10 }
 }
 
-// The word, a number and the tail at the place.
-pub fn numbered(file: &[u8], at: usize, word: &[u8], tail: &[u8]) -> Numbered
-    requires { (at ≤ length file.now) × (0 < length tail.now) × NoDigitFirst tail.now }
-    ensures { FindsNumbered word.now tail.now (drop at file.now) result }
+// The word, a number and the tail at the head.
+pub fn numbered(rest: &[u8], word: &[u8], tail: &[u8]) -> Option<Numbered>
+    requires { (0 < length tail.now) × NoDigitFirst tail.now }
+    ensures { FindsNumbered word.now tail.now rest.now result }
 {
-    if !stands(file, at, word) {
-        return Numbered {
-            length: 0,
-            number: 0,
-        };
-    }
-    let from = at + word.len();
-    let count = count_digits(file, from);
-    if count == 0 {
-        return Numbered {
-            length: 0,
-            number: 0,
-        };
-    }
-    if !stands(file, from + count, tail) {
-        return Numbered {
-            length: 0,
-            number: 0,
-        };
-    }
-    Numbered {
+    let number = rest.strip_prefix(word)?;
+    let count = count_digits(number)?;
+    number[count..].strip_prefix(tail)?;
+    Some(Numbered {
         length: word.len() + count + tail.len(),
-        number: number_of(file[from], count),
-    }
+        number: number_of(number[0], count),
+    })
 }

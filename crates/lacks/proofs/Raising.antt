@@ -1,31 +1,32 @@
 -- The places whose sets have all states of a set, one state after another.
-use Prim.Native.Nat.{ℕ, ◌<◌}
-use mathlib.Core.Path.{◌≡◌, refl, sym, ◌∙◌}
+use Prim.Native.Nat.{ℕ}
+use mathlib.Core.Path.{◌≡◌, refl, sym, subst}
 use mathlib.Core.Bool.{◌&&◌}
 use mathlib.Core.Logic.{inl, inr, ⊎_elim, ◌↔◌}
 use mathlib.Core.List.{List}
 use lib.ListN.{get_or}
 use Rattle.masks.specs.Mask.{member, ◌∈◌, ◌⊆◌, TakesLowest}
-use Rattle.masks.proofs.Gathering.{Passed, passed_start, passed_end, passed_more}
-use Rattle.masks.proofs.Member.{member_lt, intersection_left, intersection_right, intersection_both}
+use Rattle.masks.proofs.Gathering.{Passed, passed_from, passed_end, passed_more}
+use Rattle.search.specs.Graph.{Having}
+use Rattle.masks.proofs.Member.{intersection_left, intersection_right, intersection_both}
 
 module _ (sets : List ℕ) (places p : ℕ) where
   -- `rest` are the states left; r has the places whose sets have the others
   abbrev pub Raised : ℕ → ℕ → Type 0
   Raised rest r = (rest ⊆ p) × ((i : ℕ) → (i ∈ r) ↔ ((i ∈ places) × Passed (λ s. s ∈ get_or sets i 0) p rest))
 
-  pub raised_start : Raised p places
-  raised_start = ((λ s h. h), λ i. ((λ h. (h, passed_start)), λ h. h.0))
+  pub raised_from : {rest : ℕ} → rest ≡ p → Raised rest places
+  raised_from all = (subst (λ (n : ℕ). n ⊆ p) (sym all) (λ s h. h), λ i. ((λ h. (h, passed_from all)), λ h. h.0))
 
   -- by has the places whose sets have the lowest state
-  pub raised_more : {rest low rest' : ℕ} (r by r' : ℕ) → TakesLowest rest low rest' → Raised rest r
-      → ((i : ℕ) → i < 64 → member i by ≡ member low (get_or sets i 0)) → ((t : ℕ) → member t r' ≡ (member t r && member t by)) → Raised rest' r'
+  pub raised_more : {rest low rest' : ℕ} (r by r' : ℕ) → TakesLowest rest low rest' → Raised rest r → Having sets low by
+      → ((t : ℕ) → member t r' ≡ (member t r && member t by)) → Raised rest' r'
   raised_more {rest} {low} {rest'} r by r' taken (sub, now) is_by is = (
     (λ s h. sub s ((taken.others s).0 h).0),
     λ i. (
       (λ h. let x = (now i).0 (intersection_left r by r' is i h) in
-          (x.0, passed_more taken x.1 (λ s n k. k) (sym (is_by i (member_lt i r' h)) ∙ intersection_right r by r' is i h))),
-      λ h. intersection_both r by r' is i ((now i).1 (h.0, before h.1)) (is_by i (member_lt i places h.0) ∙ here h.1),
+          (x.0, passed_more taken x.1 (λ s n k. k) ((is_by i).0 (intersection_right r by r' is i h)))),
+      λ h. intersection_both r by r' is i ((now i).1 (h.0, before h.1)) ((is_by i).1 (here h.1)),
     ),
   )
     where

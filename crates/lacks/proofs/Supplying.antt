@@ -1,14 +1,14 @@
 -- New claims supply states: a step inside a set is one by the old claims or one by a new claim about a part of it (`step_cases`), so masks that are freed of
--- the new claims say no more than is lacking (`supplies`); steps back to states that have a step already free none. One claim after another: `supplying_start`, `supplying_more`, `supplying_end`.
+-- the new claims say no more than is lacking (`supplies`); steps back to states that have a step already free none. One claim after another: `supplying_from`, `supplying_more`, `supplying_end`.
 use Prim.Native.Nat.{ℕ}
-use mathlib.Core.Path.{◌≡◌, refl, subst, sym, ◌∙◌}
+use mathlib.Core.Path.{◌≡◌, subst, sym, ◌∙◌}
 use mathlib.Core.Bool.{Bool, false, ◌||◌}
 use mathlib.Core.Logic.{◌⊎◌, inl, inr, ⊎_elim, ◌↔◌}
 use mathlib.Core.List.{List}
 use lib.Bits.{bit_and}
-use lib.ListN.{length, get_or}
+use lib.ListN.{get_or}
 use Rattle.masks.specs.Mask.{member, ◌∈◌, ◌⊆◌, TakesLowest}
-use Rattle.masks.proofs.Gathering.{Passed, passed_start, passed_end, passed_more}
+use Rattle.masks.proofs.Gathering.{Passed, passed_from, passed_end, passed_more}
 use Rattle.masks.proofs.Member.{in_none, not_both, true_or_false, member_and, intersection_left, intersection_right, intersection_both, union_left, union_right, union_cases}
 use Rattle.search.specs.declared.Claims.{Claims}
 use Rattle.search.specs.Graph.{Graph, TurnedGraph}
@@ -68,20 +68,18 @@ led_inside g j {old} {inner} {p} led part is q h = let x = led q h in
 
 module _ (g : Graph) (new : Claims) (led live : ℕ) where
   -- no mask gains a place, and all masks are freed of each new claim
-  supplies : {before after : List ℕ} → length after ≡ length before → (length before ≡ 64 → (q i : ℕ) → i ∈ get_or after q 0 → i ∈ get_or before q 0)
-      → ((j : ℕ) → (j ∈ new.loops) ⊎ (j ∈ new.mixes) → length before ≡ 64 → Freed g new led live after j) → Supplies g new led live before after
-  supplies size fewer freed = record {
-    length_is = size;
-    lacks = λ e old force pieces places is sub is_led was i q h k. let w = was i q (sub i h) (fewer e q i k) in record {
-      has = w.has;
-      unled = λ inner is_inner a s. let x = olds g is is_inner in let y = olds_inner g is is_inner in ⊎_elim (w.unled x y a)
-          (λ n. ⊎_elim
-          (λ f. freed n.0 n.1 e i q a h n.2 k s.start (unless n.0 a q f n.3))
-          (λ f. by_led n.0 a q n.3 (λ b. let z = led_inside g n.0 (is_led n.0 f) n.2 y q b in w.unled x y z.0 z.1)
-          (freed n.0 n.1 e i q a h n.2 k s.start)) (apart n.0)) (step_cases g is is_inner a q s);
-      unspared = w.unspared;
-    };
-  }
+  supplies : (before after : List ℕ) → ((q i : ℕ) → i ∈ get_or after q 0 → i ∈ get_or before q 0)
+      → ((j : ℕ) → (j ∈ new.loops) ⊎ (j ∈ new.mixes) → Freed g new led live after j) → Supplies g new led live before after
+  supplies before after fewer freed old force pieces places is sub is_led was i q h k =
+      let w = was i q (sub i h) (fewer q i k) in record {
+        has = w.has;
+        unled = λ inner is_inner a s. let x = olds g is is_inner in let y = olds_inner g is is_inner in ⊎_elim (w.unled x y a)
+            (λ n. ⊎_elim
+            (λ f. freed n.0 n.1 i q a h n.2 k s.start (unless n.0 a q f n.3))
+            (λ f. by_led n.0 a q n.3 (λ b. let z = led_inside g n.0 (is_led n.0 f) n.2 y q b in w.unled x y z.0 z.1)
+            (freed n.0 n.1 i q a h n.2 k s.start)) (apart n.0)) (step_cases g is is_inner a q s);
+        unspared = w.unspared;
+      }
     where
       apart : (j : ℕ) → ¬ (j ∈ led) ⊎ (j ∈ led)
       apart j = ⊎_elim inr (λ f. inl (λ h. not_both h f)) (true_or_false (member j led))
@@ -96,24 +94,22 @@ module _ (g : Graph) (new : Claims) (led live : ℕ) where
 
   -- the masks are freed of the claims about the places that are passed
   pub record Supplying (places rest : ℕ) (before after : List ℕ) : Type 0 where
-    pub length_is : length after ≡ length before
-    pub fewer : length before ≡ 64 → (q i : ℕ) → i ∈ get_or after q 0 → i ∈ get_or before q 0
-    pub freed : Passed (λ j. length before ≡ 64 → Freed g new led live after j) places rest
+    pub fewer : (q i : ℕ) → i ∈ get_or after q 0 → i ∈ get_or before q 0
+    pub freed : Passed (λ j. Freed g new led live after j) places rest
 
-  pub supplying_start : (places : ℕ) (before : List ℕ) → Supplying places places before before
-  supplying_start places before = record { length_is = refl; fewer = λ e q i h. h; freed = passed_start }
+  pub supplying_from : {places rest : ℕ} (before : List ℕ) → rest ≡ places → Supplying places rest before before
+  supplying_from before all = record { fewer = λ q i h. h; freed = passed_from all }
 
   pub supplying_more : {places rest low rest' : ℕ} {before mid after : List ℕ} → TakesLowest rest low rest' → Supplying places rest before mid
       → SuppliesClaim g new led live low mid after → Supplying places rest' before after
   supplying_more taken now claim = record {
-    length_is = claim.length_is ∙ now.length_is;
-    fewer = λ e q i h. now.fewer e q i (claim.fewer (now.length_is ∙ e) q i h);
-    freed = passed_more taken now.freed (λ j n f e i q a h s k. f e i q a h s (claim.fewer (now.length_is ∙ e) q i k)) (λ e. claim.freed (now.length_is ∙ e));
+    fewer = λ q i h. now.fewer q i (claim.fewer q i h);
+    freed = passed_more taken now.freed (λ j n f i q a h s k. f i q a h s (claim.fewer q i k)) claim.freed;
   }
 
   pub supplying_end : {places rest : ℕ} {before after : List ℕ} → ((t : ℕ) → member t places ≡ (member t new.loops || member t new.mixes))
       → Supplying places rest before after → rest ≡ 0 → Supplies g new led live before after
-  supplying_end {places} are now none = supplies now.length_is now.fewer
+  supplying_end {places} are now none = supplies _ _ now.fewer
       (λ j c. passed_end now.freed none j (⊎_elim (union_left new.loops new.mixes places are j) (union_right new.loops new.mixes places are j) c))
 
   -- the places above the set of a claim
@@ -130,19 +126,17 @@ module _ (g : Graph) (new : Claims) (led live : ℕ) where
   -- nothing is above
   pub claim_none : (j up : ℕ) (lack : List ℕ) → ((i : ℕ) → i ∈ live → get_or g.sets j 0 ⊆ get_or g.sets i 0 → i ∈ up) → up ≡ 0 → SuppliesClaim g new led live j lack lack
   claim_none j up lack over none = record {
-    length_is = refl;
-    fewer = λ e q i h. h;
-    freed = λ e i q a h s. absurd (in_none i (subst (λ (x : ℕ). i ∈ x) none (over i h s)));
+    fewer = λ q i h. h;
+    freed = λ i q a h s. absurd (in_none i (subst (λ (x : ℕ). i ∈ x) none (over i h s)));
   }
 
   -- of a set to each of whose states a step leads, only its limits
   pub claim_led : {before after : List ℕ} (j left up : ℕ) → j ∈ led → get_or g.lefts j 0 ≡ left → ((i : ℕ) → i ∈ live → get_or g.sets j 0 ⊆ get_or g.sets i 0 → i ∈ up)
       → TakenOut left up before after → SuppliesClaim g new led live j before after
   claim_led j left up is_led is_left over out = record {
-    length_is = out.length_is;
-    fewer = λ e q i h. (out.left e q i h).0;
-    freed = λ e i q a h s k b. ⊎_elim (λ x. ⊎_elim (λ y. (out.left e q i k).1 (moved q is_left y.1) (over i h s)) (λ y. y.0 is_led) x.1)
-        (λ x. (out.left e q i k).1 (moved q is_left x.2) (over i h s));
+    fewer = λ q i h. (out.left q i h).0;
+    freed = λ i q a h s k b. ⊎_elim (λ x. ⊎_elim (λ y. (out.left q i k).1 (moved q is_left y.1) (over i h s)) (λ y. y.0 is_led) x.1)
+        (λ x. (out.left q i k).1 (moved q is_left x.2) (over i h s));
   }
 
   module _ (j : ℕ) (sets : List ℕ) {p left right : ℕ} (up : ℕ) {looping : Bool} (is : looping ≡ member j new.loops)
@@ -150,13 +144,12 @@ module _ (g : Graph) (new : Claims) (led live : ℕ) where
       (is_right : get_or g.rights j 0 ≡ right) (over : (i : ℕ) → i ∈ live → get_or g.sets j 0 ⊆ get_or g.sets i 0 → i ∈ up) where
     pub claim_supplied : {before after : List ℕ} → Leads sets p left right up looping before after → SuppliesClaim g new led live j before after
     claim_supplied out = record {
-      length_is = out.length_is;
       fewer = out.fewer;
-      freed = λ e i q a h s k b. ⊎_elim
+      freed = λ i q a h s k b. ⊎_elim
           (λ x. ⊎_elim
-          (λ y. out.omega_step e (is ∙ x.0) q i (over i h s) k (moved q is_left y.1))
-          (λ y. out.back_step e (is ∙ x.0) q i a (over i h s) k (moved a is_right y.1) (moved a (sets_are i) b) (moved q is_set y.2)) x.1)
-          (λ x. out.mix_step e q i a (over i h s) k (moved a is_right x.1) (moved a (sets_are i) b) (moved q is_left x.2));
+          (λ y. out.omega_step (is ∙ x.0) q i (over i h s) k (moved q is_left y.1))
+          (λ y. out.back_step (is ∙ x.0) q i a (over i h s) k (moved a is_right y.1) (moved a (sets_are i) b) (moved q is_set y.2)) x.1)
+          (λ x. out.mix_step q i a (over i h s) k (moved a is_right x.1) (moved a (sets_are i) b) (moved q is_left x.2));
     }
 
 -- the same set is above in the graph turned round
@@ -168,21 +161,19 @@ over_turned turned live j up over i h s = over i h (λ t k. moved t (turned.sets
 module _ (sets : List ℕ) {p left up met : ℕ} (right : ℕ) (meets : (i a : ℕ) → i ∈ up → a ∈ right → a ∈ get_or sets i 0 → i ∈ met) {before : List ℕ} {looping : Bool} where
   pub leads_loop : {mid after : List ℕ} → TakenOut left up before mid → TakenOut p met mid after → Leads sets p left right up looping before after
   leads_loop {mid} {after} first then = record {
-    length_is = then.length_is ∙ first.length_is;
-    fewer = λ e q i h. (first.left e q i (earlier e q i h)).0;
-    omega_step = λ e l q i u h k. (first.left e q i (earlier e q i h)).1 k u;
-    back_step = λ e l q i a u h r s k. (then.left (first.length_is ∙ e) q i h).1 k (meets i a u r s);
-    mix_step = λ e q i a u h r s k. (first.left e q i (earlier e q i h)).1 k u;
+    fewer = λ q i h. (first.left q i (earlier q i h)).0;
+    omega_step = λ l q i u h k. (first.left q i (earlier q i h)).1 k u;
+    back_step = λ l q i a u h r s k. (then.left q i h).1 k (meets i a u r s);
+    mix_step = λ q i a u h r s k. (first.left q i (earlier q i h)).1 k u;
   }
     where
-      earlier : length before ≡ 64 → (q i : ℕ) → i ∈ get_or after q 0 → i ∈ get_or mid q 0
-      earlier e q i h = (then.left (first.length_is ∙ e) q i h).0
+      earlier : (q i : ℕ) → i ∈ get_or after q 0 → i ∈ get_or mid q 0
+      earlier q i h = (then.left q i h).0
 
   pub leads_mix : {after : List ℕ} → looping ≡ false → TakenOut left met before after → Leads sets p left right up looping before after
   leads_mix none out = record {
-    length_is = out.length_is;
-    fewer = λ e q i h. (out.left e q i h).0;
-    omega_step = λ e l. absurd (not_both l none);
-    back_step = λ e l. absurd (not_both l none);
-    mix_step = λ e q i a u h r s k. (out.left e q i h).1 k (meets i a u r s);
+    fewer = λ q i h. (out.left q i h).0;
+    omega_step = λ l. absurd (not_both l none);
+    back_step = λ l. absurd (not_both l none);
+    mix_step = λ q i a u h r s k. (out.left q i h).1 k (meets i a u r s);
   }

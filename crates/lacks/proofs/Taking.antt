@@ -1,7 +1,7 @@
 -- Places taken out of the masks of states: what all masks have (`united_more`), what letters
 -- leave in (`letters_lack`, `letters_written`), and what is spared (`sparing_more`, `sparing_end`, `letters_spared`).
 use Prim.Native.Nat.{ℕ, ◌+◌, ◌<◌}
-use mathlib.Core.Path.{◌≡◌, refl, ap, subst, ◌∙◌}
+use mathlib.Core.Path.{◌≡◌, ap, subst, ◌∙◌}
 use mathlib.Core.Bool.{◌&&◌, ◌||◌}
 use mathlib.Core.Logic.{⊎_elim, ◌↔◌}
 use mathlib.Core.List.{List}
@@ -9,12 +9,11 @@ use native.Mathlib.Omega.{arith}
 use lib.Dec.{eqb}
 use lib.ListN.{length, get_or, get_or-replicate, get_or-eq_default}
 use Rattle.masks.specs.Mask.{member, ◌∈◌, TakesLowest}
-use Rattle.masks.proofs.Gathering.{Passed, passed_start, passed_end, passed_more}
+use Rattle.masks.proofs.Gathering.{Passed, passed_from, passed_end, passed_more}
 use Rattle.masks.proofs.Storing.{Storing, storing_end}
 use Rattle.masks.proofs.Member.{in_none, true_or_false, lt_or_le, member_lt, with_same, intersection_both, union_left, union_right, union_cases}
-use Rattle.search.specs.Graph.{Graph, graph_of, BothWays}
+use Rattle.search.specs.Graph.{Graph, TurnedGraph}
 use Rattle.search.specs.Hops.{no_claims}
-use Rattle.search.proofs.Parts.{letters_at}
 use Rattle.lacks.specs.Lacks.{Lacking, ByLetters, TakenOut, Spares}
 
 -- past the 64 masks of an array there is no place
@@ -40,26 +39,22 @@ united_more lack r n r' now is i = (
 -- ---- letters alone
 
 -- a state q of the set at place i, and no state of the set with a letter step to q
-pub letters_lack : {l back : List ℕ} → BothWays l back → (i q : ℕ) → q ∈ get_or (graph_of l).sets i 0
-    → ((a : ℕ) → a ∈ get_or back q 0 → ¬ (a ∈ get_or (graph_of l).sets i 0)) → Lacking (graph_of l) no_claims 0 i q
-letters_lack {l} {back} ways i q has none = record {
+pub letters_lack : {g back : Graph} → TurnedGraph g back → (i q : ℕ) → q ∈ get_or g.sets i 0
+    → ((a : ℕ) → a ∈ get_or back.letters q 0 → ¬ (a ∈ get_or g.sets i 0)) → Lacking g no_claims 0 i q
+letters_lack turned i q has none = record {
   has = has;
   unled = λ inner is a h. ⊎_elim
-      (λ e. none a (subst (λ (x : ℕ). a ∈ x) (letters_at back q low) (ways.turned.turned a q (member_lt a _ h.start) low ∙ e)) h.start)
+      (λ e. none a (turned.turned a q (member_lt a _ h.start) (member_lt q _ has) ∙ e) h.start)
       (⊎_elim
       (⊎_elim (λ e. in_none e.0 ((is.loops_are e.0).0 e.1).0) (λ e. in_none e.0 ((is.loops_are e.0).0 e.1).0))
       (λ e. in_none e.0 ((is.mixes_are e.0).0 e.1).0)) h.kind;
   unspared = λ h. absurd (in_none i h);
 }
-  where
-    low : q < 64
-    low = member_lt q _ has
 
 -- a mask of some states is right where it has a place, and the others have nothing
 pub letters_written : (g : Graph) (states : ℕ) {rest : ℕ} {before after : List ℕ} → rest ≡ 0
     → Storing (λ q x. (i : ℕ) → i ∈ x → Lacking g no_claims 0 i q) before states rest after → ByLetters g 0 before after
 letters_written g states {before = before} {after} none now = record {
-  length_is = now.length_is;
   lacks = λ e places i q h k. ⊎_elim (λ m. storing_end now none (ap length e) q m i k)
       (λ m. let l = past_masks after (now.length_is ∙ ap length e) i q k in
       absurd (in_none i (subst (λ (x : ℕ). i ∈ x) (now.beyond q m ∙ ap (λ (x : List ℕ). get_or x q 0) e ∙ get_or-replicate 64 q 0 0 l) k))) (true_or_false (member q states));
@@ -70,35 +65,34 @@ letters_written g states {before = before} {after} none now = record {
 module _ (g : Graph) where
   -- of the places that are passed, none stands in the mask of an entrance of its set
   pub record Sparing (pieces rest : ℕ) (before after : List ℕ) : Type 0 where
-    pub length_is : length after ≡ length before
-    pub fewer : length before ≡ 64 → (q i : ℕ) → i ∈ get_or after q 0 → i ∈ get_or before q 0
-    pub spared : Passed (λ i. length before ≡ 64 → (q : ℕ) → i ∈ get_or after q 0 → q ∈ get_or g.sets i 0 → ¬ (q ∈ get_or g.lefts i 0)) pieces rest
+    pub fewer : (q i : ℕ) → i ∈ get_or after q 0 → i ∈ get_or before q 0
+    pub spared : Passed (λ i. (q : ℕ) → i ∈ get_or after q 0 → q ∈ get_or g.sets i 0 → ¬ (q ∈ get_or g.lefts i 0)) pieces rest
 
-  pub sparing_start : (pieces : ℕ) (before : List ℕ) → Sparing pieces pieces before before
-  sparing_start pieces before = record { length_is = refl; fewer = λ e q i h. h; spared = passed_start }
+  pub sparing_from : {pieces rest : ℕ} (before : List ℕ) → rest ≡ pieces → Sparing pieces rest before before
+  sparing_from before all = record { fewer = λ q i h. h; spared = passed_from all }
 
   pub sparing_more : {pieces rest low rest' : ℕ} {before mid after : List ℕ} → TakesLowest rest low rest' → Sparing pieces rest before mid → (m w : ℕ)
       → ((t : ℕ) → member t m ≡ (member t (get_or g.sets low 0) && member t (get_or g.lefts low 0)))
       → ((t : ℕ) → member t w ≡ (member t 0 || eqb t low)) → TakenOut m w mid after → Sparing pieces rest' before after
   sparing_more {low = low} taken now m w is_m is_w out = record {
-    length_is = out.length_is ∙ now.length_is;
-    fewer = λ e q i h. now.fewer e q i (out.left (now.length_is ∙ e) q i h).0;
-    spared = passed_more taken now.spared (λ i n f e q h. f e q (out.left (now.length_is ∙ e) q i h).0)
-        (λ e q h s t. (out.left (now.length_is ∙ e) q low h).1 (intersection_both (get_or g.sets low 0) (get_or g.lefts low 0) m is_m q s t) (with_same 0 low w is_w));
+    fewer = λ q i h. now.fewer q i (out.left q i h).0;
+    spared = passed_more taken now.spared (λ i n f q h. f q (out.left q i h).0)
+        (λ q h s t. (out.left q low h).1 (intersection_both (get_or g.sets low 0) (get_or g.lefts low 0) m is_m q s t) (with_same 0 low w is_w));
   }
 
   pub sparing_end : {pieces rest : ℕ} {before after : List ℕ} → Sparing pieces rest before after → rest ≡ 0 → Spares g pieces before after
   sparing_end now none = record {
-    length_is = now.length_is;
-    left = λ e q i h. (now.fewer e q i h, λ k. passed_end now.spared none i k e q h);
+    left = λ q i h. (now.fewer q i h, λ k. passed_end now.spared none i k q h);
   }
 
   -- after letters, entrances are spared
-  pub letters_spared : {pieces : ℕ} {before mid after : List ℕ} → ByLetters g 0 before mid → Spares g pieces mid after → ByLetters g pieces before after
-  letters_spared was out = record {
-    length_is = out.length_is ∙ was.length_is;
+  pub letters_spared : {h : Graph} {pieces : ℕ} {before mid after : List ℕ} → h ≡ g → ByLetters g 0 before mid → Spares h pieces mid after → ByLetters g pieces before after
+  letters_spared {pieces = pieces} {mid = mid} {after = after} same was spares = record {
     lacks = λ e places i q h k.
-        let s = out.left (was.length_is ∙ ap length e) q i k in
+        let s = out.left q i k in
         let w = was.lacks e places i q h s.0 in
         record { has = w.has; unled = w.unled; unspared = λ p. s.1 p w.has };
   }
+    where
+      out : Spares g pieces mid after
+      out = subst (λ (x : Graph). Spares x pieces mid after) same spares

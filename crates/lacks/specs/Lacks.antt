@@ -1,5 +1,5 @@
 -- Which states of which sets no step inside the set leads to. With every step turned round: which states no step leads from.
-use Rattle.std.specs.Prelude.{ℕ, ◌<◌, ◌≡◌, Bool, true, ◌⊎◌, ◌↔◌, List, length, get_or, replicate}
+use Rattle.std.specs.Prelude.{ℕ, ◌<◌, ◌≡◌, Bool, true, ◌⊎◌, ◌↔◌, List, get_or, replicate}
 use Rattle.masks.specs.Mask.{◌∈◌, ◌⊆◌}
 use Rattle.search.specs.declared.Claims.{Claims}
 use Rattle.search.specs.Graph.{Graph}
@@ -26,7 +26,6 @@ LacksIn g force pieces places lack = (i q : ℕ) → i ∈ places → i ∈ get_
 
 -- the masks, which had nothing, become so where no claim is in force
 pub record ByLetters (g : Graph) (pieces : ℕ) (before after : List ℕ) : Type 0 where
-  pub length_is : length after ≡ length before
   pub lacks : before ≡ replicate 64 0 → (places : ℕ) → LacksIn g no_claims pieces places after
 
 -- to each state of the set at place i a step leads inside the set, with the claims in force
@@ -36,10 +35,9 @@ LedAt g force i = (q : ℕ) → q ∈ get_or g.sets i 0
 
 -- new claims supplied: where the masks were so with old claims, they are so with the new ones too, at the places live; so far as to each state of
 -- the sets at the places led a step leads with the old claims
-pub record Supplies (g : Graph) (new : Claims) (led live : ℕ) (before after : List ℕ) : Type 0 where
-  pub length_is : length after ≡ length before
-  pub lacks : length before ≡ 64 → (old force : Claims) (pieces places : ℕ) → WithNew old new force → live ⊆ places
-      → ((j : ℕ) → j ∈ led → LedAt g old j) → LacksIn g old pieces places before → LacksIn g force pieces live after
+abbrev pub Supplies : Graph → Claims → ℕ → ℕ → List ℕ → List ℕ → Type 0
+Supplies g new led live before after = (old force : Claims) (pieces places : ℕ) → WithNew old new force → live ⊆ places
+    → ((j : ℕ) → j ∈ led → LedAt g old j) → LacksIn g old pieces places before → LacksIn g force pieces live after
 
 -- r has the places live whose sets have a part that a new claim is about
 abbrev pub AboveNew : Graph → Claims → ℕ → ℕ → Type 0
@@ -48,9 +46,9 @@ AboveNew g new live r =
 
 -- ---- one state, one place, one claim
 
--- r has the places whose sets have one of the states m
-abbrev pub Meeting : List ℕ → ℕ → ℕ → Type 0
-Meeting sets m r = (i : ℕ) → (i ∈ r) ↔ ((s : ℕ) × (s ∈ m) × (s ∈ get_or sets i 0))
+-- some mask of a state has the place i
+abbrev pub InSome : List ℕ → ℕ → Type 0
+InSome lack i = (q : ℕ) × (i ∈ get_or lack q 0) × (q < 64)
 
 -- r has those of the places whose sets have p as a part
 abbrev pub Above : List ℕ → ℕ → ℕ → ℕ → Type 0
@@ -62,24 +60,21 @@ Without sets q sources r = (i : ℕ) → i ∈ r → (q ∈ get_or sets i 0) × 
 
 -- the masks at the states m lose these places; no mask gains a place
 pub record TakenOut (m places : ℕ) (before after : List ℕ) : Type 0 where
-  pub length_is : length after ≡ length before
-  pub left : length before ≡ 64 → (q i : ℕ) → i ∈ get_or after q 0 → (i ∈ get_or before q 0) × (q ∈ m → ¬ (i ∈ places))
+  pub left : (q i : ℕ) → i ∈ get_or after q 0 → (i ∈ get_or before q 0) × (q ∈ m → ¬ (i ∈ places))
 
 -- no mask gains a place, and none keeps a place among pieces whose set has its state as an entrance
 pub record Spares (g : Graph) (pieces : ℕ) (before after : List ℕ) : Type 0 where
-  pub length_is : length after ≡ length before
-  pub left : length before ≡ 64 → (q i : ℕ) → i ∈ get_or after q 0
+  pub left : (q i : ℕ) → i ∈ get_or after q 0
       → (i ∈ get_or before q 0) × (i ∈ pieces → q ∈ get_or g.sets i 0 → ¬ (q ∈ get_or g.lefts i 0))
 
 -- no mask gains a place; at the places up, whose sets have the part p, the masks then say of no state to which a claim about p leads inside the
 -- set that it is lacking: a loop leads to the states left, and to those of p where the set has one of the states right; a mix leads to the states
 -- left where the set has one of those
 pub record Leads (sets : List ℕ) (p left right up : ℕ) (looping : Bool) (before after : List ℕ) : Type 0 where
-  pub length_is : length after ≡ length before
-  pub fewer : length before ≡ 64 → (q i : ℕ) → i ∈ get_or after q 0 → i ∈ get_or before q 0
-  pub omega_step : length before ≡ 64 → looping ≡ true → (q i : ℕ) → i ∈ up → i ∈ get_or after q 0 → ¬ (q ∈ left)
-  pub back_step : length before ≡ 64 → looping ≡ true → (q i a : ℕ) → i ∈ up → i ∈ get_or after q 0 → a ∈ right → a ∈ get_or sets i 0 → ¬ (q ∈ p)
-  pub mix_step : length before ≡ 64 → (q i a : ℕ) → i ∈ up → i ∈ get_or after q 0 → a ∈ right → a ∈ get_or sets i 0 → ¬ (q ∈ left)
+  pub fewer : (q i : ℕ) → i ∈ get_or after q 0 → i ∈ get_or before q 0
+  pub omega_step : looping ≡ true → (q i : ℕ) → i ∈ up → i ∈ get_or after q 0 → ¬ (q ∈ left)
+  pub back_step : looping ≡ true → (q i a : ℕ) → i ∈ up → i ∈ get_or after q 0 → a ∈ right → a ∈ get_or sets i 0 → ¬ (q ∈ p)
+  pub mix_step : (q i a : ℕ) → i ∈ up → i ∈ get_or after q 0 → a ∈ right → a ∈ get_or sets i 0 → ¬ (q ∈ left)
 
 -- a step from a to b by the new claims about the set at place j; back to a state of the set only where the place is not among led
 abbrev pub ClaimStep : Graph → Claims → ℕ → ℕ → ℕ → ℕ → Type 0
@@ -95,6 +90,5 @@ Freed g new led live lack j =
 
 -- no mask gains a place, and the new claims about the set at place j are supplied
 pub record SuppliesClaim (g : Graph) (new : Claims) (led live j : ℕ) (before after : List ℕ) : Type 0 where
-  pub length_is : length after ≡ length before
-  pub fewer : length before ≡ 64 → (q i : ℕ) → i ∈ get_or after q 0 → i ∈ get_or before q 0
-  pub freed : length before ≡ 64 → Freed g new led live after j
+  pub fewer : (q i : ℕ) → i ∈ get_or after q 0 → i ∈ get_or before q 0
+  pub freed : Freed g new led live after j

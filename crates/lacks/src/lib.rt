@@ -2,65 +2,49 @@
 // is an entrance. A place that a mask does not have says nothing, so a new claim only takes places out.
 #![tactic(auto)]
 
-ghost use Rattle.std.specs.Prelude.{◌↔◌, ℕ, ◌≤◌, ◌<◌, get_or};
+ghost use Rattle.std.specs.Prelude.{◌⊎◌, ◌↔◌, ℕ, ◌≤◌, ◌<◌, get_or};
 ghost use Rattle.lists.specs.Tests.{Decides};
 ghost use Rattle.masks.specs.Mask.{◌∈◌};
-ghost use Rattle.search.specs.Graph.{Graph, graph_of, TurnedGraph, Indexed, BothWays};
-ghost use Rattle.lacks.specs.Lacks.{Pieced, PiecedBelow, ByLetters, Supplies, AboveNew};
-ghost use Rattle.lacks.specs.Lacks.{Meeting, Above, Without, TakenOut, Spares, Leads, SuppliesClaim};
+ghost use Rattle.search.specs.Graph.{Graph, TurnedGraph};
+ghost use Rattle.search.specs.Hops.{no_claims};
+ghost use Rattle.lacks.specs.Lacks.{Pieced, PiecedBelow, LacksIn, ByLetters, Supplies, AboveNew};
+ghost use Rattle.lacks.specs.Lacks.{InSome, Above, Without, TakenOut, Spares, Leads, SuppliesClaim};
 
-use masks::{
-    Places, STATES, Set, below, difference, has, intersection, meets, take_lowest, union, with,
-};
-use search::Claims;
-use search::graphs::{BY_SETS, Masks, SETS, lefts_at, mask_at, rights_at, set_at, targets_in};
+use masks::{Places, STATES, Set, below, difference, each, has, intersection, meets, union, with};
 use search::moves::marked;
+use search::{Claims, IndexedGraph, TwoWayGraph};
 
 // Has the set at place `i` an entrance and an exit?
-fn is_pieced(graph: &Masks, i: usize) -> bool
+fn is_pieced(graph: &IndexedGraph, i: usize) -> bool
     requires { i < 64 }
-    ensures { Decides result (Pieced (graph_of graph.now) i) }
+    ensures { Decides result (Pieced graph.now i) }
 {
-    let p = set_at(graph, i);
-    if !meets(p, lefts_at(graph, i)) {
+    let p = graph.set_at(i);
+    if !meets(p, graph.lefts_at(i)) {
         return false;
     }
-    meets(p, rights_at(graph, i))
+    meets(p, graph.rights_at(i))
 }
 
 // The places of the first `set_count` sets that have an entrance and an exit.
-pub fn pieced(graph: &Masks, set_count: usize) -> Places
+pub fn pieced(graph: &IndexedGraph, set_count: usize) -> Places
     requires { set_count ≤ 64 }
-    ensures { PiecedBelow (graph_of graph.now) set_count result }
+    ensures { PiecedBelow graph.now set_count result }
 {
     let mut r: Places = 0;
-    let mut i = 0;
-    while i < set_count {
+    for i in 0..set_count {
         r = union(r, marked(is_pieced(graph, i), i as u8));
-        i += 1;
     }
     r
 }
 
-// The places whose sets have one of the states `m`.
-fn meeting(graph: &Masks, m: Set) -> Places
-    requires { Indexed graph.now }
-    ensures { Meeting (graph_of graph.now).sets m result }
-{
-    targets_in(graph, BY_SETS, m)
-}
-
 // Those of the places whose sets have all states of `p`.
-fn above(graph: &Masks, places: Places, p: Set) -> Places
-    requires { Indexed graph.now }
-    ensures { Above (graph_of graph.now).sets places p result }
+fn above(graph: &IndexedGraph, places: Places, p: Set) -> Places
+    ensures { Above graph.now.sets places p result }
 {
     let mut r = places;
-    let mut rest = p;
-    while rest != 0 {
-        let next = take_lowest(rest);
-        r = intersection(r, mask_at(graph, BY_SETS, next.low as usize));
-        rest = next.rest;
+    for s in each(p) {
+        r = intersection(r, graph.having(s as usize));
     }
     r
 }
@@ -72,98 +56,69 @@ fn take_out(lack: &mut [Places; STATES], m: Set, places: Places)
     if places == 0 {
         return;
     }
-    let mut rest = m;
-    while rest != 0 {
-        let next = take_lowest(rest);
-        let at = next.low as usize;
+    for s in each(m) {
+        let at = s as usize;
         lack[at] = difference(lack[at], places);
-        rest = next.rest;
     }
 }
 
 // The places of the sets that have the state `q` but no state with a letter step to it, which `sources` has.
-fn unled(graph: &Masks, q: usize, sources: Set) -> Places
-    requires { Indexed graph.now × (q < 64) }
-    ensures { Without (graph_of graph.now).sets q sources result }
+fn unled(graph: &IndexedGraph, q: usize, sources: Set) -> Places
+    requires { q < 64 }
+    ensures { Without graph.now.sets q sources result }
 {
-    let by = mask_at(graph, BY_SETS, q);
+    let by = graph.having(q);
     if by == 0 {
         return 0;
     }
-    difference(by, meeting(graph, sources))
+    difference(by, graph.meeting(sources))
 }
 
-// Writes for each of the states the places of the sets in which it is lacking where no claim is in force. `back` is the graph turned round.
-fn write_unled(lack: &mut [Places; STATES], graph: &Masks, back: &Masks, states: Set)
-    requires { BothWays graph.now back.now }
-    ensures { ByLetters (graph_of graph.now) 0 lack.old lack.new }
+// Writes for each of the states the places of the sets in which it is lacking where no claim is in force.
+fn write_unled(lack: &mut [Places; STATES], graph: &TwoWayGraph, states: Set)
+    ensures { ByLetters graph.now 0 lack.old lack.new }
 {
-    let mut rest = states;
-    while rest != 0 {
-        let next = take_lowest(rest);
-        let q = next.low as usize;
-        lack[q] = unled(graph, q, back[q]);
-        rest = next.rest;
+    let forth = graph.forth();
+    let back = graph.back();
+    for s in each(states) {
+        let q = s as usize;
+        lack[q] = unled(forth, q, back.letters_at(q));
     }
 }
 
 // Takes each of the places out of the masks at the entrances of its set: an entrance needs no step to it.
-fn spare(lack: &mut [Places; STATES], graph: &Masks, pieces: Places)
-    ensures { Spares (graph_of graph.now) pieces lack.old lack.new }
+fn spare(lack: &mut [Places; STATES], graph: &IndexedGraph, pieces: Places)
+    ensures { Spares graph.now pieces lack.old lack.new }
 {
-    let mut rest = pieces;
-    while rest != 0 {
-        let next = take_lowest(rest);
-        let at = next.low as usize;
-        let m = intersection(set_at(graph, at), lefts_at(graph, at));
-        take_out(lack, m, with(0, next.low));
-        rest = next.rest;
+    for i in each(pieces) {
+        let at = i as usize;
+        let m = intersection(graph.set_at(at), graph.lefts_at(at));
+        take_out(lack, m, with(0, i));
     }
 }
 
 // The same as `write_unled`, but that an entrance is not lacking at the places `pieces`.
-fn by_letters(lack: &mut [Places; STATES], graph: &Masks, back: &Masks, pieces: Places, states: Set)
-    requires { BothWays graph.now back.now }
-    ensures { ByLetters (graph_of graph.now) pieces lack.old lack.new }
+fn write_by_letters(lack: &mut [Places; STATES], graph: &TwoWayGraph, pieces: Places, states: Set)
+    ensures { ByLetters graph.now pieces lack.old lack.new }
 {
-    write_unled(lack, graph, back, states);
-    spare(lack, graph, pieces);
-}
-
-// The same forward and backward, of the states of the first `set_count` sets: no other is in a set.
-pub fn both_by_letters(
-    to: &mut [Places; STATES],
-    from: &mut [Places; STATES],
-    graph: &Masks,
-    back: &Masks,
-    pieces: Places,
-    set_count: usize,
-)
-    requires { BothWays graph.now back.now × (set_count ≤ 64) }
-    ensures forward { ByLetters (graph_of graph.now) pieces to.old to.new }
-    ensures backward { ByLetters (graph_of back.now) pieces from.old from.new }
-{
-    let states = targets_in(graph, SETS, below(set_count));
-    by_letters(to, graph, back, pieces, states);
-    by_letters(from, back, graph, pieces, states);
+    write_unled(lack, graph, states);
+    spare(lack, graph.forth(), pieces);
 }
 
 // Takes the places `up`, whose sets have the part `p`, out of the masks of the states to which a claim about `p` leads inside the set: a loop, or
 // else a mix.
 fn lead(
     lack: &mut [Places; STATES],
-    graph: &Masks,
+    graph: &IndexedGraph,
     p: Set,
     left: Set,
     right: Set,
     up: Places,
     looping: bool,
 )
-    requires { Indexed graph.now }
-    ensures { Leads (graph_of graph.now).sets p left right up looping lack.old
-        lack.new }
+    ensures { Leads graph.now.sets p left right up looping lack.old lack.new }
 {
-    let met = intersection(up, meeting(graph, right));
+    let met = intersection(up, graph.meeting(right));
     if looping {
         take_out(lack, left, up);
         take_out(lack, p, met);
@@ -172,79 +127,100 @@ fn lead(
     take_out(lack, left, met);
 }
 
-// Supplies the new claims about the set at place `i`, forward and backward; answers the places `live` whose sets have that set as a part. A set
-// among `led` has a step to and from each of its states already: only the limits are new.
-fn supply_claim(
-    to: &mut [Places; STATES],
-    from: &mut [Places; STATES],
-    graph: &Masks,
-    new: Claims,
-    led: Places,
-    i: u8,
-    live: Places,
-) -> Places
-    requires { Indexed graph.now × (i < 64) }
-    ensures forward { SuppliesClaim (graph_of graph.now) new led live i to.old
-        to.new }
-    ensures backward { (back : Graph) → TurnedGraph (graph_of graph.now) back
-        → SuppliesClaim back new led live i from.old from.new }
-    ensures above { Above (graph_of graph.now).sets live
-        (get_or (graph_of graph.now).sets i 0) result }
-{
-    let at = i as usize;
-    let p = set_at(graph, at);
-    let up = above(graph, live, p);
-    if up == 0 {
-        return 0;
-    }
-    let left = lefts_at(graph, at);
-    let right = rights_at(graph, at);
-    if has(led, i) {
-        take_out(to, left, up);
-        take_out(from, right, up);
-        return up;
-    }
-    let looping = has(new.loops, i);
-    lead(to, graph, p, left, right, up, looping);
-    lead(from, graph, p, right, left, up, looping);
-    up
-}
-
-// Takes out what new claims supply, forward and backward; answers the places `live` whose sets have a part that a new claim is about. To and from
-// each state of the sets at the places `led` a step leads without the new claims.
-pub fn supply(
-    to: &mut [Places; STATES],
-    from: &mut [Places; STATES],
-    graph: &Masks,
-    new: Claims,
-    led: Places,
-    live: Places,
-) -> Places
-    requires { Indexed graph.now }
-    ensures forward { Supplies (graph_of graph.now) new led live to.old to.new }
-    ensures backward { (back : Graph) → TurnedGraph (graph_of graph.now) back
-        → Supplies back new led live from.old from.new }
-    ensures above { AboveNew (graph_of graph.now) new live result }
+// The places that some mask has.
+fn some_has(lack: &[Places; STATES]) -> Places
+    ensures { (i : ℕ) → (i ∈ result) ↔ InSome lack.now i }
 {
     let mut r: Places = 0;
-    let mut rest = union(new.loops, new.mixes);
-    while rest != 0 {
-        let next = take_lowest(rest);
-        r = union(r, supply_claim(to, from, graph, new, led, next.low, live));
-        rest = next.rest;
+    for places in lack {
+        r = union(r, *places);
     }
     r
 }
 
-// The places that some mask has: there a state is lacking.
-pub fn stuck(lack: &[Places; STATES]) -> Places
-    ensures { (i : ℕ) → (i ∈ result) ↔ ((q : ℕ) × (i ∈ get_or lack.now q 0) × (q < 64)) }
-{
-    let mut r: Places = 0;
-    let mut q = 0;
-    while q < STATES {
-        r = union(r, lack[q]);
-        q += 1;
+// The lacks forward, of states that no step leads to, and backward, of states that no step leads from. Two arrays, not one of pairs: places are
+// taken out in one direction at a time.
+#[derive(Drop)]
+pub struct Lacks {
+    pub to: [Places; STATES],
+    pub from: [Places; STATES],
+}
+
+impl Lacks {
+    // Where no claim is in force, of the states of the first `set_count` sets: no other is in a set. An entrance, and backward an exit, is not lacking
+    // at the places `pieces`.
+    pub fn by_letters(graph: &TwoWayGraph, pieces: Places, set_count: usize) -> Self
+        requires { set_count ≤ 64 }
+        ensures forward { (places : ℕ) → LacksIn graph.now no_claims pieces places result.to }
+        ensures backward { (back : Graph) → TurnedGraph graph.now back
+            → (places : ℕ) → LacksIn back no_claims pieces places result.from }
+    {
+        let states = graph.forth().states_of(below(set_count));
+        let turned = graph.turned();
+        let mut lacks = Lacks {
+            to: [0u64; STATES],
+            from: [0u64; STATES],
+        };
+        write_by_letters(&mut lacks.to, graph, pieces, states);
+        write_by_letters(&mut lacks.from, &turned, pieces, states);
+        lacks
     }
-    r
+
+    // Supplies the new claims about the set at place `i`; answers the places `live` whose sets have that set as a part. A set among `led` has a step
+    // to and from each of its states already: only the limits are new.
+    fn supply_claim(
+        &mut self,
+        graph: &IndexedGraph,
+        new: Claims,
+        led: Places,
+        i: u8,
+        live: Places,
+    ) -> Places
+        requires { i < 64 }
+        ensures forward { SuppliesClaim graph.now new led live i self.old.to self.new.to }
+        ensures backward { (back : Graph) → TurnedGraph graph.now back
+            → SuppliesClaim back new led live i self.old.from self.new.from }
+        ensures above { Above graph.now.sets live (get_or graph.now.sets i 0) result }
+    {
+        let at = i as usize;
+        let p = graph.set_at(at);
+        let up = above(graph, live, p);
+        if up == 0 {
+            return 0;
+        }
+        let left = graph.lefts_at(at);
+        let right = graph.rights_at(at);
+        if has(led, i) {
+            take_out(&mut self.to, left, up);
+            take_out(&mut self.from, right, up);
+            return up;
+        }
+        let looping = has(new.loops, i);
+        lead(&mut self.to, graph, p, left, right, up, looping);
+        lead(&mut self.from, graph, p, right, left, up, looping);
+        up
+    }
+
+    // Takes out what new claims supply; answers the places `live` whose sets have a part that a new claim is about. To and from each state of the sets
+    // at the places `led` a step leads without the new claims.
+    pub fn supply(&mut self, graph: &IndexedGraph, new: Claims, led: Places, live: Places) -> Places
+        ensures forward { Supplies graph.now new led live self.old.to self.new.to }
+        ensures backward { (back : Graph) → TurnedGraph graph.now back
+            → Supplies back new led live self.old.from self.new.from }
+        ensures above { AboveNew graph.now new live result }
+    {
+        let places = new.places();
+        let mut r: Places = 0;
+        for i in each(places) {
+            r = union(r, self.supply_claim(graph, new, led, i, live));
+        }
+        r
+    }
+
+    // The places that some mask has: there a state is lacking, forward or backward.
+    pub fn stuck(&self) -> Places
+        ensures { (i : ℕ) → (i ∈ result) ↔ (InSome self.now.to i ⊎ InSome self.now.from i) }
+    {
+        union(some_has(&self.to), some_has(&self.from))
+    }
 }

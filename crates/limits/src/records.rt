@@ -1,7 +1,7 @@
 // Records that no calls make. Where a count is outside the arrays, or more rounds are done than calls lead to, every call is refused as 24, and
 // all is as it was; so is a return to a mark that keeps such a thing. On others the answer is free, and what is run is that each call ends.
 use machine::{MOST_ROWS, MOST_SETS, Phase, Verdict};
-use marks::{Kept, MOST_MARKS, Marks};
+use marks::{Kept, MOST_MARKS, Mark, Marks};
 use program_output::say;
 use session::Session;
 
@@ -12,36 +12,30 @@ fn try_call(rt: &impl Print, record: Session, line: &[u8]) {
     script::run_line(rt, record, line);
 }
 
-fn try_changes(rt: &impl Print, record: Session) {
-    try_call(rt, record, b"load 020103006100");
-    try_call(rt, record, b"withdraw 0100");
-}
+// The calls with a name.
+const NAMED: [&str; 2] = ["mark a", "return a"];
 
-fn try_moves(rt: &impl Print, record: Session) {
-    try_call(rt, record, b"close");
-    try_call(rt, record, b"round");
-    try_call(rt, record, b"reopen");
-    try_call(rt, record, b"verdict");
-}
-
-fn try_reports(rt: &impl Print, record: Session) {
-    try_call(rt, record, b"print");
-    try_call(rt, record, b"save");
-    try_call(rt, record, b"expression");
-}
-
-fn try_names(rt: &impl Print, record: Session) {
-    try_call(rt, record, b"mark a");
-    try_call(rt, record, b"return a");
-}
+// Every call.
+const ALL: [&str; 11] = [
+    "load 020103006100",
+    "withdraw 0100",
+    "close",
+    "round",
+    "reopen",
+    "verdict",
+    "print",
+    "save",
+    "expression",
+    "mark a",
+    "return a",
+];
 
 // Every call on the record.
 fn try_all(rt: &impl Print, name: &[u8], record: Session) {
     say(rt, name);
-    try_changes(rt, record);
-    try_moves(rt, record);
-    try_reports(rt, record);
-    try_names(rt, record);
+    for line in ALL {
+        try_call(rt, record, line.as_bytes());
+    }
 }
 
 // A record with these counts, and nothing else.
@@ -152,16 +146,16 @@ fn marked(count: usize, row_count: usize, phase: Phase, rounds: u8) -> Session {
     let fresh = Session::fresh();
     let high = [0u64; MOST_ROWS];
     let low = [0u16; MOST_ROWS];
-    let one = Kept {
+    let kept = Kept {
         high,
         low,
         row_count,
         phase,
         rounds,
     };
-    let names = [b'a' as u64; MOST_MARKS];
-    let kept = [one; MOST_MARKS];
-    let marks = Marks { names, kept, count };
+    let name = u64::from(b'a');
+    let marks = [Mark { name, kept }; MOST_MARKS];
+    let marks = Marks { marks, count };
     Session { marks, ..fresh }
 }
 
@@ -178,7 +172,10 @@ fn too_many_marks(rt: &impl Print) {
 // The two calls on a record whose marks keep what no mark keeps.
 fn try_kept(rt: &impl Print, name: &[u8], row_count: usize, phase: Phase, rounds: u8) {
     say(rt, name);
-    try_names(rt, marked(4, row_count, phase, rounds));
+    let record = marked(4, row_count, phase, rounds);
+    for line in NAMED {
+        try_call(rt, record, line.as_bytes());
+    }
 }
 
 // Returns that are refused as 24: more rows than there are keys, more rounds than any session has done.

@@ -1,13 +1,15 @@
--- What one row does to the arrays. By kind there is a mask of states; three counts are those of rows, of letter rows and of sets.
-use Rattle.std.specs.Prelude.{ℕ, ◌+◌, ◌-◌, ◌*◌, ◌/◌, ◌%◌, ◌≤◌, ◌<◌, ◌≡◌, Bool, true, false, ◌⊎◌, ◌≢◌, List, length, get_or}
+-- What one row does to the masks of a graph, to the words of letter rows, and to what is kept of the rows met.
+use Rattle.std.specs.Prelude.{ℕ, ◌+◌, ◌-◌, ◌*◌, ◌/◌, ◌%◌, ◌≤◌, ◌<◌, ◌≡◌, Bool, true, false, ◌⊎◌, ◌≢◌, List, length, get_or, set, Option, None, Some, Result, Ok, Err}
 use Rattle.masks.specs.Mask.{◌∈◌}
 use Rattle.chains.specs.Chains.{Chains}
-use Rattle.rows.specs.declared.ReadRow.TheVariants.{Read, Refused}
+use Rattle.causes.specs.declared.Cause.{Cause}
+use Rattle.causes.specs.declared.Cause.TheVariants.{TooManyRows, TooManySets}
 use Rattle.rows.specs.Reading.{row_at, read_row}
 use Rattle.search.specs.Graph.{part}
 use Rattle.automaton.specs.Promise.{Adds, AddsAt}
-use Rattle.loader.specs.declared.Took.{Took}
-use Rattle.loader.specs.declared.Took.TheVariants.{Row, Stopped}
+use Rattle.loader.specs.declared.Letters.{Letters}
+use Rattle.loader.specs.declared.Sets.{Sets}
+use Rattle.loader.specs.declared.Loading.{Loading}
 
 -- the chain of a letter row's word, and that of a set; the factors are primes of 32 bits, which spread them
 unfoldable pub letter_chain : ℕ → ℕ
@@ -16,57 +18,34 @@ letter_chain w = w / 4294967296 % 16777216 * 3032491095 / 65536 % 1024
 unfoldable pub set_chain : ℕ → ℕ
 set_chain P = (P % 4294967296 * 2654435761 / 4194304 % 512 + P / 4294967296 * 3266489917 / 4194304 % 512) % 512
 
-abbrev pub rows_met : List ℕ → ℕ
-rows_met counts = get_or counts 0 0
+-- the words of the letter rows stand first, in their chains
+pub record LettersReady (words : List ℕ) (l : Letters) : Type 0 where
+  pub sizes : (length words ≡ 256) × (length l.next ≡ 256) × (length l.heads ≡ 1024)
+  pub few : l.count ≤ 256
+  pub chains : Chains letter_chain l.heads l.next words l.count
 
-abbrev pub letters_met : List ℕ → ℕ
-letters_met counts = get_or counts 1 0
+-- the sets stand first in their part of the graph, in their chains
+pub record SetsReady (graph : List ℕ) (s : Sets) : Type 0 where
+  pub sizes : (length graph ≡ 448) × (length s.next ≡ 64) × (length s.heads ≡ 512)
+  pub few : s.count ≤ 64
+  pub chains : Chains set_chain s.heads s.next (part graph 64) s.count
 
-abbrev pub sets_met : List ℕ → ℕ
-sets_met counts = get_or counts 2 0
+-- there are at most 256 rows, no fewer than letter rows
+pub record Ready (graph words : List ℕ) (m : Loading) : Type 0 where
+  pub few : m.row_count ≤ 256
+  pub few_letters : m.letters.count ≤ m.row_count
+  pub letters : LettersReady words m.letters
+  pub sets : SetsReady graph m.sets
 
--- the lengths of the arrays of letter rows, and of those of sets
-abbrev pub LetterSizes : List ℕ → List ℕ → List ℕ → Type 0
-LetterSizes letters next heads = (length letters ≡ 256) × (length next ≡ 256) × (length heads ≡ 1024)
+-- what came of a row that can be refused: nothing, or its cause
+abbrev pub Came : Type 0
+Came = Result (Unit {0}) Cause
 
-abbrev pub SetSizes : List ℕ → List ℕ → List ℕ → Type 0
-SetSizes graph next heads = (length graph ≡ 448) × (length next ≡ 64) × (length heads ≡ 512)
-
--- a row more, with so many letter rows and sets
-pub record Counted (counts : List ℕ) (letters sets : ℕ) (counts' : List ℕ) : Type 0 where
-  pub size : length counts' ≡ 3
-  pub one_row : rows_met counts' ≡ rows_met counts + 1
-  pub letters_are : letters_met counts' ≡ letters_met counts + letters
-  pub sets_are : sets_met counts' ≡ sets_met counts + sets
-
--- the arrays of letter rows hold no more than there are rows, in their chains
-pub record LettersReady (letters next heads counts : List ℕ) : Type 0 where
-  pub sizes : LetterSizes letters next heads
-  pub few : letters_met counts ≤ rows_met counts
-  pub chains : Chains letter_chain heads next letters (letters_met counts)
-
--- the graph holds at most 64 sets, in their chains
-pub record SetsReady (graph next heads counts : List ℕ) : Type 0 where
-  pub sizes : SetSizes graph next heads
-  pub few : sets_met counts ≤ 64
-  pub chains : Chains set_chain heads next (part graph 64) (sets_met counts)
-
--- at most 256 rows are counted
-abbrev pub Counting : List ℕ → Type 0
-Counting counts = (length counts ≡ 3) × (rows_met counts ≤ 256)
-
--- some first places, at most so many, stand in chains
-pub record Linked (key : ℕ → ℕ) (heads next words : List ℕ) (most : ℕ) : Type 0 where
-  pub count : ℕ
-  pub few : count ≤ most
-  pub chains : Chains key heads next words count
-
--- a state put into the mask at a place: it is in it, or 256 rows stand, or it is put in
-pub data PutsState (old counts : List ℕ) (at s : ℕ) (new counts' : List ℕ) : ℕ → Type 0 where
-  stands : s ∈ get_or old at 0 → new ≡ old → counts' ≡ counts → PutsState old counts at s new counts' 0
-  full : ¬ (s ∈ get_or old at 0) → rows_met counts ≡ 256 → PutsState old counts at s new counts' 6
-  put : ¬ (s ∈ get_or old at 0) → rows_met counts < 256 → length new ≡ length old → Adds (get_or old at 0) s (get_or new at 0)
-      → ((j : ℕ) → j ≢ at → get_or new j 0 ≡ get_or old j 0) → Counted counts 0 0 counts' → PutsState old counts at s new counts' 0
+-- a state put into a mask: it is in it, or 256 rows stand, or it is put in
+pub data PutsState (old rows s new rows' : ℕ) : Came → Type 0 where
+  stands : s ∈ old → new ≡ old → rows' ≡ rows → PutsState old rows s new rows' (Ok tt)
+  full : ¬ (s ∈ old) → rows ≡ 256 → PutsState old rows s new rows' (Err TooManyRows)
+  put : ¬ (s ∈ old) → rows < 256 → Adds old s new → rows' ≡ rows + 1 → PutsState old rows s new rows' (Ok tt)
 
 -- the word w is one of the first n
 abbrev pub WordAt : List ℕ → ℕ → ℕ → Type 0
@@ -86,60 +65,52 @@ LetterMet graph letters n p q w true = WordAt letters n w
 LetterMet graph letters n p q w false = LetterNew graph letters n p q w
 
 -- a letter row put in: the mask of p gets q, and its word stands last, in its chain
-pub record LetterPut (graph letters counts : List ℕ) (p q w : ℕ) (graph' letters' next' heads' counts' : List ℕ) : Type 0 where
-  pub sizes : LetterSizes letters' next' heads'
+pub record LetterPut (graph words : List ℕ) (l : Letters) (p q w : ℕ) (graph' words' : List ℕ) (l' : Letters) : Type 0 where
   pub adds : AddsAt graph 0 p q graph'
-  pub word : PutBehind letters (letters_met counts) w letters'
-  pub chains : Chains letter_chain heads' next' letters' (letters_met counts + 1)
-  pub counted : Counted counts 1 0 counts'
+  pub word : PutBehind words l.count w words'
+  pub count : l'.count ≡ l.count + 1
+  pub ready : LettersReady words' l'
 
 -- a letter row loaded: it is met, or 256 rows stand, or it is put in
-pub data PutsLetter (graph letters next heads counts : List ℕ) (p q w : ℕ) (graph' letters' next' heads' counts' : List ℕ) : ℕ → Type 0 where
-  stands : WordAt letters (letters_met counts) w → graph' ≡ graph → letters' ≡ letters → next' ≡ next → heads' ≡ heads → counts' ≡ counts
-      → PutsLetter graph letters next heads counts p q w graph' letters' next' heads' counts' 0
-  full : LetterNew graph letters (letters_met counts) p q w → rows_met counts ≡ 256 → PutsLetter graph letters next heads counts p q w graph' letters' next' heads' counts' 6
-  put : LetterNew graph letters (letters_met counts) p q w → rows_met counts < 256 → LetterPut graph letters counts p q w graph' letters' next' heads' counts'
-      → PutsLetter graph letters next heads counts p q w graph' letters' next' heads' counts' 0
+pub data PutsLetter (graph words : List ℕ) (m : Loading) (p q w : ℕ) (graph' words' : List ℕ) (m' : Loading) : Came → Type 0 where
+  stands : WordAt words m.letters.count w → graph' ≡ graph → words' ≡ words → m' ≡ m → PutsLetter graph words m p q w graph' words' m' (Ok tt)
+  full : LetterNew graph words m.letters.count p q w → m.row_count ≡ 256 → PutsLetter graph words m p q w graph' words' m' (Err TooManyRows)
+  put : LetterNew graph words m.letters.count p q w → m.row_count < 256 → LetterPut graph words m.letters p q w graph' words' m'.letters
+      → m' ≡ record m { row_count = m.row_count + 1; letters = m'.letters } → PutsLetter graph words m p q w graph' words' m' (Ok tt)
 
 -- one of the first k sets is P; the link of its place, or 0
 abbrev pub SetAt : List ℕ → ℕ → ℕ → ℕ → Type 0
 SetAt graph k P i = (i < k) × (get_or (part graph 64) i 0 ≡ P)
 
-pub record FindsSet (graph : List ℕ) (k P r : ℕ) : Type 0 where
-  pub found : r ≢ 0 → SetAt graph k P (r - 1)
-  pub missed : r ≡ 0 → (i : ℕ) → ¬ SetAt graph k P i
+abbrev pub FindsSet : List ℕ → ℕ → ℕ → Option ℕ → Type 0
+FindsSet graph k P (Some i) = SetAt graph k P i
+FindsSet graph k P None = (i : ℕ) → ¬ SetAt graph k P i
 
--- a set put behind the first k, with one state in the part that begins at base
-pub record SetPut (graph : List ℕ) (k base P q : ℕ) (graph' next' heads' : List ℕ) : Type 0 where
-  pub sizes : SetSizes graph' next' heads'
-  pub set_is : get_or graph' (64 + k) 0 ≡ P
-  pub state_is : Adds 0 q (get_or graph' (base + k) 0)
-  pub others : (j : ℕ) → j ≢ 64 + k → j ≢ base + k → get_or graph' j 0 ≡ get_or graph j 0
-  pub chains : Chains set_chain heads' next' (part graph' 64) (k + 1)
+-- a set put behind the others, with one state in the part that begins at base
+pub record SetPut (graph : List ℕ) (s : Sets) (base P q : ℕ) (graph' : List ℕ) (s' : Sets) : Type 0 where
+  pub set_is : get_or graph' (64 + s.count) 0 ≡ P
+  pub state_is : Adds 0 q (get_or graph' (base + s.count) 0)
+  pub others : (j : ℕ) → j ≢ 64 + s.count → j ≢ base + s.count → get_or graph' j 0 ≡ get_or graph j 0
+  pub count : s'.count ≡ s.count + 1
+  pub ready : SetsReady graph' s'
 
 -- a limit row of a set that was not met: 256 rows stand, or 64 sets do, or the set is put in
-pub data PutsSet (graph counts : List ℕ) (base P q : ℕ) (graph' next' heads' counts' : List ℕ) : ℕ → Type 0 where
-  full : rows_met counts ≡ 256 → PutsSet graph counts base P q graph' next' heads' counts' 6
-  sets_full : rows_met counts < 256 → sets_met counts ≡ 64 → PutsSet graph counts base P q graph' next' heads' counts' 7
-  put : rows_met counts < 256 → sets_met counts < 64 → SetPut graph (sets_met counts) base P q graph' next' heads' → Counted counts 0 1 counts'
-      → PutsSet graph counts base P q graph' next' heads' counts' 0
+pub data PutsSet (graph : List ℕ) (m : Loading) (base P q : ℕ) (graph' : List ℕ) (m' : Loading) : Came → Type 0 where
+  full : m.row_count ≡ 256 → PutsSet graph m base P q graph' m' (Err TooManyRows)
+  sets_full : m.row_count < 256 → m.sets.count ≡ 64 → PutsSet graph m base P q graph' m' (Err TooManySets)
+  put : m.row_count < 256 → m.sets.count < 64 → SetPut graph m.sets base P q graph' m'.sets
+      → m' ≡ record m { row_count = m.row_count + 1; sets = m'.sets } → PutsSet graph m base P q graph' m' (Ok tt)
 
 -- a limit row loaded: its state is put into the mask of its set, or its set is new
-pub data PutsLimit (graph next heads counts : List ℕ) (base P q : ℕ) (graph' next' heads' counts' : List ℕ) : ℕ → Type 0 where
-  known : (i : ℕ) {r : ℕ} → SetAt graph (sets_met counts) P i → PutsState graph counts (base + i) q graph' counts' r → next' ≡ next → heads' ≡ heads
-      → PutsLimit graph next heads counts base P q graph' next' heads' counts' r
-  new : {r : ℕ} → ((i : ℕ) → ¬ SetAt graph (sets_met counts) P i) → PutsSet graph counts base P q graph' next' heads' counts' r
-      → PutsLimit graph next heads counts base P q graph' next' heads' counts' r
-
--- a cause, 0 for none, with the count of a row's bytes
-abbrev pub Tells : ℕ → ℕ → Took → Type 0
-Tells cause len (Row n) = (cause ≡ 0) × (n ≡ len)
-Tells cause len (Stopped n) = (cause ≢ 0) × (n ≡ cause)
+pub data PutsLimit (graph : List ℕ) (m : Loading) (base P q : ℕ) (graph' : List ℕ) (m' : Loading) : Came → Type 0 where
+  known : (i v n : ℕ) {r : Came} → SetAt graph m.sets.count P i → PutsState (get_or graph (base + i) 0) m.row_count q v n r
+      → graph' ≡ set graph (base + i) v → m' ≡ record m { row_count = n } → PutsLimit graph m base P q graph' m' r
+  new : {r : Came} → ((i : ℕ) → ¬ SetAt graph m.sets.count P i) → PutsSet graph m base P q graph' m' r → PutsLimit graph m base P q graph' m' r
 
 -- the row at the head of the bytes is refused, or it is loaded by what it does
-abbrev pub Tries : List ℕ → (ℕ → Type 0) → Took → Type 0
-Tries l Does (Row len) = (read_row l ≡ Read (row_at (get_or l 0 0) l) len) × Does 0
-Tries l Does (Stopped n) = (read_row l ≡ Refused n) ⊎ ((len : ℕ) × (read_row l ≡ Read (row_at (get_or l 0 0) l) len) × (n ≢ 0) × Does n)
+abbrev pub Tries : List ℕ → (Came → Type 0) → Result ℕ Cause → Type 0
+Tries l Does (Ok len) = (read_row l ≡ Ok (row_at (get_or l 0 0) l, len)) × Does (Ok tt)
+Tries l Does (Err c) = (read_row l ≡ Err c) ⊎ ((len : ℕ) × (read_row l ≡ Ok (row_at (get_or l 0 0) l, len)) × Does (Err c))
 
 -- of a kind of limit rows: the part of the graph, the place of the state, and that of the set
 abbrev pub limit_base : ℕ → ℕ

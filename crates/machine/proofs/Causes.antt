@@ -1,7 +1,7 @@
 -- Document 01, "Causes and numbers": a call is refused with a number and at a place exactly where the table has a cause for it
--- (`refusals`); none has number 13 (`no_13`).
+-- (`refusals`); each number is that of a cause (`numbered`), and none is 13 (`no_13`).
 use Prim.Native.Nat.{ℕ}
-use mathlib.Core.Path.{◌≡◌, ap, ◌∙◌, subst}
+use mathlib.Core.Path.{◌≡◌, refl, ap, ◌∙◌}
 use mathlib.Core.Logic.{◌⊎◌, inl, inr, ◌↔◌, ◌≢◌}
 use mathlib.Core.List.{List, ◌++◌}
 use lib.ListN.{length}
@@ -16,11 +16,12 @@ use Rattle.machine.specs.declared.Phase.{Phase}
 use Rattle.machine.specs.declared.Phase.TheVariants.{Open, Running, Settled}
 use Rattle.machine.specs.Machine.{Machine, load_row, withdraw_row}
 use Rattle.machine.specs.Calls.{Call, load, withdraw, round, expression, refused, Next, refuse_at, call_in, call, Brings}
-use Rattle.machine.specs.Causes.{Cause, not_open, load_fails, withdraw_fails, still_open, round_settled, still_running, short_buffer, verdict_empty, LoadStops, WithdrawStops}
+use Rattle.machine.specs.Causes.{full, sets_full, absent, Cause, not_open, load_fails, withdraw_fails, still_open, round_settled, still_running, short_buffer, verdict_empty, LoadStops, WithdrawStops}
 use Rattle.machine.specs.WellFormed.{Table}
 use Rattle.machine.proofs.Failing.{load_fails_iff, withdraw_fails_iff}
 use Rattle.machine.proofs.Phases.{not_open_refuses, open_refuses, settled_refuses, running_refuses, empty_refuses, load_feeds, withdraw_feeds}
 use Rattle.machine.proofs.Outcomes.{comes, writing}
+use Rattle.machine.proofs.Answers.{Numbered}
 
 module _ (m : Machine) where
   in_phase : (p : Phase) (c : Call) (n place : ℕ) → m.phase ≡ p → call_in p m c ≡ refuse_at m n place → (call m c).answer ≡ refused n place
@@ -39,21 +40,32 @@ module _ (m : Machine) where
   pub refusals : (c : Call) (n place : ℕ) → Table m.rows → Brings c → ((call m c).answer ≡ refused n place) ↔ Cause m c n place
   refusals c n place t b = ((λ e. (comes m c (refused n place) e).1 t b), refuses t b)
 
--- 13 is none of the numbers of rows
-not_a_row : {rest : List ℕ} {n : ℕ} (A : Row → ℕ → Type 0) → ((r : Row) → A r 13 → ⊥) → n ≡ 13 → Malformed rest n ⊎ ((r : Row) × (tail : List ℕ) × Fits r × (rest ≡ row_bytes r ++ tail) × A r n) → ⊥
-not_a_row A f e (inl (unknown_kind k)) = omega arith
-not_a_row A f e (inl (cut_short k h)) = omega arith
-not_a_row A f e (inl (high_state k i w m h)) = omega arith
-not_a_row A f e (inl (zero_set k j w g m h)) = omega arith
-not_a_row A f e (inr p) = f p.0 (subst (A p.0) e p.4)
+-- the number of a row that fails is that of a cause
+row_numbered : {rest : List ℕ} {n : ℕ} (A : Row → ℕ → Type 0) → ((r : Row) → A r n → Numbered n) → Malformed rest n ⊎ ((r : Row) × (tail : List ℕ) × Fits r × (rest ≡ row_bytes r ++ tail) × A r n) → Numbered n
+row_numbered A f (inl (unknown_kind k)) = refl
+row_numbered A f (inl (cut_short k h)) = refl
+row_numbered A f (inl (high_state k i w m h)) = refl
+row_numbered A f (inl (zero_set k j w g m h)) = refl
+row_numbered A f (inr p) = f p.0 p.4
+
+load_numbered : {rows : List Row} {r : Row} {n : ℕ} → LoadStops rows r n → Numbered n
+load_numbered (full i h) = refl
+load_numbered (sets_full P i h k j g) = refl
+
+withdraw_numbered : {rows : List Row} {r : Row} {n : ℕ} → WithdrawStops rows r n → Numbered n
+withdraw_numbered (absent i) = refl
+
+-- each number of the table is that of a cause
+pub numbered : {m : Machine} {c : Call} {n place : ℕ} → Cause m c n place → Numbered n
+numbered (not_open k w p) = refl
+numbered (load_fails l k at p f) = row_numbered (LoadStops f.now) (λ r. load_numbered) f.cause
+numbered (withdraw_fails l k at p f) = row_numbered (WithdrawStops f.now) (λ r. withdraw_numbered) f.cause
+numbered (still_open k w p) = refl
+numbered (round_settled v p) = refl
+numbered (still_running k w p) = refl
+numbered (short_buffer k l size w h) = refl
+numbered (verdict_empty size p) = refl
 
 -- the table has no number 13
 pub no_13 : (m : Machine) (c : Call) (n place : ℕ) → Cause m c n place → n ≢ 13
-no_13 m c n place (not_open k w p) e = omega arith
-no_13 m c n place (load_fails l k at p f) e = not_a_row (LoadStops f.now) (λ r. elim [ ]) e f.cause
-no_13 m c n place (withdraw_fails l k at p f) e = not_a_row (WithdrawStops f.now) (λ r. elim [ ]) e f.cause
-no_13 m c n place (still_open k w p) e = omega arith
-no_13 m c n place (round_settled v p) e = omega arith
-no_13 m c n place (still_running k w p) e = omega arith
-no_13 m c n place (short_buffer k l size w h) e = omega arith
-no_13 m c n place (verdict_empty size p) e = omega arith
+no_13 m c n place h e = let z : ◌≡◌ {A = ℕ} 24 13 = rw e at (numbered h) in omega arith

@@ -16,13 +16,14 @@ use Rattle.lists.proofs.Deciding.{so, not_so, yes_decides, no_decides, iff_decid
 use Rattle.rows.specs.Rows.{same_numbers}
 use Rattle.rows.proofs.Same.{same_numbers_decides}
 use Rattle.machine.specs.Machine.{Machine}
-use Rattle.machine.specs.Calls.{Call, done, refused, call, run}
+use Rattle.machine.specs.Calls.{Call, Outcome, done, wrote, decided, refused, call, run}
 use Rattle.machine.specs.WellFormed.{WellFormed}
 use Rattle.machine.specs.Marks.{most_marks, longest_name, Name, name?, Mark, Marked, fresh_marked, names, kept_under, mark_under, MarkedCall, on, mark, return_to, MarkedNext, accept_marked, refuse_marked, call_now, marks_to, brings_back, marked_call, marked_run, MarkedBrings, BringsName, marking, returning, MarkedCause, by_table, no_name, no_mark, fifth_name, MarkedFormed}
 use Rattle.machine.specs.Statements.{AllBring, after_calls, EveryReturn, MarkAndReturn}
 use Rattle.machine.proofs.Tables.{no_rows}
 use Rattle.machine.proofs.Outcomes.{refused_keeps}
-use Rattle.machine.proofs.Causes.{refusals}
+use Rattle.machine.proofs.Answers.{Numbered, Known}
+use Rattle.machine.proofs.Causes.{refusals, numbered}
 use Rattle.machine.proofs.History.{opened_formed, call_formed}
 
 -- ---- names
@@ -256,6 +257,22 @@ module _ (x : Marked) where
       refuses b (no_name c name i k) = ap (λ (r : MarkedNext). r.answer) (misnamed_is x name i k)
       refuses b (no_mark name k i) = ap (λ (r : MarkedNext). r.answer) (unmarked_is x name k (kept_none name x.marks i))
       refuses b (fifth_name name k i l) = ap (λ (r : MarkedNext). r.answer) (fifth_is x name k (λ h. omega (arith, new_length name x.now x.marks i)))
+
+  -- so the number of a refusal is that of a cause
+  pub answer_known : (c : MarkedCall) → MarkedFormed x → MarkedBrings c → Known (marked_call x c).answer
+  answer_known c w b = by (marked_call x c).answer refl
+    where
+      of_cause : {c : MarkedCall} {n place : ℕ} → MarkedCause x c n place → Numbered n
+      of_cause (by_table c n place h) = numbered h
+      of_cause (no_name c name i k) = refl
+      of_cause (no_mark name k i) = refl
+      of_cause (fifth_name name k i l) = refl
+
+      by : (o : Outcome) → (marked_call x c).answer ≡ o → Known o
+      by done e = tt
+      by (wrote l) e = tt
+      by (decided v) e = tt
+      by (refused n place) e = of_cause ((marked_refusals c n place w b).0 e)
 
   -- a refusal changes nothing
   pub refused_same : (c : MarkedCall) (n place : ℕ) → (marked_call x c).answer ≡ refused n place → (marked_call x c).machine ≡ x

@@ -4,7 +4,9 @@ use Prim.Native.Nat.{suc}
 use mathlib.Core.Path.{◌≡◌, refl, ap}
 use mathlib.Core.Option.{none, some}
 use mathlib.Core.List.{[], ◌∷◌}
-use Rattle.machine.specs.declared.Answer.TheVariants.{Done, Wrote, Decided, Refused}
+use Rattle.std.specs.Prelude.{Ok, Err}
+use Rattle.causes.specs.declared.Cause.TheVariants.{TooManySets}
+use Rattle.machine.specs.declared.Success.TheVariants.{Done, Wrote, Decided}
 use Rattle.machine.specs.declared.Verdict.{Verdict}
 use Rattle.machine.specs.declared.Verdict.TheVariants.{NonEmpty, Empty}
 use Rattle.machine.specs.declared.Phase.TheVariants.{Open, Running, Settled}
@@ -31,13 +33,13 @@ numbers_read = refl
 
 -- a refusal returns its number and its place, print, save and expression their length, a verdict itself, the other calls nothing; the number
 -- beside the table
-pub returns : (returned (Refused 7 300) ≡ record { number = some 7; values = 300 ∷ []; verdict = none })
+pub returns : (returned (Err (record { cause = TooManySets; place = 300 })) ≡ record { number = some 7; values = 300 ∷ []; verdict = none })
     × (due (refused 7 300) ≡ record { number = some 7; values = 300 ∷ []; verdict = none })
-    × (returned (Wrote 3) ≡ record { number = none; values = 3 ∷ []; verdict = none })
+    × (returned (Ok (Wrote 3)) ≡ record { number = none; values = 3 ∷ []; verdict = none })
     × (due (wrote (text "abc")) ≡ record { number = none; values = 3 ∷ []; verdict = none })
-    × (returned (Decided Empty) ≡ record { number = none; values = []; verdict = some Empty })
+    × (returned (Ok (Decided Empty)) ≡ record { number = none; values = []; verdict = some Empty })
     × (due (decided NonEmpty) ≡ record { number = none; values = []; verdict = some NonEmpty })
-    × (returned Done ≡ record { number = none; values = []; verdict = none })
+    × (returned (Ok Done) ≡ record { number = none; values = []; verdict = none })
     × (due done ≡ record { number = none; values = []; verdict = none })
     × (foreign_record ≡ 24)
 returns = (refl, refl, refl, refl, refl, refl, refl, refl, refl)

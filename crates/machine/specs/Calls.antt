@@ -1,7 +1,8 @@
 -- Document 01, "The session as a plain machine" and "Causes and numbers": the calls (`Call`, `call`), what they come to (`Outcome`, `Tells`),
 -- several of them (`run`), and the second machine of demand 3 (`second`).
-use Rattle.std.specs.Prelude.{ℕ, ◌≡◌, cond, List, [], ◌∷◌, ◌++◌, ltb, length, drop, replicate}
+use Rattle.std.specs.Prelude.{ℕ, ◌≡◌, cond, List, [], ◌∷◌, ◌++◌, ltb, length, drop, replicate, Result, Ok, Err}
 use Rattle.std.proofs.Math.Option.{Option, none, some}
+use Rattle.causes.specs.Numbers.{number_of}
 use Rattle.lists.specs.Order.{sort_by}
 use Rattle.rows.specs.declared.Row.{Row}
 use Rattle.rows.specs.Rows.{row_bytes, batch_of, Bytes}
@@ -9,8 +10,9 @@ use Rattle.rows.specs.Batch.{Fed, fed, failed, feed}
 use Rattle.orderings.specs.Rising.{rising?}
 use Rattle.machine.specs.declared.Verdict.{Verdict}
 use Rattle.machine.specs.declared.Verdict.TheVariants.{NonEmpty, Empty}
-use Rattle.machine.specs.declared.Answer.{Answer}
-use Rattle.machine.specs.declared.Answer.TheVariants.{Done, Wrote, Decided, Refused}
+use Rattle.machine.specs.declared.Success.{Success}
+use Rattle.machine.specs.declared.Success.TheVariants.{Done, Wrote, Decided}
+use Rattle.machine.specs.declared.Refusal.{Refusal}
 use Rattle.machine.specs.declared.Phase.{Phase}
 use Rattle.machine.specs.declared.Phase.TheVariants.{Open, Running, Settled}
 use Rattle.machine.specs.Machine.{most_rounds, Machine, fresh, load_row, withdraw_row, closed, next_round, reopened}
@@ -37,12 +39,16 @@ pub record Returned : Type 0 where
   pub values : List ℕ
   pub verdict : Option Verdict
 
--- of each case of the engine's answer
+-- the engine's answer: a success, or a refusal with its cause
+abbrev pub Answer : Type 0
+Answer = Result Success Refusal
+
+-- of each case of it
 abbrev pub returned : Answer → Returned
-returned Done = record { number = none; values = []; verdict = none }
-returned (Wrote n) = record { number = none; values = n ∷ []; verdict = none }
-returned (Decided v) = record { number = none; values = []; verdict = some v }
-returned (Refused n place) = record { number = some n; values = place ∷ []; verdict = none }
+returned (Ok Done) = record { number = none; values = []; verdict = none }
+returned (Ok (Wrote n)) = record { number = none; values = n ∷ []; verdict = none }
+returned (Ok (Decided v)) = record { number = none; values = []; verdict = some v }
+returned (Err r) = record { number = some (number_of r.cause); values = r.place ∷ []; verdict = none }
 
 -- due for an outcome
 abbrev pub due : Outcome → Returned

@@ -12,3 +12,4 @@ pub mod Program
 pub mod WellFormed
 pub mod Marks
 pub mod Statements
+pub mod Labels

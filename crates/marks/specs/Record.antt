@@ -5,6 +5,7 @@ use Rattle.machine.specs.Machine.{most_rows, Machine, fresh}
 use Rattle.machine.specs.Marks.{most_marks, Mark}
 use Rattle.row_table.specs.Arrays.{padded}
 use Rattle.marks.specs.declared.Kept.{Kept}
+use Rattle.marks.specs.declared.Mark.{Mark as Entry}
 use Rattle.marks.specs.declared.Marks.{Marks}
 
 -- the bytes of a name as one number, the last of them most significant
@@ -23,11 +24,11 @@ kept_of m =
       rounds = m.rounds;
     }
 
--- the names, what is kept under each, and how many marks there are; a place that is not used holds what a fresh machine's mark would keep
+-- the number of its name, and what is kept under it
+abbrev pub mark_of : Mark → Entry
+mark_of k = record { name = name_number k.name; kept = kept_of k.kept }
+
+-- the marks, and how many there are; a place that is not used holds what a fresh machine's mark would keep
 unfoldable pub marks_of : List Mark → Marks
 marks_of l =
-    record {
-      names = padded most_marks 0 (map (λ k. name_number k.name) l);
-      kept = padded most_marks (kept_of fresh) (map (λ k. kept_of k.kept) l);
-      count = length l;
-    }
+    record { marks = padded most_marks (record { name = 0; kept = kept_of fresh }) (map mark_of l); count = length l }

@@ -1,21 +1,23 @@
 // The marks of a session: their names, and what is kept under each.
 #![tactic(auto)]
 
-ghost use Rattle.std.specs.Prelude.{◌≡◌, [], ◌≤◌, ◌<◌, length, take};
+ghost use Rattle.std.specs.Prelude.{◌≡◌, ◌==◌, ◌↔◌, ℕ, [], ◌≤◌, ◌<◌, length, slice_index, EachIndex, IsTrue, position};
 ghost use Rattle.lists.specs.Tests.{Decides};
 ghost use Rattle.machine.specs.Marks.{Name};
 ghost use Rattle.marks.specs.Record.{name_number, marks_of};
-ghost use Rattle.marks.specs.Promise.{Packs, Unpacks, first_place, FindsPlace, PutsMark, HoldsKept};
+ghost use Rattle.marks.specs.Promise.{Keeps, HoldsKeys, FindsPlace, PutsMark, HoldsKept};
 
 use machine::{MOST_ROWS, Phase};
+use row_table::RowKeys;
+use sorted_keys::Key;
 
 // As many marks as a session has, and the bytes that a name may have.
 pub const MOST_MARKS: usize = 4;
 
 pub const LONGEST_NAME: usize = 8;
 
-// What is kept under a name: the keys of the standing rows, of which the second word has two bytes, the phase, and the count of rounds. The
-// sets and the openings follow from these.
+// What is kept under a name: the keys of the standing rows, the phase, and the count of rounds. The sets and the openings follow from these.
+// The second word of a key has two bytes here: keys in one array would take 16 bytes each, and not 10.
 #[derive(Clone, Copy)]
 pub struct Kept {
     pub high: [u64; MOST_ROWS],
@@ -25,59 +27,33 @@ pub struct Kept {
     pub rounds: u8,
 }
 
-// The keys of rows as marks keep them.
-#[derive(Drop)]
-pub struct Packed {
-    pub high: [u64; MOST_ROWS],
-    pub low: [u16; MOST_ROWS],
+// A name as a number, and what is kept under it.
+#[derive(Clone, Copy)]
+pub struct Mark {
+    pub name: u64,
+    pub kept: Kept,
 }
 
-// The names as numbers, in the order in which they were first used, and what is kept under each. What is not used holds a filler.
+// The marks in the order in which their names were first used. What is not used holds a filler.
 #[derive(Clone, Copy)]
 pub struct Marks {
-    pub names: [u64; MOST_MARKS],
-    pub kept: [Kept; MOST_MARKS],
+    pub marks: [Mark; MOST_MARKS],
     pub count: usize,
 }
 
-// Where the mark with a name stands, or would.
-#[derive(Clone, Copy)]
-pub enum NamePlace {
-    NoName,
-    At(usize),
-}
-
-// Is the byte one of `a` to `z`?
-fn is_letter(b: u8) -> bool
-    ensures { Decides result ((97 ≤ b) × (b ≤ 122)) }
+// Are all the bytes `a` to `z`?
+fn all_letters(bytes: &[u8]) -> bool
+    ensures { IsTrue result ↔ EachIndex bytes.now
+        (λ k. (97 ≤ slice_index bytes.now k) × (slice_index bytes.now k ≤ 122)) }
 {
-    b'a' <= b && b <= b'z'
+    bytes.iter().all(|b| b.is_ascii_lowercase())
 }
 
 // Is it a name: 1 to 8 bytes `a` to `z`?
 fn is_name(name: &[u8]) -> bool
     ensures { Decides result (Name name.now) }
 {
-    if name.len() == 0 {
-        return false;
-    }
-    if name.len() > LONGEST_NAME {
-        return false;
-    }
-    let mut i = 0;
-    while i < name.len() {
-        if !is_letter(name[i]) {
-            return false;
-        }
-        i += 1;
-    }
-    true
-}
-
-fn wide(b: u8) -> u64
-    ensures { result ≡ b }
-{
-    b as u64
+    1 <= name.len() && name.len() <= LONGEST_NAME && all_letters(name)
 }
 
 // The bytes of a name as one number, the last of them most significant: no two names have one number.
@@ -85,66 +61,56 @@ fn name_number(name: &[u8]) -> u64
     requires { length name.now ≤ 8 }
     ensures { result ≡ name_number name.now }
 {
-    let mut number = 0;
-    let mut i = name.len();
-    while i > 0 {
-        i -= 1;
-        number = number * 256 + wide(name[i]);
-    }
-    number
+    let mut bytes = [0u8; 8];
+    bytes[..name.len()].copy_from_slice(name);
+    u64::from_le_bytes(bytes)
 }
 
-// The place of a number among the first `count`, or `count`. A lent array says nothing of its length, so the caller does.
-fn first_place(names: &[u64; MOST_MARKS], count: usize, number: u64) -> usize
-    requires { (count ≤ 4) × (length names.now ≡ 4) }
-    ensures { result ≡ first_place number (take count names.now) }
+// The place of the first mark whose name has the number.
+fn first_place(marks: &[Mark], number: u64) -> Option<usize>
+    ensures { result ≡ position (λ k. k.name == number) marks.now }
 {
-    let mut i = 0;
-    while i < count {
-        if names[i] == number {
-            return i;
+    marks.iter().position(|mark| mark.name == number)
+}
+
+impl Kept {
+    // What is kept of the rows that have these keys.
+    pub fn new(rows: &RowKeys, phase: Phase, rounds: u8) -> Kept
+        ensures { Keeps rows.now.keys rows.now.count phase rounds result }
+    {
+        let mut high = [0u64; MOST_ROWS];
+        let mut low = [0u16; MOST_ROWS];
+        for i in 0..rows.count {
+            let key = rows.keys[i];
+            high[i] = key.high;
+            low[i] = (key.low % 65536) as u16;
         }
-        i += 1;
+        Kept {
+            high,
+            low,
+            row_count: rows.count,
+            phase,
+            rounds,
+        }
     }
-    i
-}
 
-// The first `n` keys, and then zeros.
-pub fn pack(high: &[u64; MOST_ROWS], low: &[u64; MOST_ROWS], n: usize) -> Packed
-    requires { n ≤ 256 }
-    ensures { Packs high.now low.now n result }
-{
-    let mut first = [0u64; MOST_ROWS];
-    let mut second = [0u16; MOST_ROWS];
-    let mut i = 0;
-    while i < n {
-        first[i] = high[i];
-        second[i] = (low[i] % 65536) as u16;
-        i += 1;
+    // The keys again.
+    pub fn keys(&self) -> RowKeys
+        requires { self.now.row_count ≤ 256 }
+        ensures { HoldsKeys self.now result }
+    {
+        let mut keys = [Key { high: 0, low: 0 }; MOST_ROWS];
+        for i in 0..self.row_count {
+            keys[i] = Key {
+                high: self.high[i],
+                low: u64::from(self.low[i]),
+            };
+        }
+        RowKeys {
+            keys,
+            count: self.row_count,
+        }
     }
-    Packed {
-        high: first,
-        low: second,
-    }
-}
-
-fn widened(x: u16) -> u64
-    ensures { result ≡ x }
-{
-    x as u64
-}
-
-// The second words again.
-pub fn unpack(low: &[u16; MOST_ROWS]) -> [u64; MOST_ROWS]
-    ensures { Unpacks low.now result }
-{
-    let mut second = [0u64; MOST_ROWS];
-    let mut i = 0;
-    while i < MOST_ROWS {
-        second[i] = widened(low[i]);
-        i += 1;
-    }
-    second
 }
 
 impl Marks {
@@ -152,7 +118,6 @@ impl Marks {
     pub fn none() -> Marks
         ensures { result ≡ marks_of [] }
     {
-        let names = [0u64; MOST_MARKS];
         let high = [0u64; MOST_ROWS];
         let low = [0u16; MOST_ROWS];
         let phase = Phase::Open;
@@ -163,47 +128,45 @@ impl Marks {
             phase,
             rounds: 0,
         };
-        let kept = [blank; MOST_MARKS];
+        let mark = Mark {
+            name: 0,
+            kept: blank,
+        };
         Marks {
-            names,
-            kept,
+            marks: [mark; MOST_MARKS],
             count: 0,
         }
     }
 
-    // The place of the mark with the name; where there is none, that of a new one.
-    pub fn place(self, name: &[u8]) -> NamePlace
-        requires { self.count ≤ 4 }
-        ensures { FindsPlace self name.now result }
+    // The place of the mark with the name; where there is none, that of a new one. What is no name has no place.
+    pub fn place(&self, name: &[u8]) -> Option<usize>
+        requires { self.now.count ≤ 4 }
+        ensures { FindsPlace self.now name.now result }
     {
         if !is_name(name) {
-            return NamePlace::NoName;
+            return None;
         }
-        let names = self.names;
-        let count = self.count;
-        let at = first_place(&names, count, name_number(name));
-        NamePlace::At(at)
+        let at = first_place(&self.marks[..self.count], name_number(name));
+        Some(at.unwrap_or(self.count))
     }
 
-    // The marks with one at that place.
-    pub fn put(mut self, at: usize, name: &[u8], kept: Kept) -> Marks
+    // Puts a mark at that place.
+    pub fn put(&mut self, at: usize, name: &[u8], kept: Kept)
         requires { (at < 4) × Name name.now }
-        ensures { PutsMark self at name.now kept result }
+        ensures { PutsMark self.old at name.now kept self.new }
     {
-        self.names[at] = name_number(name);
-        self.kept[at] = kept;
+        let name = name_number(name);
+        self.marks[at] = Mark { name, kept };
         if at == self.count {
             self.count = at + 1;
         }
-        self
     }
 
     // What is kept at a place.
-    pub fn kept_at(self, at: usize) -> Kept
+    pub fn kept_at(&self, at: usize) -> Kept
         requires { at < 4 }
-        ensures { HoldsKept self at result }
+        ensures { HoldsKept self.now at result }
     {
-        let kept = self.kept[at];
-        kept
+        self.marks[at].kept
     }
 }

@@ -17,6 +17,9 @@ pub record Passed (P : ℕ → Type 0) (places rest : ℕ) : Type 0 where
 pub passed_start : {P : ℕ → Type 0} {places : ℕ} → Passed P places places
 passed_start = record { left = λ t h. h; passed = λ i h. inl h }
 
+pub passed_from : {P : ℕ → Type 0} {places rest : ℕ} → rest ≡ places → Passed P places rest
+passed_from {P} {places} all = subst (λ (n : ℕ). Passed P places n) (sym all) passed_start
+
 pub passed_end : {P : ℕ → Type 0} {places rest : ℕ} → Passed P places rest → rest ≡ 0 → (i : ℕ) → i ∈ places → P i
 passed_end g none i h = ⊎_elim (λ x. absurd (in_none i (subst (λ (n : ℕ). i ∈ n) none x))) (λ p. p) (g.passed i h)
 
@@ -36,6 +39,9 @@ pub record Gathered (B : ℕ → ℕ → Type 0) (places rest r : ℕ) : Type 0 
 
 pub gather_start : {B : ℕ → ℕ → Type 0} {places : ℕ} → Gathered B places places 0
 gather_start = record { through = passed_start; sound = λ t h. absurd (in_none t h) }
+
+pub gather_from : {B : ℕ → ℕ → Type 0} {places rest : ℕ} → rest ≡ places → Gathered B places rest 0
+gather_from {B} {places} all = subst (λ (n : ℕ). Gathered B places n 0) (sym all) gather_start
 
 pub gather_end : {B : ℕ → ℕ → Type 0} {places rest r : ℕ} → Gathered B places rest r → rest ≡ 0
     → (t : ℕ) → (t ∈ r) ↔ ((i : ℕ) × (i ∈ places) × B i t)

@@ -6,6 +6,7 @@ pub mod Gathering
 pub mod Leaving
 pub mod Marking
 pub mod Member
+pub mod Passing
 pub mod Shifting
 pub mod Storing
 pub mod Turning

@@ -22,6 +22,9 @@ module _ {P : ℕ → ℕ → Type 0} {old : List ℕ} {places : ℕ} where
   pub storing_start : Storing P old places places old
   storing_start = record { length_is = refl; stored = passed_start; waits = λ j h. refl; beyond = λ j h. refl }
 
+  pub storing_from : {rest : ℕ} → rest ≡ places → Storing P old places rest old
+  storing_from all = subst (λ (n : ℕ). Storing P old places n old) (sym all) storing_start
+
   -- v is stored at the lowest place
   pub storing_more : {rest low rest' : ℕ} (new : List ℕ) (v : ℕ) → TakesLowest rest low rest' → Storing P old places rest new
       → P low v → Storing P old places rest' (set new low v)

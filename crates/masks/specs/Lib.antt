@@ -2,3 +2,4 @@
 pub mod Blocks
 pub mod Graph
 pub mod Mask
+pub mod Passing

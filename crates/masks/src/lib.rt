@@ -6,6 +6,8 @@ ghost use Rattle.std.specs.Int.Count.{ones};
 ghost use Rattle.lists.specs.Tests.{Decides};
 ghost use Rattle.masks.specs.Blocks.{Width, LowerPlaces, LowMask, HighMask, RowsExchanged, BlocksExchanged, FirstMasks};
 ghost use Rattle.masks.specs.Graph.{Targets, SourceAdded, Turned};
+ghost use Rattle.std.specs.Iterator.{at_most};
+ghost use Rattle.masks.specs.Passing.{GivesLowest};
 ghost use Rattle.masks.specs.Mask.{member, ◌∈◌, ◌⊆◌, TakesLowest};
 
 // How many states there may be, and the first number that is none.
@@ -118,17 +120,44 @@ pub fn take_lowest(m: Set) -> Taken
     }
 }
 
+// The states of a set that a loop has still to pass, the lowest first.
+#[derive(Drop)]
+pub struct Members {
+    pub rest: Set,
+}
+
+// The states of `m`, the lowest first.
+pub fn each(m: Set) -> Members
+    ensures { result.rest ≡ m }
+{
+    Members { rest: m }
+}
+
+impl Iterator for Members {
+    type Item = u8;
+
+    ghost next_gives = { GivesLowest };
+
+    ghost remaining = { λ s. at_most (ones s.rest) };
+
+    fn next(&mut self) -> Option<u8> {
+        if self.rest == 0 {
+            return None;
+        }
+        let next = take_lowest(self.rest);
+        self.rest = next.rest;
+        Some(next.low)
+    }
+}
+
 // The targets of all the states of `m`. What stands in `succ` past the 64 states is not read.
 pub fn targets(succ: &[Set], m: Set) -> Set
     requires { 64 ≤ length succ.now }
     ensures { Targets succ.now m result }
 {
     let mut r: Set = 0;
-    let mut rest = m;
-    while rest != 0 {
-        let next = take_lowest(rest);
-        r = union(r, succ[next.low as usize]);
-        rest = next.rest;
+    for s in each(m) {
+        r = union(r, succ[s as usize]);
     }
     r
 }
@@ -138,12 +167,9 @@ fn add_source(back: &mut [Set; STATES], m: Set, i: u8)
     requires { i < 64 }
     ensures { SourceAdded back.old m i back.new }
 {
-    let mut rest = m;
-    while rest != 0 {
-        let next = take_lowest(rest);
-        let at = next.low as usize;
+    for s in each(m) {
+        let at = s as usize;
         back[at] = with(back[at], i);
-        rest = next.rest;
     }
 }
 
@@ -153,14 +179,13 @@ pub fn transpose(succ: &[Set]) -> [Set; STATES]
     ensures { Turned succ.now result }
 {
     let mut back = [0u64; STATES];
-    let mut i: u8 = 0;
-    while i < NO_STATE {
+    for i in 0..NO_STATE {
         add_source(&mut back, succ[i as usize], i);
-        i += 1;
     }
     back
 }
 
+// `b` and `lower` go on as two numbers: a ghost field that says `Width b` would need a proof that all its proofs are one.
 // The mask `low` with the lower blocks of `high` for its upper ones; `lower` has the places of lower blocks of `b` places.
 fn low_mask(low: Set, high: Set, b: usize, lower: Set) -> Set
     requires { Width b × LowerPlaces b lower }
@@ -182,13 +207,11 @@ fn exchange_rows(m: &mut [Set; STATES], g: usize, b: usize, lower: Set)
     requires { Width b × LowerPlaces b lower × (g % (2 * b) ≡ 0) × (g + 2 * b ≤ 64) }
     ensures { RowsExchanged b g m.old m.new }
 {
-    let mut i = 0;
-    while i < b {
+    for i in 0..b {
         let low = m[g + i];
         let high = m[g + b + i];
         m[g + i] = low_mask(low, high, b, lower);
         m[g + b + i] = high_mask(low, high, b, lower);
-        i += 1;
     }
 }
 
@@ -197,10 +220,8 @@ fn exchange_blocks(m: &mut [Set; STATES], b: usize, lower: Set)
     requires { Width b × LowerPlaces b lower }
     ensures { BlocksExchanged b m.old m.new }
 {
-    let mut g = 0;
-    while g < STATES {
+    for g in (0..STATES).step_by(2 * b) {
         exchange_rows(m, g, b, lower);
-        g += 2 * b;
     }
 }
 
@@ -210,11 +231,7 @@ fn first_masks(succ: &[Set]) -> [Set; STATES]
     ensures { FirstMasks succ.now result }
 {
     let mut m = [0u64; STATES];
-    let mut i = 0;
-    while i < STATES {
-        m[i] = succ[i];
-        i += 1;
-    }
+    m.copy_from_slice(&succ[..STATES]);
     m
 }
 

@@ -1,98 +1,83 @@
-// Does a set loop, does it mix, by the steps of the table? Walks inside the set are 64 cells, a set of targets for each state.
-use crate::cells;
-use crate::reader::row_set;
-use crate::steps::content;
+// Does a set loop, does it mix, by the steps of the table? Walks inside the set are 64 sets, the targets for each state.
+use crate::reader::{Row, named};
+use crate::sets::Set;
+use crate::steps::Step;
+
+type Links = [Set; 64];
 
 // The steps inside `p`.
-fn link_steps(table: &[u64], p: u64, links: &mut [u64]) {
-    let mut n = cells::ROWS;
-    while n < cells::LINES && cells::cell(table, n, cells::KIND) != 0 {
-        let s = cells::cell(table, n, cells::FROM);
-        let to = if cells::is_inside(content(cells::get_line(table, n)), p) {
-            cells::with(0, cells::cell(table, n, cells::TO))
-        } else {
-            0
-        };
-        cells::put(links, s, 0, cells::at(links, s, 0) | to);
-        n += 1;
+fn steps_inside(steps: &[Step], p: Set) -> Links {
+    let mut links = [Set(0); 64];
+    for step in steps {
+        if step.content().is_inside(p) {
+            if let Some(targets) = links.get_mut(usize::from(step.from)) {
+                *targets = targets.with(step.to);
+            }
+        }
     }
+    links
 }
 
-// Walks that go on at `middle`, a state of `p`.
-fn close_through(links: &mut [u64], p: u64, middle: u64) {
-    if !cells::has(p, middle) {
-        return;
-    }
-    let on = cells::at(links, middle, 0);
-    let mut s = 0;
-    while s < 64 {
-        let found = cells::at(links, s, 0);
-        let more = if cells::has(found, middle) { on } else { 0 };
-        cells::put(links, s, 0, found | more);
-        s += 1;
+// Walks that go on at `middle`, from which those targets are reached.
+fn close_through(links: &mut Links, middle: u8, on: Set) {
+    for targets in links.iter_mut() {
+        if targets.has(middle) {
+            *targets = targets.or(on);
+        }
     }
 }
 
 // Warshall's closure: from each state the targets of walks of one or more steps, all inside `p`.
-fn close_links(links: &mut [u64], p: u64) {
-    let mut k = 0;
-    while k < 64 {
-        close_through(links, p, k);
-        k += 1;
+fn close(links: &mut Links, p: Set) {
+    for k in 0..64u8 {
+        if p.has(k) {
+            let on = links[usize::from(k)];
+            close_through(links, k, on);
+        }
     }
 }
 
 // Does every state of P lead to all of P?
-fn is_linked(links: &[u64], p: u64) -> bool {
-    let mut s = 0;
-    while s < 64 {
-        if cells::has(p, s) && !cells::is_inside(p, cells::at(links, s, 0)) {
-            return false;
-        }
-        s += 1;
-    }
-    true
+fn is_linked(links: &Links, p: Set) -> bool {
+    (0..64u8).all(|s| !p.has(s) || p.is_inside(links[usize::from(s)]))
 }
 
-// The states of P that have a row of this kind with P: 4 gives the entrances, 5 the exits.
-fn gates(table: &[u64], kind: u64, p: u64) -> u64 {
-    let mut found = 0;
-    let mut n = 0;
-    while n < cells::ROWS {
-        if row_set(table, n) == p && cells::cell(table, n, cells::KIND) == kind {
-            found = cells::with(found, cells::cell(table, n, cells::FROM));
-        }
-        n += 1;
-    }
-    found & p
+// The states of P with a row P → s, or with a row s → P.
+fn entrances(rows: &[Row], p: Set) -> Set {
+    let named = named(rows, |row| match row {
+        Row::Left(set, s) if set == p => Some(s),
+        _ => None,
+    });
+    named.and(p)
+}
+
+fn exits(rows: &[Row], p: Set) -> Set {
+    let named = named(rows, |row| match row {
+        Row::Right(s, set) if set == p => Some(s),
+        _ => None,
+    });
+    named.and(p)
 }
 
 // Does `s` lie on some piece of one or more steps, ends included? The exits are those that it leads to, itself among them.
-fn is_on_piece(links: &[u64], entrances: u64, exits: u64, s: u64) -> bool {
-    let ends = exits & cells::with(cells::at(links, s, 0), s);
-    let mut e = 0;
-    while e < 64 {
-        let targets = cells::at(links, e, 0);
-        if cells::has(entrances, e)
-            && targets & ends != 0
-            && cells::has(cells::with(targets, e), s)
-        {
-            return true;
-        }
-        e += 1;
-    }
-    false
+fn is_on_piece(links: &Links, entrances: Set, exits: Set, s: u8) -> bool {
+    let Some(beyond) = links.get(usize::from(s)) else {
+        return false;
+    };
+    let ends = exits.and(beyond.with(s));
+    (0..64u8).any(|e| {
+        let targets = links[usize::from(e)];
+        entrances.has(e) && !targets.and(ends).is_empty() && targets.with(e).has(s)
+    })
 }
 
 // The states of P that lie on some piece of one or more steps.
-fn on_pieces(links: &[u64], p: u64, entrances: u64, exits: u64) -> u64 {
-    let mut found = 0;
-    let mut s = 0;
-    while s < 64 {
-        if cells::has(p, s) && is_on_piece(links, entrances, exits, s) {
-            found = cells::with(found, s);
+fn on_pieces(links: &Links, p: Set, entrances: Set, exits: Set) -> Set {
+    let mut found = Set(0);
+    for s in 0..64u8 {
+        if p.has(s) && is_on_piece(links, entrances, exits, s) {
+            found = found.with(s);
         }
-        s += 1;
     }
     found
 }
@@ -105,21 +90,16 @@ pub struct Claims {
     pub by_gap: bool,
 }
 
-// The gaps of P: entrances that are exits too, and are not struck.
-fn gaps(table: &[u64], entrances: u64, exits: u64) -> u64 {
-    entrances & exits & !cells::at(table, cells::STRUCK, 0)
-}
-
 // P loops: walks inside P lead from each state of P to each. P mixes: every state of P lies on some piece, those of no steps among them,
-// and some piece has a step.
-pub fn of_set(table: &[u64], p: u64) -> Claims {
-    let mut links = [0u64; 64];
-    link_steps(table, p, &mut links);
-    close_links(&mut links, p);
-    let entrances = gates(table, 4, p);
-    let exits = gates(table, 5, p);
+// and some piece has a step. The gaps of P are entrances that are exits too, and are not struck.
+pub fn of_set(rows: &[Row], steps: &[Step], struck: Set, p: Set) -> Claims {
+    let mut links = steps_inside(steps, p);
+    close(&mut links, p);
+    let entrances = entrances(rows, p);
+    let exits = exits(rows, p);
+    let gaps = entrances.and(exits).without(struck);
     let on = on_pieces(&links, p, entrances, exits);
-    let mixes = on != 0 && cells::is_inside(p, on | gaps(table, entrances, exits));
+    let mixes = !on.is_empty() && p.is_inside(on.or(gaps));
     Claims {
         loops: is_linked(&links, p),
         mixes,

@@ -1,196 +1,131 @@
-// The rows of a batch, and their sets.
-use crate::cells;
-use std::num::wrapping_add_usize;
+// The rows of a batch.
+use crate::list::List;
+use crate::sets::Set;
+use std::fmt;
 
-fn wide(b: u8) -> u64 {
-    b as u64
+// The most rows that are read.
+pub const ROWS: usize = 82;
+
+pub type Rows = List<Row, ROWS>;
+
+#[derive(Clone, Copy)]
+pub enum Row {
+    Initial(u8),
+    Final(u8),
+    Letter(u8, u8, u8),
+    // From the left, set → state.
+    Left(Set, u8),
+    // From the right, state → set.
+    Right(u8, Set),
+    Struck(u8),
 }
 
-// The byte `n` bytes on from `place`, 0 past the end.
-fn byte(batch: &[u8], place: usize, n: usize) -> u64 {
-    let k = wrapping_add_usize(place, n);
-    if k < batch.len() { wide(batch[k]) } else { 0 }
-}
-
-// The set whose first byte stands at `place`, most significant first.
-fn set_at(batch: &[u8], place: usize) -> u64 {
-    let mut set = 0u64;
-    let mut i = 0;
-    while i < 8 {
-        set = (set << 8) | byte(batch, place, i);
-        i += 1;
+impl Row {
+    // How many bytes the row has.
+    fn length(self) -> usize {
+        match self {
+            Row::Letter(_, _, _) => 4,
+            Row::Left(_, _) | Row::Right(_, _) => 10,
+            _ => 2,
+        }
     }
-    set
-}
 
-// How long a row of this kind is, 0 for a kind that no row has.
-fn row_length(kind: u64) -> usize {
-    match kind {
-        1 => 2,
-        2 => 2,
-        3 => 4,
-        4 => 10,
-        5 => 10,
-        6 => 2,
-        _ => 0,
+    // The set of a limit.
+    pub fn set(self) -> Option<Set> {
+        match self {
+            Row::Left(set, _) | Row::Right(_, set) => Some(set),
+            _ => None,
+        }
     }
-}
 
-// The state of a row; of a letter step the first.
-fn from_of(batch: &[u8], place: usize, kind: u64) -> u64 {
-    if kind == 4 {
-        return byte(batch, place, 9);
-    }
-    byte(batch, place, 1)
-}
-
-// The letter or the set of a row, 0 for none.
-fn label_of(batch: &[u8], place: usize, kind: u64) -> u64 {
-    match kind {
-        3 => byte(batch, place, 2),
-        4 => set_at(batch, wrapping_add_usize(place, 1)),
-        5 => set_at(batch, wrapping_add_usize(place, 2)),
-        _ => 0,
-    }
-}
-
-// The row at `place`; a blank line past the end.
-fn row_at(batch: &[u8], place: usize, kind: u64) -> cells::Line {
-    let from = from_of(batch, place, kind);
-    let label = label_of(batch, place, kind);
-    let to = byte(batch, place, 3);
-    cells::Line {
-        kind,
-        from,
-        label,
-        to,
+    // Why the row is refused: a state above 63, or a set without states.
+    fn cause(self) -> Option<Cause> {
+        let states = match self {
+            Row::Letter(from, _, to) => from | to,
+            Row::Left(_, s) | Row::Right(s, _) => s,
+            Row::Initial(s) | Row::Final(s) | Row::Struck(s) => s,
+        };
+        if states > 63 {
+            return Some(Cause::State);
+        }
+        if self.set() == Some(Set(0)) {
+            return Some(Cause::EmptySet);
+        }
+        None
     }
 }
 
-// A refusal: its number, 0 for none, and its place.
+// Why a row is refused, by the number of the refusal.
+#[derive(Clone, Copy)]
+enum Cause {
+    Kind = 2,
+    Cut = 3,
+    State = 4,
+    EmptySet = 5,
+}
+
+// A refusal, and the place of its row.
 #[derive(Clone, Copy)]
 pub struct Refused {
-    pub number: u64,
-    pub place: usize,
+    cause: Cause,
+    place: usize,
 }
 
-// The states of a row, their bits joined.
-fn states_of(batch: &[u8], place: usize, kind: u64) -> u64 {
-    let from = from_of(batch, place, kind);
-    if kind == 3 {
-        return from | byte(batch, place, 3);
+impl fmt::Display for Refused {
+    fn fmt<W: fmt::Write>(&self, f: &mut fmt::Formatter<W>) -> fmt::Result {
+        let number = self.cause as u8;
+        let place = self.place;
+        write!(f, "refused {number} at {place}")
     }
-    from
 }
 
-// The number for which a row of a known kind is refused, 0 for none: a state above 63, or a set without states.
-fn content_cause(batch: &[u8], place: usize, kind: u64) -> u64 {
-    if states_of(batch, place, kind) > 63 {
-        return 4;
-    }
-    if kind == 4 || kind == 5 {
-        if label_of(batch, place, kind) == 0 {
-            return 5;
+// The row at the start of the bytes.
+fn read_row(bytes: &[u8]) -> Result<Row, Cause> {
+    let row = match *bytes {
+        [1, s, ..] => Row::Initial(s),
+        [2, s, ..] => Row::Final(s),
+        [3, from, letter, to, ..] => Row::Letter(from, letter, to),
+        [4, a, b, c, d, e, f, g, h, to, ..] => {
+            Row::Left(Set(u64::from_be_bytes([a, b, c, d, e, f, g, h])), to)
         }
-    }
-    0
-}
-
-// The number for which the row is refused, 0 for none.
-fn cause(batch: &[u8], place: usize, kind: u64) -> u64 {
-    let length = row_length(kind);
-    if length == 0 {
-        return 2;
-    }
-    if wrapping_add_usize(place, length) > batch.len() {
-        return 3;
-    }
-    content_cause(batch, place, kind)
-}
-
-// The first row that is refused, of as many as the table has room for.
-pub fn refusal(batch: &[u8]) -> Refused {
-    let mut place = 0;
-    let mut n = 0;
-    while n < cells::ROWS && place < batch.len() {
-        let kind = byte(batch, place, 0);
-        let number = cause(batch, place, kind);
-        if number != 0 {
-            return Refused { number, place };
+        [5, from, a, b, c, d, e, f, g, h, ..] => {
+            Row::Right(from, Set(u64::from_be_bytes([a, b, c, d, e, f, g, h])))
         }
-        place = wrapping_add_usize(place, row_length(kind));
-        n += 1;
-    }
-    Refused { number: 0, place }
-}
-
-// Reads all rows.
-pub fn read_rows(batch: &[u8], table: &mut [u64]) {
-    let mut place = 0;
-    let mut n = 0;
-    while n < cells::ROWS {
-        let kind = byte(batch, place, 0);
-        cells::put_line(table, n, row_at(batch, place, kind));
-        place = wrapping_add_usize(place, row_length(kind));
-        n += 1;
+        [6, s, ..] => Row::Struck(s),
+        [1..=6, ..] => return Err(Cause::Cut),
+        _ => return Err(Cause::Kind),
+    };
+    match row.cause() {
+        Some(cause) => Err(cause),
+        None => Ok(row),
     }
 }
 
-// The set of a row of kind 4 or 5, 0 for any other.
-pub fn row_set(table: &[u64], n: u64) -> u64 {
-    if cells::cell(table, n, cells::KIND) < 4 {
-        return 0;
-    }
-    cells::cell(table, n, cells::LABEL)
-}
-
-// Puts a set at place `i` if it belongs there, and answers the set to carry on: the one it drives out, or 0 for none.
-fn keep_at(table: &mut [u64], i: u64, set: u64) -> u64 {
-    let here = cells::at(table, cells::SETS, i);
-    if set == here {
-        return 0;
-    }
-    if set < here || here == 0 {
-        cells::put(table, cells::SETS, i, set);
-        return here;
-    }
-    set
-}
-
-// Puts a set in its place among the sets, which rise; a set that is there already changes nothing.
-fn keep_set(table: &mut [u64], set: u64) {
-    let mut carried = set;
-    let mut i = 0;
-    while i < 32 && carried != 0 {
-        carried = keep_at(table, i, carried);
-        i += 1;
-    }
-}
-
-// The states that rows of this kind name: 1 initial, 2 final, 6 struck.
-pub fn named(table: &[u64], kind: u64) -> u64 {
-    let mut found = 0;
-    let mut n = 0;
-    while n < cells::ROWS {
-        if cells::cell(table, n, cells::KIND) == kind {
-            found = cells::with(found, cells::cell(table, n, cells::FROM));
+// The states that the rows name of which a function tells it.
+pub fn named<F: Fn(Row) -> Option<u8>>(rows: &[Row], state_of: F) -> Set
+    requires { F.IsAlwaysCallable state_of }
+{
+    let mut found = Set(0);
+    for row in rows {
+        if let Some(s) = state_of(*row) {
+            found = found.with(s);
         }
-        n += 1;
     }
     found
 }
 
-// The struck states.
-pub fn collect_strikes(table: &mut [u64]) {
-    let struck = named(table, 6);
-    cells::put(table, cells::STRUCK, 0, struck);
-}
-
-// The sets of the rows, rising, and zeros after them.
-pub fn collect_sets(table: &mut [u64]) {
-    let mut n = 0;
-    while n < cells::ROWS {
-        keep_set(table, row_set(table, n));
-        n += 1;
+// The rows, as many as there is room for, or the first that is refused.
+pub fn read(batch: &[u8]) -> Result<Rows, Refused> {
+    let mut rows = List::new(Row::Struck(0));
+    let mut place = 0usize;
+    for _ in 0..ROWS {
+        let rest = batch.get(place..).unwrap_or(&[]);
+        if rest.is_empty() {
+            break;
+        }
+        let row = read_row(rest).map_err(|cause| Refused { cause, place })?;
+        rows.push(row);
+        place = place.saturating_add(row.length());
     }
+    Ok(rows)
 }

@@ -1,121 +1,112 @@
 // The states from which so many steps lead to a final state, and the walk of a sheet.
-use crate::{cells, reader, text};
+use crate::reader::{Row, named};
+use crate::sets::Set;
+use crate::settling::{Automaton, Settled};
+use crate::steps::{By, Step};
+use crate::text::Text;
+use std::fmt;
+use std::fmt::Write;
 
-// The states with a row of this kind, 1 initial, 2 final, that are not struck.
-fn marked(table: &[u64], kind: u64) -> u64 {
-    reader::named(table, kind) & !cells::at(table, cells::STRUCK, 0)
+// The initial states that are not struck.
+fn initial(automaton: &Automaton) -> Set {
+    let named = named(automaton.rows.as_slice(), |row| match row {
+        Row::Initial(s) => Some(s),
+        _ => None,
+    });
+    named.without(automaton.struck)
+}
+
+// The final states that are not struck.
+fn last(automaton: &Automaton) -> Set {
+    let named = named(automaton.rows.as_slice(), |row| match row {
+        Row::Final(s) => Some(s),
+        _ => None,
+    });
+    named.without(automaton.struck)
 }
 
 // The states of `near`, and those from which a step leads into it.
-fn one_step_more(table: &[u64], near: u64) -> u64 {
+fn one_step_more(steps: &[Step], near: Set) -> Set {
     let mut found = near;
-    let mut n = cells::ROWS;
-    while n < cells::LINES && cells::cell(table, n, cells::KIND) != 0 {
-        if cells::has(near, cells::cell(table, n, cells::TO)) {
-            found = cells::with(found, cells::cell(table, n, cells::FROM));
+    for step in steps {
+        if near.has(step.to) {
+            found = found.with(step.from);
         }
-        n += 1;
     }
     found
 }
 
 // The states from which at most `k` steps lead to a final state.
-fn near(table: &[u64], k: u64) -> u64 {
-    let mut found = marked(table, 2);
-    let mut left = k;
-    while left > 0 {
-        found = one_step_more(table, found);
-        left -= 1;
+fn near(automaton: &Automaton, steps: &[Step], k: usize) -> Set {
+    let mut found = last(automaton);
+    for _ in 0..k {
+        found = one_step_more(steps, found);
     }
     found
 }
 
-// No walk: a shortest one meets no state twice.
-pub const NONE: u64 = 64;
-
-// The least number of steps from an initial to a final state.
-pub fn walk_length(table: &[u64]) -> u64 {
-    let initial = marked(table, 1);
-    let mut found = marked(table, 2);
-    let mut k = 0;
-    while k < NONE && found & initial == 0 {
-        let more = one_step_more(table, found);
+// The least number of steps from an initial to a final state. A shortest walk meets no state twice.
+pub fn length(automaton: &Automaton, steps: &[Step]) -> Option<usize> {
+    let initial = initial(automaton);
+    let mut found = last(automaton);
+    for k in 0..64usize {
+        if !found.and(initial).is_empty() {
+            return Some(k);
+        }
+        let more = one_step_more(steps, found);
         if more == found {
-            return NONE;
+            return None;
         }
         found = more;
-        k += 1;
     }
-    k
+    None
 }
 
-fn lowest(set: u64) -> u64 {
-    let mut s = 0;
-    while s < 64 && !cells::has(set, s) {
-        s += 1;
-    }
-    s
+// Does one step come before another of the same state: by kind, then letter or set, then target?
+fn is_before(a: Step, b: Step) -> bool {
+    a.by < b.by || (a.by == b.by && a.to < b.to)
 }
 
-// Does step `n` come before step `m`: by kind, then letter or set, then target? A line past the table has kind 0, and comes after all.
-fn is_before(table: &[u64], n: u64, m: u64) -> bool {
-    let kind = cells::cell(table, m, cells::KIND);
-    let label = cells::cell(table, m, cells::LABEL);
-    if kind == 0 {
-        return true;
-    }
-    if cells::cell(table, n, cells::KIND) != kind {
-        return cells::cell(table, n, cells::KIND) < kind;
-    }
-    if cells::cell(table, n, cells::LABEL) != label {
-        return cells::cell(table, n, cells::LABEL) < label;
-    }
-    cells::cell(table, n, cells::TO) < cells::cell(table, m, cells::TO)
-}
-
-// The first step from `s` into `near`; a line past the table where there is none.
-fn first_step(table: &[u64], s: u64, near: u64) -> u64 {
-    let mut best = cells::LINES;
-    let mut n = cells::ROWS;
-    while n < cells::LINES && cells::cell(table, n, cells::KIND) != 0 {
-        if cells::cell(table, n, cells::FROM) == s
-            && cells::has(near, cells::cell(table, n, cells::TO))
-            && is_before(table, n, best)
-        {
-            best = n;
+// The first step from `s` into `near`.
+fn first_step(steps: &[Step], s: u8, near: Set) -> Option<Step> {
+    let mut best: Option<Step> = None;
+    for step in steps {
+        if step.from == s && near.has(step.to) && best.is_none_or(|b| is_before(*step, b)) {
+            best = Some(*step);
         }
-        n += 1;
     }
     best
 }
 
-// The lines of the steps of a shortest walk of `count` steps from `start` on.
-fn put_steps(out: &mut [u8], place: usize, table: &[u64], start: u64, count: u64) -> usize {
-    let mut end = place;
-    let mut s = start;
-    let mut left = count;
-    while left > 0 {
-        left -= 1;
-        let n = first_step(table, s, near(table, left));
-        s = cells::cell(table, n, cells::TO);
-        end = text::put_step(
-            out,
-            end,
-            cells::cell(table, n, cells::KIND),
-            cells::cell(table, n, cells::LABEL),
-            s,
-        );
+fn put_step(step: Step, text: &mut Text) -> fmt::Result {
+    let to = step.to;
+    match step.by {
+        By::Letter(letter) => writeln!(text, "step letter {letter} to {to}"),
+        By::Omega(set) => writeln!(text, "step omega {set} to {to}"),
+        By::Back(set) => writeln!(text, "step back {set} to {to}"),
+        By::Mix(set) => writeln!(text, "step mix {set} to {to}"),
     }
-    end
 }
 
 // The lines of the first shortest walk from an initial to a final state, none where there is no walk.
-pub fn put_walk(out: &mut [u8], place: usize, table: &[u64]) -> usize {
-    let count = walk_length(table);
-    if count == NONE {
-        return place;
+pub fn put_walk(settled: &Settled, text: &mut Text) -> fmt::Result {
+    let Some(count) = settled.walk_length else {
+        return Ok(());
+    };
+    let automaton = &settled.automaton;
+    let steps = settled.steps.as_slice();
+    let starts = near(automaton, steps, count).and(initial(automaton));
+    let Some(start) = starts.lowest() else {
+        return Ok(());
+    };
+    writeln!(text, "start {start}")?;
+    let mut s = start;
+    for left in (0..count).rev() {
+        let Some(step) = first_step(steps, s, near(automaton, steps, left)) else {
+            return Ok(());
+        };
+        put_step(step, text)?;
+        s = step.to;
     }
-    let start = lowest(near(table, count) & marked(table, 1));
-    let end = text::put_number(out, place, text::START, start);
-    put_steps(out, end, table, start, count)
+    Ok(())
 }

@@ -1,17 +1,10 @@
 -- What reading an input leaves.
-use Rattle.std.specs.Prelude.{ℕ, ◌+◌, ◌≤◌, ◌<◌, List, length}
-use Rattle.program_input.specs.declared.Input.{Input}
-use Rattle.program_input.specs.declared.Input.TheVariants.{Bytes, Failed}
+use Rattle.std.specs.Prelude.{ℕ, ◌≤◌, ◌<◌, List, length, Result, IfOk}
+use Rattle.std.specs.declared.io.Error.{Error}
 
 -- a count of bytes lies within the buffer
-abbrev pub Held : Input → List ℕ → Type 0
-Held (Bytes n) buffer = n ≤ length buffer
-Held (Failed e) buffer = Unit {0}
-
--- from a place on
-abbrev pub Behind : Input → ℕ → List ℕ → Type 0
-Behind (Bytes n) at buffer = at + n ≤ length buffer
-Behind (Failed e) at buffer = Unit {0}
+abbrev pub Held : Result ℕ Error → List ℕ → Type 0
+Held r buffer = IfOk r (λ n. n ≤ length buffer)
 
 -- the buffer holds more than so many bytes, so that longer input is seen
 abbrev pub SeesLonger : ℕ → List ℕ → Type 0

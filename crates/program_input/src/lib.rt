@@ -2,52 +2,54 @@
 #![tactic(auto)]
 
 ghost use Rattle.std.specs.Prelude.{◌≤◌, length};
-ghost use Rattle.program_input.specs.Input.{Held, Behind, SeesLonger};
+ghost use Rattle.program_input.specs.Input.{Held, SeesLonger};
 
 use std::env::FillError;
-use std::io::{Error, ErrorKind, Read, Result};
+use std::io::{Error, ErrorKind, Input, Read, Result};
 use std::rt::{Env, Files};
 use std::{fs, str};
 
 // Room for any path.
 pub const LONGEST_PATH: usize = 4096;
 
-// What an input gave: a count of bytes at the start of the buffer, or a read that failed, and why.
-#[derive(Clone, Copy)]
-pub enum Input {
-    Bytes(usize),
-    Failed(Error),
-}
-
-// Reads once into the buffer from `at` on: no byte at the end of the input.
-fn read_at<R: Read>(reader: &mut R, buffer: &mut [u8], at: usize) -> Input
-    requires { at ≤ length buffer.old }
-    ensures { Behind result at buffer.new }
-{
-    match reader.read(&mut buffer[at..]) {
-        Ok(n) => Input::Bytes(n),
-        Err(error) => Input::Failed(error),
-    }
-}
-
-// Reads the input, a piece at a time, to its end or until more than `longest` bytes have come.
-pub fn read_input<R: Read>(reader: &mut R, buffer: &mut [u8], longest: usize) -> Input
+// Reads the input, a piece at a time, to its end or until more than `longest` bytes have come. Answers how many bytes are at the start of
+// the buffer, or why a read failed.
+pub fn read_input<R: Read>(reader: &mut R, buffer: &mut [u8], longest: usize) -> Result<usize>
     requires { SeesLonger longest buffer.old }
     ensures { Held result buffer.new }
 {
     let mut at = 0;
+    // Each read says how far it came: no range counts the pieces.
     while at <= longest {
-        match read_at(reader, buffer, at) {
-            Input::Bytes(n) => {
-                if n == 0 {
-                    return Input::Bytes(at);
-                }
-                at += n;
+        let n = reader.read(&mut buffer[at..])?;
+        if n == 0 {
+            break;
+        }
+        at += n;
+    }
+    Ok(at)
+}
+
+// Hands the whole of standard input to a function that writes what it makes of it. Says on standard error where either fails.
+pub fn answer_input<F: FnOnce(&[u8]) -> Result<()>>(
+    rt: &(impl Input + Eprint),
+    buffer: &mut [u8],
+    longest: usize,
+    answer: F,
+)
+    requires room { SeesLonger longest buffer.old }
+    requires answered { F.IsAlwaysCallable answer }
+{
+    match read_input(&mut rt.reader(), buffer, longest) {
+        Ok(n) => {
+            if let Err(error) = answer(&buffer[..n]) {
+                let _ = eprintln!(rt; "standard output: {error}");
             }
-            Input::Failed(error) => return Input::Failed(error),
+        }
+        Err(error) => {
+            let _ = eprintln!(rt; "standard input: {error}");
         }
     }
-    Input::Bytes(at)
 }
 
 // Reads until the buffer is full, the input ends or a read fails. Answers how many bytes are at the start of the buffer.
@@ -55,15 +57,11 @@ pub fn read_full<R: Read>(reader: &mut R, buffer: &mut [u8]) -> usize
     ensures { result ≤ length buffer.new }
 {
     let mut done = 0;
+    // As above.
     while done < buffer.len() {
-        match read_at(reader, buffer, done) {
-            Input::Bytes(n) => {
-                if n == 0 {
-                    return done;
-                }
-                done += n;
-            }
-            Input::Failed(_) => return done,
+        match reader.read(&mut buffer[done..]) {
+            Ok(0) | Err(_) => break,
+            Ok(n) => done += n,
         }
     }
     done
@@ -71,20 +69,16 @@ pub fn read_full<R: Read>(reader: &mut R, buffer: &mut [u8]) -> usize
 
 // Opens a file for reading.
 pub fn open<R: Files>(rt: &R, path: &[u8]) -> Result<R::File> {
-    match str::from_utf8(path) {
-        Ok(name) => fs::open(rt, name),
-        Err(_) => Err(Error::from(ErrorKind::InvalidInput)),
-    }
+    let name = str::from_utf8(path).map_err(|_| Error::from(ErrorKind::InvalidInput))?;
+    fs::open(rt, name)
 }
 
-// Puts an argument at the start of the buffer, and answers its length: 0 where it is missing, or longer than the buffer.
-pub fn argument(rt: &impl Env, index: usize, buffer: &mut [u8]) -> usize
-    ensures { result ≤ length buffer.new }
+// The argument, at the start of the buffer: empty where it is missing, or longer than the buffer.
+pub fn argument<'a>(rt: &impl Env, index: usize, buffer: &'a mut [u8]) -> &'a [u8]
+    ensures { length result.now ≤ length buffer.old }
 {
-    match rt.arg(index, buffer) {
-        Ok(n) => n,
-        Err(_) => 0,
-    }
+    let n = rt.arg(index, buffer).unwrap_or(0);
+    &buffer[..n]
 }
 
 // How many arguments there are, the name of the program among them.

@@ -8,37 +8,21 @@ ghost use Rattle.lists.specs.Tests.{Decides};
 pub fn same(a: &[u8], b: &[u8]) -> bool
     ensures { Decides result (a.now ≡ b.now) }
 {
-    if a.len() != b.len() {
-        return false;
-    }
-    let mut i = 0;
-    while i < a.len() {
-        if a[i] != b[i] {
-            return false;
-        }
-        i += 1;
-    }
-    true
+    a == b
 }
 
 // The first bytes of a text; all of it where it has fewer.
 pub fn first(text: &[u8], n: usize) -> &[u8]
     ensures { result.now ≡ take n text.now }
 {
-    if n < text.len() {
-        return &text[..n];
-    }
-    text
+    text.get(..n).unwrap_or(text)
 }
 
 // What stands behind the first bytes of a text; nothing where it has no more.
 pub fn beyond(text: &[u8], n: usize) -> &[u8]
     ensures { result.now ≡ drop n text.now }
 {
-    if n < text.len() {
-        return &text[n..];
-    }
-    &text[text.len()..]
+    text.get(n..).unwrap_or(&[])
 }
 
 // Writes a text. A write that fails is passed over, here and below.

@@ -9,15 +9,14 @@ pub fn next(word: u64) -> u64 {
 
 // The word that automaton after automaton starts from: a sum that wraps, so that no two share their words.
 pub fn next_seed(seed: u64) -> u64 {
-    std::num::wrapping_add_u64(seed, 0x9e3779b97f4a7c15)
+    seed.wrapping_add(0x9e3779b97f4a7c15)
 }
 
 // The choice below `n` that byte `k` of the word makes, 0 where there is none.
 pub fn choice(word: u64, k: u64, n: u64) -> u64 {
-    if k < 8 {
-        if n > 0 {
-            return (word >> (k * 8)) % 256 % n;
-        }
+    if k < 8 && n > 0 {
+        (word >> (k * 8)) % 256 % n
+    } else {
+        0
     }
-    0
 }

@@ -5,77 +5,58 @@
 mod batches;
 mod dice;
 mod generator;
+mod row_bytes;
 mod tally;
 
+use machine::Answer;
 use program_output::first;
+use tally::Tally;
 
-// What the engine makes of one batch against what the plain search makes of the other, and what that met.
-fn try_pair(
-    rt: &impl Print,
-    batch: &[u8],
-    other: &[u8],
-    told: usize,
-    counts: &mut [u64],
-) -> plain::Written {
-    let shown = checker::shown(batch);
-    let ours = shown.text;
+// What the engine made of a batch against what the plain search makes of it without its last two bytes.
+fn try_shorter(batch: &[u8], ours: &[u8], verdict: Answer, tally: &mut Tally) {
     let mut theirs = [0u8; 6400];
-    let sheet = plain::sheet(other, &mut theirs);
-    tally::tell(
-        rt,
-        batch,
-        first(&ours, shown.length),
-        first(&theirs, sheet.length),
-        told,
-        counts,
-    );
-    tally::tell_verdict(
-        checker::verdict(batch),
-        first(&theirs, sheet.length),
-        told,
-        counts,
-    );
-    sheet
+    let n = batch.len().wrapping_sub(2);
+    let sheet = plain::sheet(first(batch, n), &mut theirs);
+    tally.tell_pair(ours, first(&theirs, sheet.length), verdict);
 }
 
 // Tries one batch; and of some also that it is told from the same batch without its last row.
-fn try_batch(rt: &impl Print, batch: &[u8], turn: u64, counts: &mut [u64]) {
-    let sheet = try_pair(rt, batch, batch, tally::DIFFERENT, counts);
-    tally::count_gap(counts, sheet.by_gap);
-    tally::count_strike(counts, sheet.by_strike);
+fn try_batch(rt: &impl Print, batch: &[u8], turn: u64, tally: &mut Tally) {
+    let shown = checker::shown(batch);
+    let text = shown.text;
+    let ours = first(&text, shown.length);
+    let verdict = checker::verdict(batch);
+    let mut theirs = [0u8; 6400];
+    let sheet = plain::sheet(batch, &mut theirs);
+    let theirs = first(&theirs, sheet.length);
+    if !tally.tell(ours, theirs, verdict) {
+        tally::show(rt, batch, ours, theirs);
+    }
+    tally.count_special(sheet);
     if turn % 64 == 0 {
-        let n = std::num::wrapping_sub_usize(batch.len(), 2);
-        try_pair(rt, batch, first(batch, n), tally::TOLD, counts);
+        try_shorter(batch, ours, verdict, tally);
     }
 }
 
 // Tries a batch that was not tried before.
-fn try_new(rt: &impl Print, batch: &[u8], turn: u64, seen: &mut [u64], counts: &mut [u64]) {
-    if batches::is_new(seen, batch) {
-        return try_batch(rt, batch, turn, counts);
-    }
-    tally::repeated(counts);
-}
-
-fn try_one(rt: &impl Print, seed: u64, turn: u64, seen: &mut [u64], counts: &mut [u64]) {
+fn try_one(rt: &impl Print, seed: u64, turn: u64, seen: &mut [u64], tally: &mut Tally) {
     let mut buffer = [0u8; 1024];
     let n = batches::write(seed, &mut buffer);
-    try_new(rt, first(&buffer, n), turn, seen, counts);
-}
-
-fn try_all(rt: &impl Print, seen: &mut [u64], counts: &mut [u64]) {
-    let mut seed = 2026u64;
-    let mut left = tally::BATCHES;
-    while left > 0 {
-        try_one(rt, seed, left, seen, counts);
-        seed = dice::next_seed(seed);
-        left -= 1;
+    let batch = first(&buffer, n);
+    if batches::is_new(seen, batch) {
+        try_batch(rt, batch, turn, tally);
+    } else {
+        tally.count_repeated();
     }
 }
 
 fn main(rt: HostRuntime) {
-    let mut counts = [0u64; 100];
+    let mut tally = Tally::new();
     let mut seen = [0u64; 32768];
-    try_all(&rt, &mut seen, &mut counts);
-    tally::report(&rt, &counts);
+    let mut seed = 2026u64;
+    for turn in (1..=tally::BATCHES).rev() {
+        try_one(&rt, seed, turn, &mut seen, &mut tally);
+        seed = dice::next_seed(seed);
+    }
+    tally.report(&rt);
 }

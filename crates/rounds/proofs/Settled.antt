@@ -31,8 +31,10 @@ use Rattle.search.specs.Graph.{Graph, TurnedGraph}
 use Rattle.search.specs.Hops.{WithNew, no_claims}
 use Rattle.search.specs.Masked.{Forced}
 use Rattle.search.specs.Promises.{AcceptsRight, AcceptsLetters, OpensBelow}
-use Rattle.lacks.specs.Lacks.{LacksIn, ByLetters, Supplies, AboveNew}
-use Rattle.candidates.specs.Promises.{LoopsAt, LiveBelow, Paired, LoopingAt, OpensAwaited}
+use Rattle.lacks.specs.declared.Lacks.{Lacks}
+use Rattle.lacks.specs.Lacks.{LacksIn, Supplies, AboveNew}
+use Rattle.candidates.specs.declared.Trial.{Trial}
+use Rattle.candidates.specs.Promises.{LoopsAt, LiveBelow, Paired, LoopingAt, Handed, OpensAwaited}
 use Rattle.candidates.proofs.Awaiting.{live_fewer}
 use Rattle.candidates.proofs.Finding.{loops_more, loops_led, loops_led_back}
 use Rattle.candidates.proofs.Holding.{paired_by}
@@ -42,10 +44,6 @@ use Rattle.rounds.specs.Arrays.{rounds_of, OpenPlaces, Notes}
 use Rattle.rounds.specs.Promises.{Given, LettersGiven, Mirrors}
 use Rattle.rounds.proofs.OpenClaims.{forced_by, no_rounds}
 use Rattle.rounds.proofs.Turn.{none_forced, walk_test, Turn, turn_kept, turn_forced}
-
--- another phase than running
-pub not_running : (p q : Phase) → p ≡ q → ¬ (q ≡ Running) → Decides false (p ≡ Running)
-not_running p q e h = record { to = λ f. let z : ◌≡◌ {A = ℕ} 0 1 = cc in absurd (omega arith); of = λ f. absurd (h (sym e ∙ f)) }
 
 -- closed, with a test of the walks that need no claim
 closed_tested : (m : Machine) → length (standing_sets m.rows) ≤ 64 → (b : Bool) → b ≡ accepts? m.rows [] → Mirrors (closed m) (replicate 64 0) (replicate 64 0) (judged b false) 0
@@ -120,44 +118,53 @@ pub record Stage (rows : List Row) (g : Graph) (n : ℕ) (force : Claims) (loop-
 
 -- the sets at the places fresh loop; the other places are among those with no claim in force, at which the masks in to and from have states that
 -- are lacking, forward and backward
-pub record Tracked (g back : Graph) (n pieces : ℕ) (force : Claims) (fresh places : ℕ) (to from : List ℕ) : Type 0 where
-  pub looping : LoopingAt g force fresh
+pub record Tracked (g : Graph) (n : ℕ) (t : Trial) (lacks : Lacks) : Type 0 where
+  pub looping : LoopingAt g t.force t.fresh
   pub live : ℕ
-  pub live_is : LiveBelow force n live
-  pub within : places ⊆ live
-  pub to_lacks : LacksIn g force pieces live to
-  pub from_lacks : LacksIn back force pieces live from
+  pub live_is : LiveBelow t.force n live
+  pub within : t.places ⊆ live
+  pub to_lacks : LacksIn g t.force t.pieces live lacks.to
+  pub from_lacks : (back : Graph) → TurnedGraph g back → LacksIn back t.force t.pieces live lacks.from
 
-pub tracked_start : {g back : Graph} {n pieces : ℕ} (places : ℕ) {to₀ to from₀ from : List ℕ} → LiveBelow no_claims n places → to₀ ≡ replicate 64 0 → from₀ ≡ replicate 64 0
-    → ByLetters g pieces to₀ to → ByLetters back pieces from₀ from → Tracked g back n pieces no_claims 0 places to from
-tracked_start places is e f t b = record {
+pub tracked_start : {g : Graph} {n : ℕ} (pieces places : ℕ) {lacks : Lacks} → LiveBelow no_claims n places → ((places : ℕ) → LacksIn g no_claims pieces places lacks.to)
+    → ((back : Graph) → TurnedGraph g back → (places : ℕ) → LacksIn back no_claims pieces places lacks.from)
+    → Tracked g n (record { force = no_claims; fresh = 0; pieces = pieces; places = places }) lacks
+tracked_start pieces places is forward backward = record {
   looping = λ i h. absurd (in_none i h);
   live = places;
   live_is = is;
   within = λ i h. h;
-  to_lacks = t.lacks e places;
-  from_lacks = b.lacks f places;
+  to_lacks = forward places;
+  from_lacks = λ back turned. backward back turned places;
 }
 
 -- a round opens new claims, which are supplied
-module _ {g back : Graph} {n pieces : ℕ} {old : Claims} {fresh places : ℕ} {to from : List ℕ} (now : Tracked g back n pieces old fresh places to from) where
-  pub tracked_low : (i : ℕ) → i ∈ places → i < n
+module _ {g : Graph} {n : ℕ} {t : Trial} {lacks : Lacks} (now : Tracked g n t lacks) where
+  pub tracked_low : (i : ℕ) → i ∈ t.places → i < n
   tracked_low i h = ((now.live_is i).0 (now.within i h)).0
 
-  pub tracked_more : {new force : Claims} {to' from' : List ℕ} (fresh' live places' : ℕ) → TurnedGraph g back → WithNew old new force → OpensAwaited g old n places new → ((t : ℕ) → member t fresh' ≡ (member t new.loops && not (member t old.mixes)))
-      → LiveBelow force n live → length to ≡ 64 → length from ≡ 64 → Supplies g new fresh' live to to' → Supplies back new fresh' live from from' → AboveNew g new live places'
-      → Tracked g back n pieces force fresh' places' to' from'
-  tracked_more {new} {force} fresh' live places' turned is opens is_fresh is_live e f t b above = let fewer = live_fewer now.live live is now.live_is is_live in record {
+  pub handed : Handed g t lacks
+  handed = record {
+    looping = now.looping;
+    to_lacks = λ i q h. now.to_lacks i q (now.within i h);
+    from_lacks = λ back turned i q h. now.from_lacks back turned i q (now.within i h);
+  }
+
+  pub tracked_more : {new force : Claims} {lacks' : Lacks} (fresh live places : ℕ) → WithNew t.force new force → OpensAwaited g t.force n t.places new
+      → ((s : ℕ) → member s fresh ≡ (member s new.loops && not (member s t.force.mixes))) → LiveBelow force n live → Supplies g new fresh live lacks.to lacks'.to
+      → ((back : Graph) → TurnedGraph g back → Supplies back new fresh live lacks.from lacks'.from) → AboveNew g new live places
+      → Tracked g n (record { force = force; fresh = fresh; pieces = t.pieces; places = places }) lacks'
+  tracked_more {new} {force} fresh live places is opens is_fresh is_live forward backward above = let fewer = live_fewer now.live live is now.live_is is_live in record {
     looping = λ i h. loops_more is (looped i h);
     live = live;
     live_is = is_live;
     within = λ i h. ((above i).0 h).0;
-    to_lacks = t.lacks e old force pieces now.live is fewer (λ i h. loops_led (looped i h)) now.to_lacks;
-    from_lacks = b.lacks f old force pieces now.live is fewer (λ i h. loops_led_back turned (looped i h)) now.from_lacks;
+    to_lacks = forward t.force force t.pieces now.live is fewer (λ i h. loops_led (looped i h)) now.to_lacks;
+    from_lacks = λ back turned. backward back turned t.force force t.pieces now.live is fewer (λ i h. loops_led_back turned (looped i h)) (now.from_lacks back turned);
   }
     where
-      looped : (i : ℕ) → i ∈ fresh' → LoopsAt g old i
-      looped i h = opens.tested i (difference_left new.loops old.mixes fresh' is_fresh i h) (difference_not new.loops old.mixes fresh' is_fresh i h)
+      looped : (i : ℕ) → i ∈ fresh → LoopsAt g t.force i
+      looped i h = opens.tested i (difference_left new.loops t.force.mixes fresh is_fresh i h) (difference_not new.loops t.force.mixes fresh is_fresh i h)
 
 module _ (rows : List Row) {g : Graph} {initials finals n : ℕ} (given : Given rows g initials finals n) where
   pub stage_start : (b : Bool) → AcceptsRight g no_claims initials finals b → Stage rows g n no_claims (replicate 64 0) (replicate 64 0) (judged b false) 0

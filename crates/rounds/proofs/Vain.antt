@@ -15,7 +15,7 @@ use Rattle.rows.specs.declared.Row.{Row}
 use Rattle.machine.specs.Machine.{open_with, judged}
 use Rattle.machine.specs.Calls.{close, round, run}
 use Rattle.search.specs.declared.Claims.{Claims}
-use Rattle.search.specs.Graph.{Graph, graph_of, part}
+use Rattle.search.specs.Graph.{Graph}
 use Rattle.search.specs.Hops.{Hop, InnerClaims, Joined, Covered, no_claims}
 use Rattle.search.specs.Promises.{AcceptsRight}
 use Rattle.search.proofs.Chains.{chain_first}
@@ -26,15 +26,14 @@ use Rattle.rounds.specs.Promises.{Given, Mirrors, Idle, AllIdle}
 use Rattle.rounds.proofs.Settled.{stage_start, stage_more, stage_end}
 
 -- a state of a set that is no exit of it
-pub record Lone (l : List ℕ) (i s : ℕ) : Type 0 where
-  pub has : s ∈ get_or (graph_of l).sets i 0
-  pub no_exit : ¬ (s ∈ get_or (graph_of l).rights i 0)
+pub record Lone (g : Graph) (i s : ℕ) : Type 0 where
+  pub has : s ∈ get_or g.sets i 0
+  pub no_exit : ¬ (s ∈ get_or g.rights i 0)
 
 -- which is seen to lead by no letter into the set
-pub idle_by : (l : List ℕ) (i s p letters : ℕ) (b : Bool) → Lone l i s → p ≡ get_or (graph_of l).sets i 0 → letters ≡ get_or (part l 0) s 0
-    → Decides b ((t : ℕ) × (t ∈ letters) × (t ∈ p)) → b ≡ false → Idle (graph_of l) i
-unfolding graph_of
-idle_by l i s p letters b lone e f tells none = record {
+pub idle_by : (g : Graph) (i s p letters : ℕ) (b : Bool) → Lone g i s → p ≡ get_or g.sets i 0 → letters ≡ get_or g.letters s 0
+    → Decides b ((t : ℕ) × (t ∈ letters) × (t ∈ p)) → b ≡ false → Idle g i
+idle_by g i s p letters b lone e f tells none = record {
   state = s;
   has = lone.has;
   no_exit = lone.no_exit;

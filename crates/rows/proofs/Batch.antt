@@ -9,21 +9,22 @@ use native.Mathlib.Omega.{arith}
 use native.Mathlib.Nat.{add-zero}
 use lib.ListN.{length, take, drop, length-append, length-drop}
 use lib.Seq.{take_all, drop-drop, drop-length, drop_at}
+use Rattle.std.specs.Prelude.{Result, Ok, Err}
+use Rattle.causes.specs.declared.Cause.{Cause}
+use Rattle.causes.specs.Numbers.{number_of}
 use Rattle.lists.proofs.Deciding.{gather_out}
 use Rattle.rows.specs.declared.Row.{Row}
-use Rattle.rows.specs.declared.ReadRow.{ReadRow}
-use Rattle.rows.specs.declared.ReadRow.TheVariants.{Read, Refused}
 use Rattle.rows.specs.Rows.{row_bytes, batch_of, Fits, AllFit, Bytes}
 use Rattle.rows.specs.Reading.{read_row, Malformed}
 use Rattle.rows.specs.Batch.{Turn, go, stop, Fed, fed, failed, run_rows, on_turn, on_read, feed_from, feed, Runs, Fails}
 use Rattle.rows.proofs.Reading.{some_bytes, read_back, read_fits, read_len, read_split, row_bytes_are_bytes, malformed, bytes_drop}
 
 -- what a call of the reader on the rest says, of the rest itself
-pub read_rest : (xs : List ℕ) (at : ℕ) {r q : ReadRow} → r ≡ read_row (take (length xs - at) (drop at xs)) → r ≡ q → read_row (drop at xs) ≡ q
+pub read_rest : (xs : List ℕ) (at : ℕ) {r q : Result (Row × ℕ) Cause} → r ≡ read_row (take (length xs - at) (drop at xs)) → r ≡ q → read_row (drop at xs) ≡ q
 read_rest xs at e f = sym (ap read_row (take_all (length xs - at) (drop at xs) (simp length-drop (omega arith)))) ∙ (sym e ∙ f)
 
 -- the row at the place lies within the rest
-pub read_bounds : (xs : List ℕ) (at : ℕ) {r : Row} {n : ℕ} → read_row (drop at xs) ≡ Read r n → (1 ≤ n) × (n ≤ length xs - at)
+pub read_bounds : (xs : List ℕ) (at : ℕ) {r : Row} {n : ℕ} → read_row (drop at xs) ≡ Ok (r, n) → (1 ≤ n) × (n ≤ length xs - at)
 read_bounds xs at {r} {n} e = rw length-drop at (read_len (drop at xs) r n e)
 
 pub batch_bytes : (rows : List Row) → AllFit rows → Bytes (batch_of rows)
@@ -49,17 +50,17 @@ module _ {S : Type 0} (rule : Row → S → Turn S) where
   skip (suc k) at s (x ∷ l) h = skip k (at + 1) s l (omega arith) ∙ ap (λ (a : ℕ). feed_from rule 0 a s (drop k l)) (omega arith)
 
   -- one row at the head of the bytes
-  head_bad : (at : ℕ) (s : S) (l : List ℕ) (n : ℕ) → 0 < length l → read_row l ≡ Refused n → feed_from rule 0 at s l ≡ failed n at
+  head_bad : (at : ℕ) (s : S) (l : List ℕ) (c : Cause) → 0 < length l → read_row l ≡ Err c → feed_from rule 0 at s l ≡ failed (number_of c) at
   unfolding feed_from on_read
-  head_bad at s [] n h e = absurd (omega arith)
-  head_bad at s (x ∷ l) n h e = rw e
+  head_bad at s [] c h e = absurd (omega arith)
+  head_bad at s (x ∷ l) c h e = rw e
 
-  head_stop : (at : ℕ) (s : S) (l : List ℕ) (r : Row) (len n : ℕ) → 0 < length l → read_row l ≡ Read r len → rule r s ≡ stop n → feed_from rule 0 at s l ≡ failed n at
+  head_stop : (at : ℕ) (s : S) (l : List ℕ) (r : Row) (len n : ℕ) → 0 < length l → read_row l ≡ Ok (r, len) → rule r s ≡ stop n → feed_from rule 0 at s l ≡ failed n at
   unfolding feed_from on_read on_turn
   head_stop at s [] r len n h e p = absurd (omega arith)
   head_stop at s (x ∷ l) r len n h e p = rw (e, p)
 
-  head_go : (at : ℕ) (s : S) (l : List ℕ) (r : Row) (len : ℕ) (t : S) → 0 < length l → read_row l ≡ Read r len → rule r s ≡ go t
+  head_go : (at : ℕ) (s : S) (l : List ℕ) (r : Row) (len : ℕ) (t : S) → 0 < length l → read_row l ≡ Ok (r, len) → rule r s ≡ go t
       → feed_from rule 0 at s l ≡ feed_from rule 0 (at + len) t (drop len l)
   unfolding feed_from on_read on_turn
   head_go at s [] r len t h e p = absurd (omega arith)
@@ -74,14 +75,14 @@ module _ {S : Type 0} (rule : Row → S → Turn S) where
     unfolding feed_from
     feed_end h = rw (h, drop-length)
 
-    pub feed_bad : {n : ℕ} → at ≤ length xs → (at ≡ length xs → ⊥) → read_row (drop at xs) ≡ Refused n → feed_from rule 0 at s (drop at xs) ≡ failed n at
-    feed_bad {n} h g e = head_bad at s (drop at xs) n (simp length-drop (omega arith)) e
+    pub feed_bad : {c : Cause} → at ≤ length xs → (at ≡ length xs → ⊥) → read_row (drop at xs) ≡ Err c → feed_from rule 0 at s (drop at xs) ≡ failed (number_of c) at
+    feed_bad {c} h g e = head_bad at s (drop at xs) c (simp length-drop (omega arith)) e
 
-    pub feed_stop : {r : Row} {len n : ℕ} → at ≤ length xs → (at ≡ length xs → ⊥) → read_row (drop at xs) ≡ Read r len → rule r s ≡ stop n
+    pub feed_stop : {r : Row} {len n : ℕ} → at ≤ length xs → (at ≡ length xs → ⊥) → read_row (drop at xs) ≡ Ok (r, len) → rule r s ≡ stop n
         → feed_from rule 0 at s (drop at xs) ≡ failed n at
     feed_stop {r} {len} {n} h g e p = head_stop at s (drop at xs) r len n (simp length-drop (omega arith)) e p
 
-    pub feed_go : {r : Row} {len : ℕ} {t : S} → at ≤ length xs → (at ≡ length xs → ⊥) → read_row (drop at xs) ≡ Read r len → rule r s ≡ go t
+    pub feed_go : {r : Row} {len : ℕ} {t : S} → at ≤ length xs → (at ≡ length xs → ⊥) → read_row (drop at xs) ≡ Ok (r, len) → rule r s ≡ go t
         → feed_from rule 0 at s (drop at xs) ≡ feed_from rule 0 (at + len) t (drop (at + len) xs)
     feed_go {r} {len} {t} h g e p = head_go at s (drop at xs) r len t (simp length-drop (omega arith)) e p ∙ ap (feed_from rule 0 (at + len) t) (drop-drop len at xs)
 
@@ -116,11 +117,11 @@ module _ {S : Type 0} (rule : Row → S → Turn S) where
   feed_batch s rows f t e = ap (feed_from rule 0 0 s) (sym (append-nil (batch_of rows))) ∙ feed_rows rows [] 0 s t f e
 
   -- what refuses the bytes at their head
-  abbrev Cause : S → List ℕ → ℕ → Type 0
-  Cause s l n = Malformed l n ⊎ ((r : Row) × (tail : List ℕ) × Fits r × (l ≡ row_bytes r ++ tail) × (rule r s ≡ stop n))
+  abbrev Refuses : S → List ℕ → ℕ → Type 0
+  Refuses s l n = Malformed l n ⊎ ((r : Row) × (tail : List ℕ) × Fits r × (l ≡ row_bytes r ++ tail) × (rule r s ≡ stop n))
 
-  feed_cause : (at : ℕ) (s : S) (l : List ℕ) (n : ℕ) → 0 < length l → Cause s l n → feed_from rule 0 at s l ≡ failed n at
-  feed_cause at s l n h (inl m) = head_bad at s l n h ((malformed l n h).1 m)
+  feed_cause : (at : ℕ) (s : S) (l : List ℕ) (n : ℕ) → 0 < length l → Refuses s l n → feed_from rule 0 at s l ≡ failed n at
+  feed_cause at s l n h (inl m) = let (c, e, i) = (malformed l n h).1 m in rw (← i) (head_bad at s l c h e)
   feed_cause at s l n h (inr c) = head_stop at s l c.0 (length (row_bytes c.0)) n h (ap read_row c.3 ∙ read_back c.0 c.1 c.2) c.4
 
   -- what the bytes from a place on come to
@@ -154,18 +155,18 @@ module _ {S : Type 0} (rule : Row → S → Turn S) where
       → ((m : List ℕ) → length m < length l → Bytes m → (at : ℕ) (s : S) → Outcome at s m (feed_from rule 0 at s m)) → Outcome at s l (feed_from rule 0 at s l)
   outcome_step at s l h b below = on_head (read_row l) refl
     where
-      fails : (n : ℕ) → Cause s l n → Outcome at s l (failed n at)
+      fails : (n : ℕ) → Refuses s l n → Outcome at s l (failed n at)
       fails n c = (0, omega arith, record { rows = []; rest = l; state = s; fit = no_rows; split = refl; more = h; ran = refl; first_byte = refl; cause = c })
 
-      on_rule : (r : Row) (len : ℕ) → read_row l ≡ Read r len → (x : Turn S) → rule r s ≡ x → Outcome at s l (feed_from rule 0 at s l)
+      on_rule : (r : Row) (len : ℕ) → read_row l ≡ Ok (r, len) → (x : Turn S) → rule r s ≡ x → Outcome at s l (feed_from rule 0 at s l)
       on_rule r len e (stop n) p = rw (head_stop at s l r len n h e p) (fails n (inr (r, drop len l, read_fits l b r len e, (read_split l b r len e).1, p)))
       on_rule r len e (go t) p = rw (head_go at s l r len t h e p)
           (outcome_more at s t l (drop len l) r len (read_fits l b r len e) (read_split l b r len e) p (feed_from rule 0 (at + len) t (drop len l))
           (below (drop len l) (rw length-drop (omega (arith, read_len l r len e))) (bytes_drop len l b) (at + len) t))
 
-      on_head : (x : ReadRow) → read_row l ≡ x → Outcome at s l (feed_from rule 0 at s l)
-      on_head (Refused n) e = rw (head_bad at s l n h e) (fails n (inl ((malformed l n h).0 e)))
-      on_head (Read r len) e = on_rule r len e (rule r s) refl
+      on_head : (x : Result (Row × ℕ) Cause) → read_row l ≡ x → Outcome at s l (feed_from rule 0 at s l)
+      on_head (Err c) e = rw (head_bad at s l c h e) (fails (number_of c) (inl ((malformed l (number_of c) h).0 (c, e, refl))))
+      on_head (Ok (r, len)) e = on_rule r len e (rule r s) refl
 
   outcome_end : (at : ℕ) (s : S) → Outcome at s [] (feed_from rule 0 at s [])
   unfolding feed_from

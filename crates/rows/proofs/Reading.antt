@@ -6,20 +6,23 @@ use mathlib.Core.Bool.{Bool, true, false, cond, ◌&&◌}
 use mathlib.Core.Logic.{⊎_elim, ◌↔◌}
 use mathlib.Core.List.Memᴰ
 use mathlib.Core.List.{List, [], ◌∷◌, ◌++◌}
-use lib.Dec.{eqb, ltb, leb, eqb-suc-zero}
+use lib.Dec.{eqb, ltb, leb}
 use lib.ListN.{length, take, drop, get_or, length-take, length-drop, take-append-drop}
 use lib.Seq.{drop-cons, drop-drop, take-suc, get_or-drop}
 use native.Mathlib.Omega.{arith}
 use native.Mathlib.Nat.{div-div-eq-div-mul, div-eq_of_lt, div-one, pow-suc, one-le-pow, pow-le-pow_right, div-lt_iff_lt-mul, one-mul}
 use native.Mathlib.Numerals.{add-one}
+use Rattle.std.specs.Int.{w64, from_be_bytes}
+use Rattle.std.specs.Prelude.{Option, None, Some, Result, Ok, Err}
+use Rattle.causes.specs.declared.Cause.{Cause}
+use Rattle.causes.specs.declared.Cause.TheVariants.{UnknownKind, CutShort, HighState, ZeroSet}
+use Rattle.causes.specs.Numbers.{number_of}
 use Rattle.lists.specs.Tests.{Decides, ◌among◌, any}
 use Rattle.lists.proofs.Deciding.{so, eqb_decides, ltb_decides, leb_decides, and_decides, any_decides, yes_decides, no_decides}
 use Rattle.rows.specs.declared.Row.{Row}
 use Rattle.rows.specs.declared.Row.TheVariants.{Initial, Final, Successor, LeftLimit, RightLimit, Strike}
-use Rattle.rows.specs.declared.ReadRow.{ReadRow}
-use Rattle.rows.specs.declared.ReadRow.TheVariants.{Read, Refused}
 use Rattle.rows.specs.Rows.{big, row_bytes, Fits, Bytes}
-use Rattle.rows.specs.Reading.{number, set_at, row_at, row_cause, cut_or_high, read_row, last_kind, Known, width, state_places, set_places, Malformed, unknown_kind, cut_short, high_state, zero_set, Headed, LimitAt}
+use Rattle.rows.specs.Reading.{number, set_at, row_at, row_cause, cut_or_high, unless, read_row, last_kind, Known, width, state_places, set_places, Malformed, unknown_kind, cut_short, high_state, zero_set, Headed, LimitAt}
 
 -- without one byte more
 high : (x n : ℕ) → x / 256 ^ suc n ≡ x / 256 ^ n / 256
@@ -170,9 +173,9 @@ pub record Sound (k : ℕ) (l : List ℕ) : Type 0 where
   pub some : (j : ℕ) → j among set_places k → ¬ (set_at l j ≡ 0)
 
 -- what a cause of a kind, or none, says
-abbrev Caused : List ℕ → ℕ → Type 0
-Caused l zero = Known (get_or l 0 0) × Sound (get_or l 0 0) l
-Caused l (suc n) = Malformed l (suc n)
+abbrev Caused : List ℕ → Option Cause → Type 0
+Caused l None = Known (get_or l 0 0) × Sound (get_or l 0 0) l
+Caused l (Some c) = Malformed l (number_of c)
 
 caused : (l : List ℕ) → Caused l (row_cause (get_or l 0 0) l)
 unfolding row_cause
@@ -190,49 +193,62 @@ caused l = cond_ok (Caused l) (known_decides (get_or l 0 0))
 
 -- each cause has its number, and a sound row none
 module _ (k : ℕ) (l : List ℕ) where
-  pub unknown_cause : ¬ Known k → row_cause k l ≡ 2
+  pub unknown_cause : ¬ Known k → row_cause k l ≡ Some UnknownKind
   unfolding row_cause
   unknown_cause n = cond_no _ (known_decides k) n refl
 
   module _ (h : Known k) where
-    cut_cause : length l < width k → row_cause k l ≡ 3
+    cut_cause : length l < width k → row_cause k l ≡ Some CutShort
     unfolding row_cause
     cut_cause w = cond_yes _ (known_decides k) h ∙ cond_yes _ (ltb_decides (length l) (width k)) w
 
-    high_cause : width k ≤ length l → (i : ℕ) → i among state_places k → 63 < get_or l i 0 → row_cause k l ≡ 4
+    high_cause : width k ≤ length l → (i : ℕ) → i among state_places k → 63 < get_or l i 0 → row_cause k l ≡ Some HighState
     unfolding row_cause
     high_cause w i m g = cond_yes _ (known_decides k) h ∙ cond_no _ (ltb_decides (length l) (width k)) (omega arith) (cond_yes _ (high_decides k l) (i, m, g))
 
     zero_cause : width k ≤ length l → ((i : ℕ) → i among state_places k → get_or l i 0 ≤ 63)
-        → (j : ℕ) → j among set_places k → set_at l j ≡ 0 → row_cause k l ≡ 5
+        → (j : ℕ) → j among set_places k → set_at l j ≡ 0 → row_cause k l ≡ Some ZeroSet
     unfolding row_cause
     zero_cause w low j m z =
         cond_yes _ (known_decides k) h ∙ cond_no _ (ltb_decides (length l) (width k)) (omega arith)
         (cond_no _ (high_decides k l) (λ p. omega (arith, low p.0 p.1, p.2)) (cond_yes _ (zero_decides k l) (j, m, z)))
 
-    no_cause : Sound k l → row_cause k l ≡ 0
+    no_cause : Sound k l → row_cause k l ≡ None
     unfolding row_cause
     no_cause s =
         cond_yes _ (known_decides k) h ∙ cond_no _ (ltb_decides (length l) (width k)) (omega (arith, s.whole))
         (cond_no _ (high_decides k l) (λ p. omega (arith, s.low p.0 p.1, p.2)) (cond_no _ (zero_decides k l) (λ p. s.some p.0 p.1 p.2) refl))
 
-numbered : (l : List ℕ) (n : ℕ) → Malformed l n → row_cause (get_or l 0 0) l ≡ n
-numbered l _ (unknown_kind n) = unknown_cause (get_or l 0 0) l n
-numbered l _ (cut_short h w) = cut_cause (get_or l 0 0) l h w
-numbered l _ (high_state k i w m g) = ap (λ (x : ℕ). row_cause x l) w.0 ∙ high_cause k l w.1 w.2 i m g
-numbered l _ (zero_set k j w low m z) = ap (λ (x : ℕ). row_cause x l) w.0 ∙ zero_cause k l w.1 w.2 low j m z
+numbered : (l : List ℕ) (n : ℕ) → Malformed l n → (c : Cause) × (row_cause (get_or l 0 0) l ≡ Some c) × (number_of c ≡ n)
+numbered l _ (unknown_kind n) = (UnknownKind, unknown_cause (get_or l 0 0) l n, refl)
+numbered l _ (cut_short h w) = (CutShort, cut_cause (get_or l 0 0) l h w, refl)
+numbered l _ (high_state k i w m g) = (HighState, ap (λ (x : ℕ). row_cause x l) w.0 ∙ high_cause k l w.1 w.2 i m g, refl)
+numbered l _ (zero_set k j w low m z) = (ZeroSet, ap (λ (x : ℕ). row_cause x l) w.0 ∙ zero_cause k l w.1 w.2 low j m z, refl)
+
+-- the number of eight bytes
+pub number_of_eight : (l : List ℕ) → length l ≡ 8 → from_be_bytes w64 l ≡ number l 0
+number_of_eight (a ∷ b ∷ c ∷ d ∷ e ∷ f ∷ g ∷ h ∷ []) k = omega arith
+number_of_eight [] k = absurd (omega arith)
+number_of_eight (_ ∷ []) k = absurd (omega arith)
+number_of_eight (_ ∷ _ ∷ []) k = absurd (omega arith)
+number_of_eight (_ ∷ _ ∷ _ ∷ []) k = absurd (omega arith)
+number_of_eight (_ ∷ _ ∷ _ ∷ _ ∷ []) k = absurd (omega arith)
+number_of_eight (_ ∷ _ ∷ _ ∷ _ ∷ _ ∷ []) k = absurd (omega arith)
+number_of_eight (_ ∷ _ ∷ _ ∷ _ ∷ _ ∷ _ ∷ []) k = absurd (omega arith)
+number_of_eight (_ ∷ _ ∷ _ ∷ _ ∷ _ ∷ _ ∷ _ ∷ []) k = absurd (omega arith)
+number_of_eight (_ ∷ _ ∷ _ ∷ _ ∷ _ ∷ _ ∷ _ ∷ _ ∷ _ ∷ _) k = absurd (omega arith)
 
 -- one place, and what holds there
 only : (P : ℕ → Type 0) (i : ℕ) → P i → (j : ℕ) → j among (i ∷ []) → P j
 only P i h j m = subst P (sym (Memᴰ.eq_of_singleton m)) h
 
 -- a whole row is read
-read_sound : (k : ℕ) (l : List ℕ) → Known k → Sound k (k ∷ l) → read_row (k ∷ l) ≡ Read (row_at k (k ∷ l)) (width k)
+read_sound : (k : ℕ) (l : List ℕ) → Known k → Sound k (k ∷ l) → read_row (k ∷ l) ≡ Ok (row_at k (k ∷ l), width k)
 unfolding read_row
 read_sound k l h s = rw (no_cause k (k ∷ l) h s)
 
 -- a row that fits is read back, whatever follows it
-pub read_back : (r : Row) (tail : List ℕ) → Fits r → read_row (row_bytes r ++ tail) ≡ Read r (length (row_bytes r))
+pub read_back : (r : Row) (tail : List ℕ) → Fits r → read_row (row_bytes r ++ tail) ≡ Ok (r, length (row_bytes r))
 unfolding row_bytes row_at set_at
 read_back (Initial s) tail f =
     read_sound 1 (s ∷ tail) (omega arith) (record { whole = omega arith; low = only (λ i. get_or (1 ∷ s ∷ tail) i 0 ≤ 63) 1 (omega arith); some = λ j m. absurd (Memᴰ.not-nil m) })
@@ -252,7 +268,7 @@ read_back (LeftLimit P q) tail f =
       low = only (λ i. get_or (4 ∷ l) i 0 ≤ 63) 9 (omega arith);
       some = only (λ j. ¬ (set_at (4 ∷ l) j ≡ 0)) 1 (λ z. omega (arith, e, z));
     })
-    ∙ ap (λ (Q : ℕ). Read (LeftLimit Q q) 10) e
+    ∙ ap (λ (Q : ℕ). Ok (LeftLimit Q q, 10)) e
 read_back (RightLimit q P) tail f =
     let l = q ∷ (big 8 P ++ tail) in
     let e : set_at (5 ∷ l) 2 ≡ P = eight P f.1 in
@@ -261,40 +277,53 @@ read_back (RightLimit q P) tail f =
       low = only (λ i. get_or (5 ∷ l) i 0 ≤ 63) 1 (omega arith);
       some = only (λ j. ¬ (set_at (5 ∷ l) j ≡ 0)) 2 (λ z. omega (arith, e, z));
     })
-    ∙ ap (λ (Q : ℕ). Read (RightLimit q Q) 10) e
+    ∙ ap (λ (Q : ℕ). Ok (RightLimit q Q, 10)) e
 read_back (Strike s) tail f =
     read_sound 6 (s ∷ tail) (omega arith) (record { whole = omega arith; low = only (λ i. get_or (6 ∷ s ∷ tail) i 0 ≤ 63) 1 (omega arith); some = λ j m. absurd (Memᴰ.not-nil m) })
 
+-- one reading is of one row
+pub ok_parts : {r s : Row} {m n : ℕ} → ◌≡◌ {A = Result (Row × ℕ) Cause} (Ok (r, m)) (Ok (s, n)) → (r ≡ s) × (m ≡ n)
+ok_parts {r} {s} {m} {n} e = let p : ◌≡◌ {A = Row × ℕ} (r, m) (s, n) = cc in (ap (λ (x : Row × ℕ). x.0) p, ap (λ (x : Row × ℕ). x.1) p)
+
 -- what was read, or why not
-abbrev Right : List ℕ → ReadRow → Type 0
-Right l (Refused n) = Malformed l n
-Right l (Read r n) = Known (get_or l 0 0) × Sound (get_or l 0 0) l × (r ≡ row_at (get_or l 0 0) l) × (n ≡ width (get_or l 0 0))
+abbrev Right : List ℕ → Result (Row × ℕ) Cause → Type 0
+Right l (Err c) = Malformed l (number_of c)
+Right l (Ok (r, n)) = Known (get_or l 0 0) × Sound (get_or l 0 0) l × (r ≡ row_at (get_or l 0 0) l) × (n ≡ width (get_or l 0 0))
 
 -- nothing to read, and something
-pub read_none : (l : List ℕ) → length l ≡ 0 → read_row l ≡ Refused 3
+pub read_none : (l : List ℕ) → length l ≡ 0 → read_row l ≡ Err CutShort
 unfolding read_row
 read_none [] h = refl
 read_none (k ∷ l) h = absurd (omega arith)
 
-pub read_some : (l : List ℕ) → 0 < length l
-    → read_row l ≡ cond (eqb (row_cause (get_or l 0 0) l) 0) (Read (row_at (get_or l 0 0) l) (width (get_or l 0 0))) (Refused (row_cause (get_or l 0 0) l))
+pub read_some : (l : List ℕ) → 0 < length l → read_row l ≡ unless (row_cause (get_or l 0 0) l) (row_at (get_or l 0 0) l, width (get_or l 0 0))
 unfolding read_row
 read_some [] h = absurd (omega arith)
 read_some (k ∷ l) h = refl
 
+unless_err : {A : Type 0} (o : Option Cause) (x : A) {c : Cause} → Err c ≡ unless o x → o ≡ Some c
+unless_err None x e = cc
+unless_err (Some d) x e = cc
+
+unless_ok : {A : Type 0} (o : Option Cause) (x : A) {y : A} → Ok y ≡ unless o x → (o ≡ None) × (y ≡ x)
+unless_ok None x e = (refl, cc)
+unless_ok (Some d) x e = (cc, cc)
+
 -- by the cause of the kind at the head, if there is one
-pub cause_refuses : (l : List ℕ) {r : ℕ} → 0 < length l → r ≡ row_cause (get_or l 0 0) l → ¬ (r ≡ 0) → read_row l ≡ Refused r
-cause_refuses l h e n = rw e (read_some l h ∙ cond_no _ (eqb_decides (row_cause (get_or l 0 0) l) 0) (λ z. n (e ∙ z)) refl)
+module _ (l : List ℕ) {A : Type 0} (x : A) where
+  pub cause_refuses : {c : Cause} → 0 < length l → Err c ≡ unless (row_cause (get_or l 0 0) l) x → Err c ≡ read_row l
+  cause_refuses h e = sym (read_some l h ∙ rw (unless_err (row_cause (get_or l 0 0) l) x e))
 
-pub cause_none : (k : ℕ) (l : List ℕ) {r : ℕ} → Headed k l → r ≡ row_cause (get_or l 0 0) l → r ≡ 0 → read_row l ≡ Read (row_at k l) (width k)
-cause_none k l h e z = read_some l h.0 ∙ rw (sym e ∙ z, h.1)
+  pub cause_none : (k : ℕ) {y : A} → Headed k l → Ok y ≡ unless (row_cause (get_or l 0 0) l) x → Ok (row_at k l, width k) ≡ read_row l
+  cause_none k h e = sym (read_some l h.0 ∙ rw ((unless_ok (row_cause (get_or l 0 0) l) x e).0, h.1))
 
-pub cause_sound : (k : ℕ) (l : List ℕ) {r : ℕ} → get_or l 0 0 ≡ k → r ≡ row_cause (get_or l 0 0) l → r ≡ 0 → Sound k l
-cause_sound k l h e z = subst (λ (j : ℕ). Sound j l) h (subst (Caused l) (sym e ∙ z) (caused l)).1
+  pub cause_sound : (k : ℕ) {y : A} → get_or l 0 0 ≡ k → Ok y ≡ unless (row_cause (get_or l 0 0) l) x → Sound k l × (y ≡ x)
+  cause_sound k h e = let p = unless_ok (row_cause (get_or l 0 0) l) x e in
+      (subst (λ (j : ℕ). Sound j l) h (subst (Caused l) p.0 (caused l)).1, p.1)
 
 -- the cause of a known kind by its tests in their order: its bytes, the states at some places, the sets at some places
-abbrev pub tests_cause : ℕ → List ℕ → List ℕ → List ℕ → ℕ
-tests_cause w s t l = cut_or_high w s l (cond (any (λ j. eqb (set_at l j) 0) t) 5 0)
+abbrev pub tests_cause : ℕ → List ℕ → List ℕ → List ℕ → Option Cause
+tests_cause w s t l = cut_or_high w s l (cond (any (λ j. eqb (set_at l j) 0) t) (Some ZeroSet) None)
 
 pub known_cause : (k : ℕ) (l : List ℕ) → Known k → row_cause k l ≡ tests_cause (width k) (state_places k) (set_places k) l
 unfolding row_cause
@@ -340,31 +369,25 @@ limit_of l i j k at = by_kind (λ k. LimitAt k i j → Limit l i j k)
     k (omega (arith, at.0, at.1)) at
 
 -- no such kind at the head
-pub read_unknown : (k : ℕ) (l : List ℕ) → Headed k l → ¬ Known k → read_row l ≡ Refused 2
-read_unknown k l h n = cause_refuses l h.0 (sym (rw h.1 (unknown_cause k l n))) (λ e. omega arith)
+pub read_unknown : (k : ℕ) (l : List ℕ) → Headed k l → ¬ Known k → read_row l ≡ Err UnknownKind
+read_unknown k l h n = read_some l h.0 ∙ rw (h.1, unknown_cause k l n)
 
-by_cause : (l : List ℕ) (n : ℕ) → Caused l n → Right l (cond (eqb n 0) (Read (row_at (get_or l 0 0) l) (width (get_or l 0 0))) (Refused n))
-by_cause l zero c = (c.0, c.1, refl, refl)
-by_cause l (suc n) c = rw (eqb-suc-zero n) c
+by_cause : (l : List ℕ) (o : Option Cause) → Caused l o → Right l (unless o (row_at (get_or l 0 0) l, width (get_or l 0 0)))
+by_cause l None c = (c.0, c.1, refl, refl)
+by_cause l (Some d) c = c
 
 right : (l : List ℕ) → 0 < length l → Right l (read_row l)
 right l h = rw (read_some l h) (by_cause l (row_cause (get_or l 0 0) l) (caused l))
 
-no_zero : (l : List ℕ) (n : ℕ) → Malformed l n → ¬ (n ≡ 0)
-no_zero l _ (unknown_kind n) e = omega arith
-no_zero l _ (cut_short h w) e = omega arith
-no_zero l _ (high_state k i w m g) e = omega arith
-no_zero l _ (zero_set k j w low m z) e = omega arith
-
--- the reader refuses with the number of the cause, and with no other
-pub malformed : (l : List ℕ) (n : ℕ) → 0 < length l → (read_row l ≡ Refused n) ↔ Malformed l n
+-- the reader refuses with the cause of the number, and with no other
+pub malformed : (l : List ℕ) (n : ℕ) → 0 < length l → ((c : Cause) × (read_row l ≡ Err c) × (number_of c ≡ n)) ↔ Malformed l n
 malformed l n h = (
-  (λ e. subst (Right l) e (right l h)),
-  λ m. read_some l h ∙ (rw (numbered l n m) (cond_no _ (eqb_decides n 0) (no_zero l n m) refl)),
+  (λ (c, e, i). subst (Malformed l) i (subst (Right l) e (right l h))),
+  λ m. let (c, e, i) = numbered l n m in (c, read_some l h ∙ rw e, i),
 )
 
 -- what holds where a row was read
-got : (l : List ℕ) (r : Row) (n : ℕ) → read_row l ≡ Read r n → Right l (Read r n)
+got : (l : List ℕ) (r : Row) (n : ℕ) → read_row l ≡ Ok (r, n) → Right l (Ok (r, n))
 unfolding read_row
 got [] r n e = let z : ◌≡◌ {A = ℕ} 0 1 = cc in absurd (omega arith)
 got (k ∷ l) r n e = rw e at (right (k ∷ l) (omega arith))
@@ -398,15 +421,15 @@ split_at l h = by_kind (λ k. get_or l 0 0 ≡ k → width k ≤ length l → l 
     byte i w = drop-cons l i 0 w
 
 -- a row that was read from bytes fits
-pub read_fits : (l : List ℕ) → Bytes l → (r : Row) (n : ℕ) → read_row l ≡ Read r n → Fits r
+pub read_fits : (l : List ℕ) → Bytes l → (r : Row) (n : ℕ) → read_row l ≡ Ok (r, n) → Fits r
 read_fits l h r n e = let g = got l r n e in rw g.2 (fits_at l h (get_or l 0 0) g.0 g.1)
 
 -- a row has bytes, and they lie within those given
-pub read_len : (l : List ℕ) (r : Row) (n : ℕ) → read_row l ≡ Read r n → (1 ≤ n) × (n ≤ length l)
+pub read_len : (l : List ℕ) (r : Row) (n : ℕ) → read_row l ≡ Ok (r, n) → (1 ≤ n) × (n ≤ length l)
 read_len l r n e = let g = got l r n e in omega (arith, g.3, g.1.whole, size_at l (get_or l 0 0) g.0, some_bytes (row_at (get_or l 0 0) l))
 
 -- the bytes read are the row's own
-pub read_split : (l : List ℕ) → Bytes l → (r : Row) (n : ℕ) → read_row l ≡ Read r n → (n ≡ length (row_bytes r)) × (l ≡ row_bytes r ++ drop n l)
+pub read_split : (l : List ℕ) → Bytes l → (r : Row) (n : ℕ) → read_row l ≡ Ok (r, n) → (n ≡ length (row_bytes r)) × (l ≡ row_bytes r ++ drop n l)
 read_split l h r n e = let g = got l r n e in
     rw (g.2, g.3) (sym (size_at l (get_or l 0 0) g.0), split_at l h (get_or l 0 0) g.0 refl g.1.whole)
 
@@ -441,4 +464,4 @@ row_bytes_are_bytes (Strike s) f = byte_and (omega arith) (byte_and (omega arith
 pub bytes_apart : (r s : Row) → Fits r → Fits s → row_bytes r ≡ row_bytes s → r ≡ s
 bytes_apart r s f g e =
     let a = read_back r [] f in let b = read_back s [] g in let c = ap (λ (l : List ℕ). read_row (l ++ [])) e in
-    cc (a, b, c)
+    (ok_parts (sym a ∙ (c ∙ b))).0

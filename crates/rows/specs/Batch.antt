@@ -1,8 +1,8 @@
 -- Document 01, "Rows and the batch" and "Causes and numbers": a batch, row by row.
-use Rattle.std.specs.Prelude.{ℕ, zero, suc, ◌+◌, ◌-◌, ◌<◌, ◌≡◌, ◌⊎◌, List, [], ◌∷◌, ◌++◌, length}
+use Rattle.std.specs.Prelude.{ℕ, zero, suc, ◌+◌, ◌-◌, ◌<◌, ◌≡◌, ◌⊎◌, List, [], ◌∷◌, ◌++◌, length, Result, Ok, Err}
+use Rattle.causes.specs.declared.Cause.{Cause}
+use Rattle.causes.specs.Numbers.{number_of}
 use Rattle.rows.specs.declared.Row.{Row}
-use Rattle.rows.specs.declared.ReadRow.{ReadRow}
-use Rattle.rows.specs.declared.ReadRow.TheVariants.{Read, Refused}
 use Rattle.rows.specs.Rows.{row_bytes, batch_of, Fits, AllFit}
 use Rattle.rows.specs.Reading.{read_row, Malformed}
 
@@ -25,9 +25,9 @@ unfoldable pub on_turn : {S : Type 0} → Turn S → ℕ → (S → Fed S) → F
 on_turn (go s) place f = f s
 on_turn (stop n) place f = failed n place
 
-unfoldable pub on_read : {S : Type 0} → ReadRow → ℕ → (Row → ℕ → Fed S) → Fed S
-on_read (Refused n) place f = failed n place
-on_read (Read r len) place f = f r len
+unfoldable pub on_read : {S : Type 0} → Result (Row × ℕ) Cause → ℕ → (Row → ℕ → Fed S) → Fed S
+on_read (Err c) place f = failed (number_of c) place
+on_read (Ok (r, len)) place f = f r len
 
 -- skip bytes of the row before are left to pass over; place is that of the next byte
 unfoldable pub feed_from : {S : Type 0} → (Row → S → Turn S) → ℕ → ℕ → S → List ℕ → Fed S

@@ -1,5 +1,6 @@
--- A row's key: the number of its bytes, filled with zeros to ten, in two words; and a row's set as a number.
-use Rattle.std.specs.Prelude.{ℕ, ◌+◌, ◌*◌, ◌/◌, ◌%◌, ◌^◌, cond, eqb}
+-- A row's key: the number of its bytes, filled with zeros to ten, in two words; and a row's set.
+use Rattle.std.specs.Prelude.{ℕ, ◌+◌, ◌*◌, ◌/◌, ◌%◌, ◌^◌, cond, eqb, Option, None, Some}
+use Rattle.sorted_keys.specs.declared.Key.{Key}
 use Rattle.rows.specs.declared.Row.{Row}
 use Rattle.rows.specs.declared.Row.TheVariants.{Initial, Final, Successor, LeftLimit, RightLimit, Strike}
 
@@ -21,6 +22,9 @@ low (LeftLimit P q) = P % 256 * 256 + q
 low (RightLimit q P) = P % 65536
 low (Strike s) = 0
 
+abbrev pub key_of : Row → Key
+key_of r = record { high = high r; low = low r }
+
 -- the row of a key, by its kind; a strike where the kind is none of the others
 unfoldable pub row_from : ℕ → ℕ → Row
 row_from h l =
@@ -31,11 +35,14 @@ row_from h l =
     (cond (eqb (h / 256 ^ 7) 5) (RightLimit (h / 256 ^ 6 % 256) (h % 256 ^ 6 * 65536 + l % 65536))
     (Strike (h / 256 ^ 6 % 256))))))
 
--- the row's set, 0 if it has none
-abbrev pub set_or_none : Row → ℕ
-set_or_none (Initial s) = 0
-set_or_none (Final s) = 0
-set_or_none (Successor p a q) = 0
-set_or_none (LeftLimit P q) = P
-set_or_none (RightLimit q P) = P
-set_or_none (Strike s) = 0
+abbrev pub row_of : Key → Row
+row_of k = row_from k.high k.low
+
+-- the row's set, if it has one
+abbrev pub set_of : Row → Option ℕ
+set_of (Initial s) = None
+set_of (Final s) = None
+set_of (Successor p a q) = None
+set_of (LeftLimit P q) = Some P
+set_of (RightLimit q P) = Some P
+set_of (Strike s) = None

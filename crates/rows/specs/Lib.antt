@@ -3,4 +3,3 @@ pub mod Rows
 pub mod Reading
 pub mod Batch
 pub mod Keys
-pub mod Storing

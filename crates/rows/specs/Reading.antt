@@ -1,12 +1,10 @@
 -- Document 01, "Rows and the batch" and causes 2 to 5 of "Causes and numbers", with request C-18's kind 6: the row at the head of some bytes.
-use Rattle.std.specs.Prelude.{ℕ, ◌+◌, ◌*◌, ◌≤◌, ◌<◌, ◌≡◌, cond, ◌&&◌, List, [], ◌∷◌, eqb, ltb, leb, length, take, drop, get_or}
+use Rattle.std.specs.Prelude.{ℕ, ◌+◌, ◌*◌, ◌≤◌, ◌<◌, ◌≡◌, cond, ◌&&◌, List, [], ◌∷◌, eqb, ltb, leb, length, take, drop, get_or, Option, None, Some, Result, Ok, Err}
+use Rattle.causes.specs.declared.Cause.{Cause}
+use Rattle.causes.specs.declared.Cause.TheVariants.{UnknownKind, CutShort, HighState, ZeroSet}
 use Rattle.lists.specs.Tests.{◌among◌, any}
 use Rattle.rows.specs.declared.Row.{Row}
 use Rattle.rows.specs.declared.Row.TheVariants.{Initial, Final, Successor, LeftLimit, RightLimit, Strike}
-use Rattle.rows.specs.declared.ReadSet.{ReadSet}
-use Rattle.rows.specs.declared.ReadSet.TheVariants.{Found, Stopped}
-use Rattle.rows.specs.declared.ReadRow.{ReadRow}
-use Rattle.rows.specs.declared.ReadRow.TheVariants.{Read, Refused}
 
 -- the number of some bytes, most significant first, after x
 abbrev pub number : List ℕ → ℕ → ℕ
@@ -44,21 +42,26 @@ row_at k l =
     (cond (eqb k 5) (RightLimit (get_or l 1 0) (set_at l 2))
     (Strike (get_or l 1 0))))))
 
--- 3 where there are fewer bytes than a width, 4 where one of the states at some places is above 63, else n
-abbrev pub cut_or_high : ℕ → List ℕ → List ℕ → ℕ → ℕ
-cut_or_high w places l n = cond (ltb (length l) w) 3 (cond (any (λ i. ltb 63 (get_or l i 0)) places) 4 n)
+-- cut short where there are fewer bytes than a width, a high state where one of the states at some places is above 63, else c
+abbrev pub cut_or_high : ℕ → List ℕ → List ℕ → Option Cause → Option Cause
+cut_or_high w places l c = cond (ltb (length l) w) (Some CutShort) (cond (any (λ i. ltb 63 (get_or l i 0)) places) (Some HighState) c)
 
--- the lowest number that refuses a row of a kind, 0 if none does: 2 for no such kind, 5 for the set 0
-unfoldable pub row_cause : ℕ → List ℕ → ℕ
+-- the cause of the lowest number that refuses a row of a kind, if one does
+unfoldable pub row_cause : ℕ → List ℕ → Option Cause
 row_cause k l =
     cond (ltb 0 k && leb k last_kind)
-    (cut_or_high (width k) (state_places k) l (cond (any (λ j. eqb (set_at l j) 0) (set_places k)) 5 0))
-    2
+    (cut_or_high (width k) (state_places k) l (cond (any (λ j. eqb (set_at l j) 0) (set_places k)) (Some ZeroSet) None))
+    (Some UnknownKind)
 
--- the row at the head of the bytes, or the number that refuses it
-unfoldable pub read_row : List ℕ → ReadRow
-read_row [] = Refused 3
-read_row (k ∷ l) = cond (eqb (row_cause k (k ∷ l)) 0) (Read (row_at k (k ∷ l)) (width k)) (Refused (row_cause k (k ∷ l)))
+-- x, unless a cause refuses it
+abbrev pub unless : {A : Type 0} → Option Cause → A → Result A Cause
+unless None x = Ok x
+unless (Some c) x = Err c
+
+-- the row at the head of the bytes and its width, or the cause that refuses it
+unfoldable pub read_row : List ℕ → Result (Row × ℕ) Cause
+read_row [] = Err CutShort
+read_row (k ∷ l) = unless (row_cause k (k ∷ l)) (row_at k (k ∷ l), width k)
 
 -- the kind at the head of the bytes
 abbrev pub Headed : ℕ → List ℕ → Type 0
@@ -68,10 +71,13 @@ Headed k l = (0 < length l) × (get_or l 0 0 ≡ k)
 abbrev pub LimitAt : ℕ → ℕ → ℕ → Type 0
 LimitAt k i j = (4 ≤ k) × (k ≤ 5) × (state_places k ≡ i ∷ []) × (set_places k ≡ j ∷ [])
 
--- the set at place j of a row that no cause refuses, or the number of the cause
-abbrev pub SetRead : List ℕ → ℕ → ReadSet → Type 0
-SetRead l j (Found P) = (row_cause (get_or l 0 0) l ≡ 0) × (P ≡ set_at l j)
-SetRead l j (Stopped n) = (row_cause (get_or l 0 0) l ≡ n) × ¬ (n ≡ 0)
+-- a row that no cause refuses, or its cause
+abbrev pub row_checked : List ℕ → Result (Unit {0}) Cause
+row_checked l = unless (row_cause (get_or l 0 0) l) tt
+
+-- the set at place j of a row that no cause refuses, or its cause
+abbrev pub set_read : List ℕ → ℕ → Result ℕ Cause
+set_read l j = unless (row_cause (get_or l 0 0) l) (set_at l j)
 
 -- the kind at the head of the bytes, of which a whole row is there
 abbrev pub Whole : ℕ → List ℕ → Type 0

@@ -1,12 +1,12 @@
 // What lines and their calls are answered. A sheet, rows and an expression end their line; other answers are ended by who asks for them.
-use commands::{Command, Report};
-use machine::{Answer, Phase, Verdict};
-use program_output::{first, say, say_number};
+use commands::{Call, NoCall, Report};
+use machine::{Answer, Phase, Refusal, Success, Verdict};
+use program_output::{first, say};
 
-fn say_verdict(rt: &impl Print, verdict: Verdict) {
+fn verdict_word(verdict: Verdict) -> &'static str {
     match verdict {
-        Verdict::NonEmpty => say(rt, b"nonempty"),
-        Verdict::Empty => say(rt, b"empty"),
+        Verdict::NonEmpty => "nonempty",
+        Verdict::Empty => "empty",
     }
 }
 
@@ -16,27 +16,23 @@ fn say_phase(rt: &impl Print, phase: Phase) {
         Phase::Open => say(rt, b"ok"),
         Phase::Running => say(rt, b"ok running"),
         Phase::Settled(verdict) => {
-            say(rt, b"ok ");
-            say_verdict(rt, verdict);
+            let word = verdict_word(verdict);
+            let _ = print!(rt; "ok {word}");
         }
     }
 }
 
-fn say_refused(rt: &impl Print, number: u8, place: usize) {
-    say(rt, b"refused ");
-    say_number(rt, number as u64);
-    say(rt, b" at ");
-    say_number(rt, place as u64);
-}
-
 fn say_done(rt: &impl Print, answer: Answer, phase: Phase) {
     match answer {
-        Answer::Decided(verdict) => {
-            say(rt, b"verdict ");
-            say_verdict(rt, verdict);
+        Ok(Success::Decided(verdict)) => {
+            let word = verdict_word(verdict);
+            let _ = print!(rt; "verdict {word}");
         }
-        Answer::Refused(number, place) => say_refused(rt, number, place),
-        _ => say_phase(rt, phase),
+        Err(Refusal { cause, place }) => {
+            let number = cause as u8;
+            let _ = print!(rt; "refused {number} at {place}");
+        }
+        Ok(_) => say_phase(rt, phase),
     }
 }
 
@@ -63,22 +59,16 @@ fn say_text(rt: &impl Print, call: Report, text: &[u8]) {
 
 fn say_report(rt: &impl Print, call: Report, answer: Answer, phase: Phase, buffer: &[u8]) {
     match answer {
-        Answer::Wrote(n) => say_text(rt, call, first(buffer, n)),
+        Ok(Success::Wrote(n)) => say_text(rt, call, first(buffer, n)),
         _ => say_done(rt, answer, phase),
     }
 }
 
-// Writes the answer to the call of a command. A mark and a return are answered with `ok` in any phase: neither tells where rounds led.
-pub(crate) fn say_answer(
-    rt: &impl Print,
-    command: Command,
-    answer: Answer,
-    phase: Phase,
-    buffer: &[u8],
-) {
-    match command {
-        Command::Reports(call, _) => say_report(rt, call, answer, phase, buffer),
-        Command::Names(_, _) => say_done(rt, answer, Phase::Open),
+// Writes the answer to a call. A mark and a return are answered with `ok` in any phase: neither tells where rounds led.
+pub(crate) fn say_answer(rt: &impl Print, call: Call, answer: Answer, phase: Phase, buffer: &[u8]) {
+    match call {
+        Call::Reports(call, _) => say_report(rt, call, answer, phase, buffer),
+        Call::Names(_, _) => say_done(rt, answer, Phase::Open),
         _ => say_done(rt, answer, phase),
     }
 }
@@ -92,11 +82,11 @@ fn say_line(rt: &impl Print, line: &[u8], asked: bool) {
 }
 
 // Says why a line asks for no call; where checks are asked for, what is passed over is written out.
-pub(crate) fn say_none(rt: &impl Print, command: Command, line: &[u8], checks: bool) {
-    match command {
-        Command::Nothing => say_line(rt, line, checks),
-        Command::BadHex => say(rt, b"bad hex\n"),
-        Command::TooLong => say(rt, b"too long\n"),
-        _ => say(rt, b"unknown command\n"),
+pub(crate) fn say_none(rt: &impl Print, none: NoCall, line: &[u8], checks: bool) {
+    match none {
+        NoCall::Nothing => say_line(rt, line, checks),
+        NoCall::BadHex => say(rt, b"bad hex\n"),
+        NoCall::TooLong => say(rt, b"too long\n"),
+        NoCall::Unknown => say(rt, b"unknown command\n"),
     }
 }

@@ -1,8 +1,10 @@
 // A line run on a session: the call that it asks for, and its answer.
+ghost use Rattle.std.specs.Prelude.{◌≤◌};
+
 use crate::answers::{say_answer, say_none};
 use crate::checks::say_kept;
-use commands::{Change, Command, EXPRESSION_ROOM, Move, Naming, Report};
-use machine::{Answer, LONGEST_SHEET};
+use commands::{Call, Change, EXPRESSION_ROOM, Move, Naming, Report};
+use machine::{Answer, LONGEST_SHEET, Success};
 use program_output::{first, say, say_number};
 use session::{Reply, Session};
 
@@ -37,39 +39,26 @@ fn report(session: Session, call: Report, buffer: &mut [u8]) -> Reply {
     }
 }
 
-// No buffer is longer.
-fn at_most(n: usize) -> usize {
-    if n < EXPRESSION_ROOM {
-        n
-    } else {
-        EXPRESSION_ROOM
-    }
-}
-
 // Lends the first `n` bytes of the buffer.
 fn lend(session: Session, call: Report, n: usize, buffer: &mut [u8]) -> Reply {
-    let k = at_most(n).min(buffer.len());
+    let k = n.min(buffer.len());
     report(session, call, &mut buffer[..k])
 }
 
-// The call of a command; none where it asks for none.
-fn act(session: Session, command: Command, batch: &[u8], buffer: &mut [u8]) -> Reply {
-    match command {
-        Command::Changes(call, n) => change(session, call, first(batch, n)),
-        Command::Reports(call, n) => lend(session, call, n, buffer),
-        Command::Moves(call) => go(session, call),
-        Command::Names(call, n) => by_name(session, call, first(batch, n)),
-        _ => Reply {
-            session,
-            answer: Answer::Done,
-        },
+// Makes the call that a line asks for.
+fn act(session: Session, call: Call, batch: &[u8], buffer: &mut [u8]) -> Reply {
+    match call {
+        Call::Changes(call, n) => change(session, call, first(batch, n)),
+        Call::Reports(call, n) => lend(session, call, n, buffer),
+        Call::Moves(call) => go(session, call),
+        Call::Names(call, n) => by_name(session, call, first(batch, n)),
     }
 }
 
 // Begins the line of the checks after a text, and ends the line of any other answer.
 fn say_written(rt: &impl Print, answer: Answer, checks: bool) {
     match answer {
-        Answer::Wrote(n) => {
+        Ok(Success::Wrote(n)) => {
             if checks {
                 say(rt, b"wrote ");
                 say_number(rt, n as u64);
@@ -97,74 +86,41 @@ fn end(rt: &impl Print, before: Session, reply: Reply, buffer: &[u8], checks: bo
 fn run_with(
     rt: &impl Print,
     session: Session,
-    command: Command,
+    call: Call,
     batch: &[u8],
     buffer: &mut [u8],
     checks: bool,
 ) -> Session {
-    let reply = act(session, command, batch, buffer);
+    let reply = act(session, call, batch, buffer);
     let after = reply.session;
     let phase = after.phase;
     let answer = reply.answer;
-    say_answer(rt, command, answer, phase, buffer);
+    say_answer(rt, call, answer, phase, buffer);
     end(rt, session, reply, buffer, checks);
     after
 }
 
-// With room for any sheet and any save.
-fn run_short(
+// Runs a call with a buffer of N bytes.
+fn run_in<const N: usize>(
     rt: &impl Print,
     session: Session,
-    command: Command,
+    call: Call,
     batch: &[u8],
     checks: bool,
-) -> Session {
-    let mut buffer = [170u8; LONGEST_SHEET];
-    run_with(rt, session, command, batch, &mut buffer, checks)
+) -> Session
+    requires { N ≤ 1048576 }
+{
+    let mut buffer = [170u8; N];
+    run_with(rt, session, call, batch, &mut buffer, checks)
 }
 
-// With room for an expression.
-fn run_long(
-    rt: &impl Print,
-    session: Session,
-    command: Command,
-    batch: &[u8],
-    checks: bool,
-) -> Session {
-    let mut buffer = [170u8; EXPRESSION_ROOM];
-    run_with(rt, session, command, batch, &mut buffer, checks)
-}
-
-// Does the call ask for more room than a sheet has?
-fn is_long(command: Command) -> bool {
-    match command {
-        Command::Reports(_, n) => n > LONGEST_SHEET,
-        _ => false,
-    }
-}
-
-// Runs a call: a megabyte is filled for those alone that ask for it.
-fn run_call(
-    rt: &impl Print,
-    session: Session,
-    command: Command,
-    batch: &[u8],
-    checks: bool,
-) -> Session {
-    if is_long(command) {
-        return run_long(rt, session, command, batch, checks);
-    }
-    run_short(rt, session, command, batch, checks)
-}
-
-// Does the command ask for a call?
-fn is_call(command: Command) -> bool {
-    match command {
-        Command::Changes(_, _) => true,
-        Command::Reports(_, _) => true,
-        Command::Moves(_) => true,
-        Command::Names(_, _) => true,
-        _ => false,
+// Runs a call: a megabyte is filled for those alone that ask for more room than a sheet has.
+fn run_call(rt: &impl Print, session: Session, call: Call, batch: &[u8], checks: bool) -> Session {
+    match call {
+        Call::Reports(_, n) if n > LONGEST_SHEET => {
+            run_in::<EXPRESSION_ROOM>(rt, session, call, batch, checks)
+        }
+        _ => run_in::<LONGEST_SHEET>(rt, session, call, batch, checks),
     }
 }
 
@@ -172,10 +128,11 @@ fn is_call(command: Command) -> bool {
 pub(crate) fn run_line(rt: &impl Print, session: Session, line: &[u8], checks: bool) -> Session {
     // Room for the batch of any line that is held; a name that has none is too long.
     let mut batch = [0u8; 70000];
-    let command = commands::parse(line, &mut batch);
-    if is_call(command) {
-        return run_call(rt, session, command, &batch, checks);
+    match commands::parse(line, &mut batch) {
+        Ok(call) => run_call(rt, session, call, &batch, checks),
+        Err(none) => {
+            say_none(rt, none, line, checks);
+            session
+        }
     }
-    say_none(rt, command, line, checks);
-    session
 }

@@ -1,6 +1,6 @@
 // Is all as it was after a call? Of records a digest of all fields is compared, of buffers every byte.
-use machine::{Answer, LONGEST_SHEET, MOST_ROWS, MOST_SETS, Phase, Verdict};
-use marks::{Kept, MOST_MARKS, Marks};
+use machine::{Answer, LONGEST_SHEET, MOST_ROWS, Phase, Success, Verdict};
+use marks::{Kept, Marks};
 use program_output::{beyond, say};
 use session::Session;
 
@@ -12,49 +12,24 @@ fn mixed(digest: u64, word: u64) -> u64 {
     c ^ (c << 17)
 }
 
-fn wide(b: u8) -> u64 {
-    b as u64
-}
-
 // The digest goes on with bytes.
 fn with_bytes(digest: u64, bytes: &[u8]) -> u64 {
-    let mut found = digest;
-    let mut i = 0;
-    while i < bytes.len() {
-        found = mixed(found, wide(bytes[i]));
-        i += 1;
-    }
-    found
-}
-
-// The set at a place, 0 past the last.
-fn set_at(sets: &[u64], i: usize) -> u64 {
-    if i < sets.len() { sets[i] } else { 0 }
+    bytes
+        .iter()
+        .fold(digest, |found, b| mixed(found, u64::from(*b)))
 }
 
 // The digest goes on with sets.
 fn with_sets(digest: u64, sets: &[u64]) -> u64 {
-    let mut found = digest;
-    let mut i = 0;
-    while i < MOST_SETS {
-        found = mixed(found, set_at(sets, i));
-        i += 1;
-    }
-    found
-}
-
-fn verdict_number(verdict: Verdict) -> u64 {
-    match verdict {
-        Verdict::NonEmpty => 2,
-        Verdict::Empty => 3,
-    }
+    sets.iter().fold(digest, |found, set| mixed(found, *set))
 }
 
 fn phase_number(phase: Phase) -> u64 {
     match phase {
         Phase::Open => 0,
         Phase::Running => 1,
-        Phase::Settled(verdict) => verdict_number(verdict),
+        Phase::Settled(Verdict::NonEmpty) => 2,
+        Phase::Settled(Verdict::Empty) => 3,
     }
 }
 
@@ -86,57 +61,42 @@ fn sets_digest(session: Session) -> u64 {
     with_bytes(loops, &session.mix_rounds)
 }
 
-fn wide_word(x: u16) -> u64 {
-    x as u64
-}
-
 // The digest goes on with the keys of rows, those too that are not used.
 fn with_keys(digest: u64, high: &[u64; MOST_ROWS], low: &[u16; MOST_ROWS]) -> u64 {
     let mut found = digest;
-    let mut i = 0;
-    while i < MOST_ROWS {
-        found = mixed(mixed(found, high[i]), wide_word(low[i]));
-        i += 1;
+    for (h, l) in high.iter().zip(low) {
+        found = mixed(mixed(found, *h), u64::from(*l));
     }
     found
 }
 
 // The digest of what is kept under a name.
-fn kept_digest(kept: Kept) -> u64 {
+fn kept_digest(kept: &Kept) -> u64 {
     let phase = kept.phase;
-    let high = kept.high;
-    let low = kept.low;
     let counts = mixed(kept.row_count as u64, kept.rounds as u64);
-    with_keys(mixed(counts, phase_number(phase)), &high, &low)
+    with_keys(mixed(counts, phase_number(phase)), &kept.high, &kept.low)
 }
 
 // The digest of the marks: of every place, those too that are not used.
-fn marks_digest(marks: Marks) -> u64 {
-    let mut found = with_sets(marks.count as u64, &marks.names);
-    let mut i = 0;
-    while i < MOST_MARKS {
-        found = mixed(found, kept_digest(marks.kept_at(i)));
-        i += 1;
+fn marks_digest(marks: &Marks) -> u64 {
+    let mut found = marks.count as u64;
+    for mark in &marks.marks {
+        found = mixed(mixed(found, mark.name), kept_digest(&mark.kept));
     }
     found
 }
 
 fn digest(session: Session) -> u64 {
-    let marks = session.marks;
     let numbers = mixed(rows_digest(session), numbers_digest(session));
-    mixed(mixed(numbers, sets_digest(session)), marks_digest(marks))
+    mixed(
+        mixed(numbers, sets_digest(session)),
+        marks_digest(&session.marks),
+    )
 }
 
 // Are the bytes as they were lent?
 fn is_untouched(bytes: &[u8]) -> bool {
-    let mut i = 0;
-    while i < bytes.len() {
-        if bytes[i] != 170 {
-            return false;
-        }
-        i += 1;
-    }
-    true
+    bytes.iter().all(|b| *b == 170)
 }
 
 fn say_same(rt: &impl Print, kept: bool) {
@@ -150,7 +110,7 @@ fn say_same(rt: &impl Print, kept: bool) {
 // Says of a text in the buffer whether the bytes beyond it are as they were.
 fn say_beyond(rt: &impl Print, answer: Answer, buffer: &[u8]) {
     match answer {
-        Answer::Wrote(n) => {
+        Ok(Success::Wrote(n)) => {
             say(rt, b", beyond the text");
             say_same(rt, is_untouched(beyond(buffer, n)));
         }

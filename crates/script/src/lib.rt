@@ -6,6 +6,7 @@ mod calls;
 mod checks;
 mod input;
 
+use input::Line;
 use machine::LONGEST_BATCH;
 use session::Session;
 
@@ -16,7 +17,8 @@ const LONGEST_LINE: usize = 140000;
 // the session and the buffer are as they were.
 pub fn run(rt: &(impl Input + Print + Eprint), checks: bool) {
     let mut read = [0u8; LONGEST_BATCH];
-    let mut line = [0u8; LONGEST_LINE];
+    let mut room = [0u8; LONGEST_LINE];
+    let mut line = Line::new(&mut room);
     let mut reader = rt.reader();
     input::run(
         rt,
@@ -30,7 +32,8 @@ pub fn run(rt: &(impl Input + Print + Eprint), checks: bool) {
 
 // Runs the lines of a text on a fresh session.
 pub fn run_text(rt: &impl Print, text: &[u8]) {
-    let mut line = [0u8; LONGEST_LINE];
+    let mut room = [0u8; LONGEST_LINE];
+    let mut line = Line::new(&mut room);
     input::run_text(rt, Session::fresh(), text, &mut line);
 }
 

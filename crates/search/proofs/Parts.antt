@@ -11,7 +11,7 @@ use Rattle.masks.specs.Graph.{Targets, Turned}
 use Rattle.masks.specs.Mask.{member, ◌∈◌}
 use Rattle.masks.proofs.Member.{member_lt}
 use Rattle.masks.proofs.Turning.{turned_back}
-use Rattle.search.specs.Graph.{Graph, part, graph_of, TurnedGraph, BothWays}
+use Rattle.search.specs.Graph.{Graph, part, graph_of, TurnedGraph}
 use Rattle.search.specs.Hops.{Lettered, Onward}
 
 pub at_part : (l : List ℕ) (base i : ℕ) → i < 64 → get_or (part l base) i 0 ≡ get_or l (base + i) 0
@@ -76,9 +76,6 @@ turn_back {g} {back} is = record {
   lefts_are = λ i. sym (is.rights_are i);
   rights_are = λ i. sym (is.lefts_are i);
 }
-
-pub ways_back : {l back : List ℕ} → BothWays l back → BothWays back l
-ways_back is = record { turned = turn_back is.turned; indexed = is.back_indexed; back_indexed = is.indexed }
 
 -- ---- what is written into one part
 

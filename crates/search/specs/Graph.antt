@@ -1,6 +1,7 @@
 -- What the search reads of an automaton: letter steps, sets and limits, as masks of states.
-use Rattle.std.specs.Prelude.{ℕ, ◌+◌, ◌≤◌, ◌<◌, ◌≡◌, ◌⊎◌, List, length, take, drop, get_or}
+use Rattle.std.specs.Prelude.{ℕ, ◌+◌, ◌≤◌, ◌<◌, ◌≡◌, ◌⊎◌, ◌↔◌, List, length, take, drop, get_or}
 use Rattle.masks.specs.Graph.{SourceAdded, Turned}
+use Rattle.masks.specs.Mask.{◌∈◌}
 
 -- for each state the targets of its letter steps; the sets by place; for each set the states r with row P → r, and with row r → P
 pub record Graph : Type 0 where
@@ -30,25 +31,23 @@ pub record Indexed (l : List ℕ) : Type 0 where
   pub by_lefts : Turned (graph_of l).lefts (part l 320)
   pub by_rights : Turned (graph_of l).rights (part l 384)
 
--- two arrays are a graph and the graph turned round, and both have these parts
-pub record BothWays (l back : List ℕ) : Type 0 where
-  pub turned : TurnedGraph (graph_of l) (graph_of back)
-  pub indexed : Indexed l
-  pub back_indexed : Indexed back
+-- an array has the graph g turned round, and these parts
+pub record HasTurned (g : Graph) (back : List ℕ) : Type 0 where
+  pub turned : TurnedGraph g (graph_of back)
+  pub indexed : Indexed back
 
--- the four parts of an array of 448 masks become the graph turned round
-pub record TurnsInto (l old new : List ℕ) : Type 0 where
-  pub length_is : length new ≡ length old
-  pub turned : length old ≡ 448 → TurnedGraph (graph_of l) (graph_of new)
+-- r has the places whose masks have the state s
+abbrev pub Having : List ℕ → ℕ → ℕ → Type 0
+Having masks s r = (i : ℕ) → (i ∈ r) ↔ (s ∈ get_or masks i 0)
 
--- the whole array does, where that of the graph has its other parts
-abbrev pub TurnsIndexed : List ℕ → List ℕ → List ℕ → Type 0
-TurnsIndexed l old new = length old ≡ 448 → Indexed l → BothWays l new
+-- r has the places whose masks have one of the states m
+abbrev pub Meeting : List ℕ → ℕ → ℕ → Type 0
+Meeting masks m r = (i : ℕ) → (i ∈ r) ↔ ((s : ℕ) × (s ∈ m) × (s ∈ get_or masks i 0))
 
 -- the masks of one part of an array are those of a list; the other masks stay
 pub record Fills (old : List ℕ) (base : ℕ) (masks new : List ℕ) : Type 0 where
   pub length_is : length new ≡ length old
-  pub filled : length old ≡ 448 → (j : ℕ) → j < 64 → get_or new (base + j) 0 ≡ get_or masks j 0
+  pub filled : (j : ℕ) → j < 64 → get_or new (base + j) 0 ≡ get_or masks j 0
   pub others : (j : ℕ) → (j < base) ⊎ (base + 64 ≤ j) → get_or new j 0 ≡ get_or old j 0
 
 -- the place i is added to each mask of one part that is at a place of m; the other masks stay

@@ -1,9 +1,11 @@
 // A graph is one array of masks: its four parts, what says which sets a state is in or has a limit of, and the graph turned round.
 ghost use Rattle.std.specs.Prelude.{◌≡◌, ℕ, ◌+◌, ◌≤◌, ◌<◌, length, get_or};
 ghost use Rattle.masks.specs.Graph.{Targets, Turned};
-ghost use Rattle.search.specs.Graph.{part, graph_of, Fills, PlaceAdded, PartIndexed, Indexes, TurnsInto, TurnsIndexed};
+ghost use Rattle.search.specs.Graph.{part, graph_of, TurnedGraph, Indexed, Fills, PlaceAdded, PartIndexed, Indexes};
+ghost use Rattle.search.specs.Graph.{HasTurned, Having, Meeting};
 
-use masks::{PLACES, STATES, Set, take_lowest, with};
+use crate::{IndexedGraph, TwoWayGraph};
+use masks::{PLACES, Places, STATES, Set, each, with};
 
 // Where the parts begin; the letters stand first, a mask for each state, and the others have one for each set.
 pub const SETS: usize = STATES;
@@ -26,40 +28,9 @@ const MANY_SETS: usize = 16;
 
 pub type Masks = [Set; MASKS];
 
-// The mask at place `i` of the part that begins at `base`.
-pub fn mask_at(graph: &Masks, base: usize, i: usize) -> Set
-    requires { (base ≤ 384) × (i < 64) }
-    ensures { result ≡ get_or (part graph.now base) i 0 }
-{
-    graph[base + i]
-}
-
-// The set at place `i`.
-pub fn set_at(graph: &Masks, i: usize) -> Set
-    requires { i < 64 }
-    ensures { result ≡ get_or (graph_of graph.now).sets i 0 }
-{
-    mask_at(graph, SETS, i)
-}
-
-// The states that the left-limit rows of the set at place `i` lead to.
-pub fn lefts_at(graph: &Masks, i: usize) -> Set
-    requires { i < 64 }
-    ensures { result ≡ get_or (graph_of graph.now).lefts i 0 }
-{
-    mask_at(graph, LEFTS, i)
-}
-
-// The states that the right-limit rows of the set at place `i` start from.
-pub fn rights_at(graph: &Masks, i: usize) -> Set
-    requires { i < 64 }
-    ensures { result ≡ get_or (graph_of graph.now).rights i 0 }
-{
-    mask_at(graph, RIGHTS, i)
-}
-
 // The targets of the states, or of the places, `m` in the part that begins at `base`.
-pub fn targets_in(graph: &[Set], base: usize, m: Set) -> Set
+#[tactic(auto, using(crate::proofs::Parts::targets_part))]
+fn targets_in(graph: &[Set], base: usize, m: Set) -> Set
     requires { base + 64 ≤ length graph.now }
     ensures { Targets (part graph.now base) m result }
 {
@@ -71,12 +42,9 @@ fn add_place(graph: &mut Masks, base: usize, m: Set, i: u8)
     requires { (base ≤ 384) × (i < 64) }
     ensures { PlaceAdded graph.old base m i graph.new }
 {
-    let mut rest = m;
-    while rest != 0 {
-        let next = take_lowest(rest);
-        let at = base + next.low as usize;
+    for s in each(m) {
+        let at = base + s as usize;
         graph[at] = with(graph[at], i);
-        rest = next.rest;
     }
 }
 
@@ -85,15 +53,14 @@ fn index_part(graph: &mut Masks, from: usize, by: usize, n: usize)
     requires { (from + 64 ≤ by) × (by ≤ 384) × (n ≤ 64) }
     ensures { PartIndexed graph.old from by n graph.new }
 {
-    let mut i = 0;
-    while i < n {
+    for i in 0..n {
         let m = graph[from + i];
         add_place(graph, by, m, i as u8);
-        i += 1;
     }
 }
 
 // The part that begins at `base`, turned round.
+#[tactic(auto, using(crate::proofs::Parts::turned_part))]
 fn turned_part(graph: &[Set], base: usize) -> [Set; STATES]
     requires { base + 64 ≤ length graph.now }
     ensures { Turned (part graph.now base) result }
@@ -137,16 +104,12 @@ fn copy(back: &mut Masks, base: usize, masks: &[Set], from: usize)
     requires { (base ≤ 384) × (from + 64 ≤ length masks.now) }
     ensures { Fills back.old base (part masks.now from) back.new }
 {
-    let mut i = 0;
-    while i < STATES {
-        back[base + i] = masks[from + i];
-        i += 1;
-    }
+    back[base..base + STATES].copy_from_slice(&masks[from..from + STATES]);
 }
 
 // Writes the four parts of the graph with every step turned round: lefts are rights.
 fn turn(graph: &Masks, back: &mut Masks)
-    ensures { TurnsInto graph.now back.old back.new }
+    ensures { TurnedGraph (graph_of graph.now) (graph_of back.new) }
 {
     let letters = masks::transpose(graph);
     copy(back, 0, &letters, 0);
@@ -155,12 +118,168 @@ fn turn(graph: &Masks, back: &mut Masks)
     copy(back, RIGHTS, graph, LEFTS);
 }
 
-// Writes the whole array of the graph turned round. Which sets a state touches is only copied: there a left limit is a right one.
-pub fn turn_indexed(graph: &Masks, back: &mut Masks)
-    ensures { TurnsIndexed graph.now back.old back.new }
-{
-    turn(graph, back);
-    copy(back, BY_SETS, graph, BY_SETS);
-    copy(back, BY_LEFTS, graph, BY_RIGHTS);
-    copy(back, BY_RIGHTS, graph, BY_LEFTS);
+impl<'a> IndexedGraph<'a> {
+    // The graph of an array.
+    pub fn new(masks: &'a Masks) -> Self
+        requires { Indexed masks.now }
+        ensures { result ≡ graph_of masks.now }
+    {
+        IndexedGraph { masks }
+    }
+
+    // Each part has methods of its own: a promise names the list that the part is, which a place handed in would hide.
+
+    // The states to which a letter leads from the state `s`.
+    #[tactic(auto, using(crate::proofs::Parts::letters_at))]
+    pub fn letters_at(&self, s: usize) -> Set
+        requires { s < 64 }
+        ensures { result ≡ get_or self.now.letters s 0 }
+    {
+        self.masks[s]
+    }
+
+    // The set at place `i`.
+    #[tactic(auto, using(crate::proofs::Parts::sets_at))]
+    pub fn set_at(&self, i: usize) -> Set
+        requires { i < 64 }
+        ensures { result ≡ get_or self.now.sets i 0 }
+    {
+        self.masks[SETS + i]
+    }
+
+    // The states that the left-limit rows of the set at place `i` lead to.
+    #[tactic(auto, using(crate::proofs::Parts::lefts_at))]
+    pub fn lefts_at(&self, i: usize) -> Set
+        requires { i < 64 }
+        ensures { result ≡ get_or self.now.lefts i 0 }
+    {
+        self.masks[LEFTS + i]
+    }
+
+    // The states that the right-limit rows of the set at place `i` start from.
+    #[tactic(auto, using(crate::proofs::Parts::rights_at))]
+    pub fn rights_at(&self, i: usize) -> Set
+        requires { i < 64 }
+        ensures { result ≡ get_or self.now.rights i 0 }
+    {
+        self.masks[RIGHTS + i]
+    }
+
+    // The sets by place, those past the last one empty.
+    #[tactic(auto, unfolding(crate::specs::Graph::graph_of, crate::specs::Graph::part))]
+    pub fn sets(&self) -> &'a [Set]
+        ensures are { result.now ≡ self.now.sets }
+        ensures many { length result.now ≡ 64 }
+    {
+        let masks = self.masks;
+        &masks[SETS..LEFTS]
+    }
+
+    // By place, the states that the left-limit rows of the set lead to.
+    #[tactic(auto, unfolding(crate::specs::Graph::graph_of, crate::specs::Graph::part))]
+    pub fn lefts(&self) -> &'a [Set]
+        ensures are { result.now ≡ self.now.lefts }
+        ensures many { length result.now ≡ 64 }
+    {
+        let masks = self.masks;
+        &masks[LEFTS..RIGHTS]
+    }
+
+    // By place, the states that the right-limit rows of the set start from.
+    #[tactic(auto, unfolding(crate::specs::Graph::graph_of, crate::specs::Graph::part))]
+    pub fn rights(&self) -> &'a [Set]
+        ensures are { result.now ≡ self.now.rights }
+        ensures many { length result.now ≡ 64 }
+    {
+        let masks = self.masks;
+        &masks[RIGHTS..BY_SETS]
+    }
+
+    // The states of the sets at the places.
+    #[tactic(auto, unfolding(crate::specs::Graph::graph_of))]
+    pub fn states_of(&self, places: Places) -> Set
+        ensures { Targets self.now.sets places result }
+    {
+        let masks = self.masks;
+        targets_in(masks, SETS, places)
+    }
+
+    // The states that the left-limit rows of the sets at the places lead to.
+    #[tactic(auto, unfolding(crate::specs::Graph::graph_of))]
+    pub fn lefts_of(&self, places: Places) -> Set
+        ensures { Targets self.now.lefts places result }
+    {
+        let masks = self.masks;
+        targets_in(masks, LEFTS, places)
+    }
+
+    // The places of the sets that have the state `s`.
+    #[tactic(auto, using(crate::proofs::Incidence::has), unfolding(crate::specs::Graph::graph_of))]
+    pub fn having(&self, s: usize) -> Places
+        requires { s < 64 }
+        ensures { Having self.now.sets s result }
+    {
+        self.masks[BY_SETS + s]
+    }
+
+    // The places of the sets that have one of the states `m`.
+    pub fn meeting(&self, m: Set) -> Places
+        ensures { Meeting self.now.sets m result }
+    {
+        let masks = self.masks;
+        targets_in(masks, BY_SETS, m)
+    }
+
+    // The places of the sets that a right-limit row of one of the states `m` leads to.
+    pub fn entered_from(&self, m: Set) -> Places
+        ensures { Meeting self.now.rights m result }
+    {
+        let masks = self.masks;
+        targets_in(masks, BY_RIGHTS, m)
+    }
+
+    // Writes the whole array of the graph turned round. Which sets a state touches is only copied: there a left limit is a right one.
+    pub fn turn_into(&self, back: &mut Masks)
+        ensures { HasTurned self.now back.new }
+    {
+        let graph = self.masks;
+        turn(graph, back);
+        copy(back, BY_SETS, graph, BY_SETS);
+        copy(back, BY_LEFTS, graph, BY_RIGHTS);
+        copy(back, BY_RIGHTS, graph, BY_LEFTS);
+    }
+}
+
+impl<'a> TwoWayGraph<'a> {
+    // The graph `forth`, where `back` is the same graph turned round.
+    pub fn new(forth: &'a IndexedGraph<'a>, back: &'a IndexedGraph<'a>) -> Self
+        requires { TurnedGraph forth.now back.now }
+        ensures { result ≡ forth.now }
+    {
+        TwoWayGraph { forth, back }
+    }
+
+    // The graph alone.
+    pub fn forth(&self) -> &'a IndexedGraph<'a>
+        ensures { result.now ≡ self.now }
+    {
+        self.forth
+    }
+
+    // The graph turned round.
+    pub fn back(&self) -> &'a IndexedGraph<'a>
+        ensures { TurnedGraph self.now result.now }
+    {
+        self.back
+    }
+
+    // The graph turned round, and with it this one.
+    pub fn turned(&self) -> Self
+        ensures { TurnedGraph self.now result }
+    {
+        TwoWayGraph {
+            forth: self.back,
+            back: self.forth,
+        }
+    }
 }

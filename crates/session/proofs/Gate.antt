@@ -1,26 +1,27 @@
 -- The gate at the head of the calls: what a call does by the state of its session, and what it does where it is done or refused.
 use Prim.Native.Nat.{ℕ}
 use mathlib.Core.Path.{◌≡◌, refl, ap, sym, ◌∙◌, subst}
-use mathlib.Core.Logic.{◌⊎◌, ⊎_elim}
 use mathlib.Core.List.{List}
 use native.Mathlib.Omega.{arith}
 use lib.ListN.{length}
-use Rattle.machine.specs.declared.Answer.TheVariants.{Done, Refused}
+use Rattle.std.specs.Prelude.{Ok, Err}
+use Rattle.causes.specs.declared.Cause.{Cause}
+use Rattle.causes.specs.declared.Cause.TheVariants.{ForeignRecord}
+use Rattle.causes.specs.Numbers.{number_of}
+use Rattle.machine.specs.declared.Success.TheVariants.{Done}
 use Rattle.machine.specs.declared.Verdict.{Verdict}
 use Rattle.machine.specs.declared.Phase.{Phase}
-use Rattle.machine.specs.declared.Phase.TheVariants.{Open, Running, Settled}
+use Rattle.machine.specs.declared.Phase.TheVariants.{Running, Settled}
 use Rattle.machine.specs.Machine.{Machine}
 use Rattle.machine.specs.Marks.{Marked, MarkedCall, on, marked_call}
 use Rattle.machine.specs.Calls.{Call, Next, accept, refuse, refuse_at, call_in, call, Tells}
-use Rattle.machine.specs.Causes.{foreign_record, NotOpen, running, settled}
-use Rattle.machine.proofs.Answers.{tells_as, tells_refused}
+use Rattle.machine.specs.Causes.{NotOpen, running, settled}
+use Rattle.machine.proofs.Answers.{refusal, tells_as, tells_refused}
 use Rattle.machine.proofs.Ending.{rounds_done}
 use Rattle.session.specs.declared.Session.{Session}
 use Rattle.session.specs.declared.Reply.{Reply}
-use Rattle.session.specs.declared.State.{State}
-use Rattle.session.specs.declared.State.TheVariants.{Foreign, Open as IsOpen, Running as IsRunning, Settled as IsSettled}
 use Rattle.session.specs.Record.{record_of, Represents}
-use Rattle.session.specs.Promise.{Does, Keeps, Ranged, IsForeign, Promised, HasState}
+use Rattle.session.specs.Promise.{Does, Keeps, Ranged, IsForeign, Promised, HasPhase}
 use Rattle.session.specs.Standing.{reply, with_now}
 use Rattle.session.proofs.Whole.{count_of, set_count_of, phase_of, rounds_count, mark_count_of}
 
@@ -36,11 +37,12 @@ module _ (x : Marked) (c : Call) {old new : List ℕ} {r : Reply} where
   does_as n e f t = record { session_is = f ∙ ap (λ (y : Next). record_of (with_now x y.machine)) (sym e); tells = tells_as (ap (λ (y : Next). y.answer) (sym e)) t }
 
 module _ (x : Marked) (c : Call) (old : List ℕ) {r : Reply} where
-  pub does_done : {to : Machine} {t : Session} → call x.now c ≡ accept to → t ≡ record_of (with_now x to) → r ≡ reply t Done → Does x (on c) old old r
+  pub does_done : {to : Machine} {t : Session} → call x.now c ≡ accept to → t ≡ record_of (with_now x to) → r ≡ reply t (Ok Done) → Does x (on c) old old r
   does_done {to} e f g = does_as x c (accept to) e (ap (λ (y : Reply). y.session) g ∙ f) (rw g (record { answer_is = refl; buffer_is = refl }))
 
-  pub does_refused : {s : Session} {n place : ℕ} → Represents x s → call x.now c ≡ refuse_at x.now n place → r ≡ reply s (Refused n place) → Does x (on c) old old r
-  does_refused {s} {n} {place} p e g = does_as x c (refuse_at x.now n place) e (ap (λ (y : Reply). y.session) g ∙ p.whole) (rw g (tells_refused n place old))
+  pub does_refused : {s : Session} {cause : Cause} {place : ℕ} → Represents x s → call x.now c ≡ refuse_at x.now (number_of cause) place → r ≡ reply s (Err (refusal cause place))
+      → Does x (on c) old old r
+  does_refused {s} {cause} {place} p e g = does_as x c (refuse_at x.now (number_of cause) place) e (ap (λ (y : Reply). y.session) g ∙ p.whole) (rw g (tells_refused cause place old))
 
 -- ---- what a record is
 
@@ -57,24 +59,20 @@ ranged x s p = let w = p.formed.now_formed in record {
 pub foreign_none : (x : Marked) (s : Session) → Represents x s → ¬ IsForeign s
 foreign_none x s p f = f (ranged x s p)
 
--- at the state that was found
-pub known : (s : Session) (x : State) {q : State} → HasState s x → x ≡ q → HasState s q
-known s x h e = subst (HasState s) e h
+-- in the phase that was found
+pub known : (s : Session) {q p : Phase} → HasPhase s (Ok q) → q ≡ p → HasPhase s (Ok p)
+known s h e = subst (λ (p : Phase). HasPhase s (Ok p)) e h
 
 -- settled, with the verdict that was found
-pub settled_as : (s : Session) (v : Verdict) {w : Verdict} → HasState s (IsSettled v) → v ≡ w → HasState s (IsSettled w)
-settled_as s v h e = known s (IsSettled v) h (ap IsSettled e)
+pub settled_as : (s : Session) (v : Verdict) {w : Verdict} → HasPhase s (Ok (Settled v)) → v ≡ w → HasPhase s (Ok (Settled w))
+settled_as s v h e = known s h (ap Settled e)
 
 -- running or settled
-pub closed_running : (s : Session) {x : State} → HasState s x → x ≡ IsRunning → Ranged s × NotOpen s.phase
-closed_running s {x} h e = let k = known s x h e in (k.0, subst NotOpen (sym k.1) running)
+pub closed_running : (s : Session) {q : Phase} → HasPhase s (Ok q) → q ≡ Running → Ranged s × NotOpen s.phase
+closed_running s h e = (h.0, subst NotOpen (sym (h.1 ∙ e)) running)
 
-pub closed_settled : (s : Session) {x : State} {v : Verdict} → HasState s x → x ≡ IsSettled v → Ranged s × NotOpen s.phase
-closed_settled s {x} {v} h e = let k = known s x h e in (k.0, subst NotOpen (sym k.1) (settled v))
-
--- in any phase
-pub in_any_phase : (s : Session) (x : State) → HasState s x → (x ≡ IsOpen) ⊎ ((x ≡ IsRunning) ⊎ ((v : Verdict) × (x ≡ IsSettled v))) → Ranged s
-in_any_phase s x h k = ⊎_elim (λ e. (known s x {q = IsOpen} h e).0) (⊎_elim (λ e. (known s x {q = IsRunning} h e).0) (λ p. (known s x {q = IsSettled p.0} h p.1).0)) k
+pub closed_settled : (s : Session) {q : Phase} {v : Verdict} → HasPhase s (Ok q) → q ≡ Settled v → Ranged s × NotOpen s.phase
+closed_settled s {v = v} h e = (h.0, subst NotOpen (sym (h.1 ∙ e)) (settled v))
 
 -- ---- what is promised
 
@@ -84,34 +82,28 @@ module _ {s : Session} {c : MarkedCall} {old new : List ℕ} {r : Reply} where
 
 module _ (s : Session) {c : Call} {old : List ℕ} {r : Reply} where
   -- refused in a phase
-  refuses : {p : Phase} {n : ℕ} → Ranged s × (s.phase ≡ p) → ((m : Machine) → call_in p m c ≡ refuse m n) → r ≡ reply s (Refused n 0) → Promised s (on c) old old r
+  refuses : {p : Phase} {cause : Cause} → Ranged s × (s.phase ≡ p) → ((m : Machine) → call_in p m c ≡ refuse m (number_of cause)) → r ≡ reply s (Err (refusal cause 0))
+      → Promised s (on c) old old r
   refuses h f g = promised h.0 refl (λ x k. does_refused x c old k (ap (λ (y : Phase). call_in y x.now c) (in_phase x s k h.1) ∙ f x.now) g)
 
   -- done in a phase
   pub done_in : {p : Phase} {t : Session} (to : Machine → Machine) → Ranged s × (s.phase ≡ p) → ((m : Machine) → call_in p m c ≡ accept (to m))
-      → ((x : Marked) → Represents x s → t ≡ record_of (with_now x (to x.now))) → r ≡ reply t Done → Promised s (on c) old old r
+      → ((x : Marked) → Represents x s → t ≡ record_of (with_now x (to x.now))) → r ≡ reply t (Ok Done) → Promised s (on c) old old r
   done_in to h f t g = promised h.0 refl
       (λ x k. does_done x c old (ap (λ (y : Phase). call_in y x.now c) (in_phase x s k h.1) ∙ f x.now) (t x k) g)
 
--- refused, by the state that was found
-module _ (s : Session) (x : State) (h : HasState s x) {c : MarkedCall} {old : List ℕ} {r : Reply} where
-  pub away : x ≡ Foreign → r ≡ reply s (Refused foreign_record 0) → Promised s c old old r
-  away e g = let f = known s x h e in
-      record {
-        keeps = λ y p. absurd (foreign_none y s p f);
-        foreign = λ i. record { session_is = ap (λ (y : Reply). y.session) g; tells = rw g (tells_refused foreign_record 0 old) };
-        free = refl;
-      }
+-- foreign, and refused
+pub away : (s : Session) {c : MarkedCall} {old : List ℕ} {r : Reply} {cause : Cause} → HasPhase s (Err cause) → r ≡ reply s (Err (refusal cause 0)) → Promised s c old old r
+away s {old = old} h g = let made = g ∙ ap (λ (k : Cause). reply s (Err (refusal k 0))) h.1 in record {
+  keeps = λ y p. absurd (foreign_none y s p h.0);
+  foreign = λ i. record { session_is = ap (λ (y : Reply). y.session) g; tells = rw made (tells_refused ForeignRecord 0 old) };
+  free = refl;
+}
 
-module _ (s : Session) (x : State) (h : HasState s x) {c : Call} {old : List ℕ} {r : Reply} where
-  pub refused_open : {n : ℕ} → x ≡ IsOpen → r ≡ reply s (Refused n 0) → ((m : Machine) → call_in Open m c ≡ refuse m n) → Promised s (on c) old old r
-  refused_open e g f = refuses s (known s x h e) f g
-
-  pub refused_running : {n : ℕ} → x ≡ IsRunning → r ≡ reply s (Refused n 0) → ((m : Machine) → call_in Running m c ≡ refuse m n) → Promised s (on c) old old r
-  refused_running e g f = refuses s (known s x h e) f g
-
-  pub refused_settled : {n : ℕ} (v : Verdict) → x ≡ IsSettled v → r ≡ reply s (Refused n 0) → ((m : Machine) → call_in (Settled v) m c ≡ refuse m n) → Promised s (on c) old old r
-  refused_settled v e g f = refuses s (known s x h e) f g
+-- refused, in the phase that was found
+pub refused_in : (s : Session) {c : Call} {old : List ℕ} {r : Reply} {q p : Phase} {cause : Cause} → HasPhase s (Ok q) → q ≡ p
+    → r ≡ reply s (Err (refusal cause 0)) → ((m : Machine) → call_in p m c ≡ refuse m (number_of cause)) → Promised s (on c) old old r
+refused_in s h e g f = refuses s (known s h e) f g
 
 -- what a call's arms ask; what the machine refuses there is listed beside it
-pub ruleset gate = (known, away, refused_open, refused_running, refused_settled)
+pub ruleset gate = (known, away, refused_in)

@@ -18,7 +18,7 @@ use Rattle.rounds.proofs.OpenClaims.{no_rounds}
 use Rattle.whole_sheet.proofs.Automata.{given_rows}
 use Rattle.session.specs.declared.Session.{Session}
 use Rattle.session.specs.Record.{record_of, Represents}
-use Rattle.session.specs.Standing.{rounds_in, with_rounds, Reads, LettersOfFirst, with_now}
+use Rattle.session.specs.Standing.{rounds_in, with_rounds, Reads, LettersOf, with_now}
 use Rattle.session.proofs.Whole.{standing_of, sets_in_of}
 
 module _ (x : Marked) (s : Session) (p : Represents x s) where
@@ -41,7 +41,7 @@ module _ (x : Marked) (s : Session) (p : Represents x s) where
   unfolding record_of
   kept_record to now same k = ap (λ (t : Session). with_rounds t now) p.whole ∙ rw (k.loops_are, k.mixes_are, k.phase_is, k.count_is, same) refl
 
-  pub closed_record : (graph : List ℕ) (initials finals : ℕ) (now : Progress) → LettersOfFirst s.rows s.row_count graph initials finals → Closes (graph_of graph) initials finals now
+  pub closed_record : (graph : List ℕ) (initials finals : ℕ) (now : Progress) → LettersOf s graph initials finals → Closes (graph_of graph) initials finals now
       → with_rounds s now ≡ record_of (with_now x (closed x.now))
   unfolding closed
   closed_record graph initials finals now h c =

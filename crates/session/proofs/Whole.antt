@@ -1,8 +1,8 @@
 -- The whole record of a machine with its marks.
 use Prim.Native.Nat.{ℕ, ◌-◌}
 use mathlib.Core.Path.{◌≡◌, refl, ap, sym, ◌∙◌, subst}
-use mathlib.Core.List.{List, [], ◌∷◌, map}
-use lib.ListN.{length, replicate, length-map}
+use mathlib.Core.List.{List}
+use lib.ListN.{length, replicate}
 use lib.Seq.{take_at}
 use Rattle.rows.specs.declared.Row.{Row}
 use Rattle.rows.specs.Rows.{standing_sets}
@@ -12,18 +12,14 @@ use Rattle.machine.specs.Machine.{Machine, open_with}
 use Rattle.machine.specs.Marks.{Marked}
 use Rattle.machine.specs.WellFormed.{Table, Made}
 use Rattle.machine.proofs.Outcomes.{rows_to}
+use Rattle.sorted_keys.specs.declared.Key.{Key}
 use Rattle.row_table.specs.Arrays.{padded, Keyed, SetsIn}
 use Rattle.rounds.specs.Arrays.{rounds_of}
 use Rattle.rounds.proofs.OpenClaims.{no_rounds}
 use Rattle.marks.specs.Record.{marks_of}
-use Rattle.session.specs.declared.Slot.{Slot}
 use Rattle.session.specs.declared.Session.{Session}
-use Rattle.session.specs.Record.{slot, blank, record_of, Represents}
+use Rattle.session.specs.Record.{blank, record_of, Represents}
 use Rattle.session.specs.Standing.{first_rows, standing, with_table, with_now}
-
-rows_back : (l : List Row) → map (λ s. s.row) (map slot l) ≡ l
-rows_back [] = refl
-rows_back (r ∷ l) = ap (λ (k : List Row). r ∷ k) (rows_back l)
 
 module _ (x : Marked) (s : Session) (p : Represents x s) where
   pub count_of : s.row_count ≡ length x.now.rows
@@ -46,12 +42,11 @@ module _ (x : Marked) (s : Session) (p : Represents x s) where
   pub standing_of : standing s ≡ x.now.rows
   unfolding record_of first_rows
   standing_of = ap standing p.whole
-      ∙ ap (map (λ (t : Slot). t.row)) (take_at (map slot x.now.rows) (replicate (256 - length (map slot x.now.rows)) blank) (length x.now.rows) (length-map x.now.rows slot))
-      ∙ rows_back x.now.rows
+      ∙ take_at x.now.rows (replicate (256 - length x.now.rows) blank) (length x.now.rows) refl
 
   -- the keys of the standing rows are those of the machine's rows, and the sets are its sets
-  pub keyed_of : (high low : List ℕ) → Keyed (standing s) high low s.row_count → Keyed x.now.rows high low s.row_count
-  keyed_of high low k = subst (λ l. Keyed l high low s.row_count) standing_of k
+  pub keyed_of : (keys : List Key) (n : ℕ) → Keyed (standing s) keys n → Keyed x.now.rows keys n
+  keyed_of keys n k = subst (λ l. Keyed l keys n) standing_of k
 
   pub sets_in_of : SetsIn x.now.rows s.sets s.set_count
   sets_in_of = record { count = set_count_of; sets_are = sets_array }
@@ -81,7 +76,7 @@ module _ (x : Marked) (s : Session) (p : Represents x s) (o : x.now.phase ≡ Op
   unfolding record_of
   rows_table rows t =
       let of : (loop-rounds mix-rounds : List ℕ) → Session = λ a b. record {
-        rows = padded 256 blank (map slot rows);
+        rows = padded 256 blank rows;
         row_count = length rows;
         sets = padded 64 0 (standing_sets rows);
         set_count = length (standing_sets rows);

@@ -1,14 +1,14 @@
 -- The promises of the session's calls.
-use Rattle.std.specs.Prelude.{◌≡◌, List, length, ℕ, ◌≤◌}
-use Rattle.machine.specs.declared.Phase.TheVariants.{Open, Running, Settled}
+use Rattle.std.specs.Prelude.{◌≡◌, List, length, ℕ, ◌≤◌, Result, Ok, Err}
+use Rattle.causes.specs.declared.Cause.{Cause}
+use Rattle.causes.specs.declared.Cause.TheVariants.{ForeignRecord}
+use Rattle.machine.specs.declared.Phase.{Phase}
 use Rattle.machine.specs.Calls.{refused, Tells}
 use Rattle.machine.specs.Causes.{foreign_record}
 use Rattle.machine.specs.WellFormed.{most_done}
 use Rattle.machine.specs.Marks.{most_marks, Marked, fresh_marked, MarkedCall, marked_call}
 use Rattle.session.specs.declared.Session.{Session}
 use Rattle.session.specs.declared.Reply.{Reply}
-use Rattle.session.specs.declared.State.{State}
-use Rattle.session.specs.declared.State.TheVariants.{Foreign, Open as IsOpen, Running as IsRunning, Settled as IsSettled}
 use Rattle.session.specs.Record.{record_of, Represents}
 
 -- fresh is open with no rows, and has no marks
@@ -51,9 +51,7 @@ pub record Promised (s : Session) (c : MarkedCall) (old new : List ℕ) (r : Rep
   pub foreign : IsForeign s → TurnsAway s old new r
   pub free : FreeAnswer old new
 
--- the state of a record: foreign, or its phase
-abbrev pub HasState : Session → State → Type 0
-HasState s Foreign = IsForeign s
-HasState s IsOpen = Ranged s × (s.phase ≡ Open)
-HasState s IsRunning = Ranged s × (s.phase ≡ Running)
-HasState s (IsSettled v) = Ranged s × (s.phase ≡ Settled v)
+-- what a record is to the calls: a session in its phase, or foreign
+abbrev pub HasPhase : Session → Result Phase Cause → Type 0
+HasPhase s (Ok p) = Ranged s × (s.phase ≡ p)
+HasPhase s (Err c) = IsForeign s × (c ≡ ForeignRecord)

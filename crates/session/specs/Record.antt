@@ -1,5 +1,5 @@
 -- The whole record of a machine with its marks.
-use Rattle.std.specs.Prelude.{◌≡◌, map, length}
+use Rattle.std.specs.Prelude.{◌≡◌, length}
 use Rattle.rows.specs.declared.Row.{Row}
 use Rattle.rows.specs.declared.Row.TheVariants.{Initial}
 use Rattle.rows.specs.Rows.{standing_sets}
@@ -8,20 +8,16 @@ use Rattle.machine.specs.Marks.{Marked, MarkedFormed}
 use Rattle.row_table.specs.Arrays.{padded}
 use Rattle.rounds.specs.Arrays.{rounds_of}
 use Rattle.marks.specs.Record.{marks_of}
-use Rattle.session.specs.declared.Slot.{Slot}
 use Rattle.session.specs.declared.Session.{Session}
 
-abbrev pub slot : Row → Slot
-slot r = record { row = r }
-
 -- what an unused place of the row array holds
-abbrev pub blank : Slot
-blank = slot (Initial 0)
+abbrev pub blank : Row
+blank = Initial 0
 
 unfoldable pub record_of : Marked → Session
 record_of x =
     record {
-      rows = padded 256 blank (map slot x.now.rows);
+      rows = padded 256 blank x.now.rows;
       row_count = length x.now.rows;
       sets = padded 64 0 (standing_sets x.now.rows);
       set_count = length (standing_sets x.now.rows);

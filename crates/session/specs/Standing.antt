@@ -1,33 +1,28 @@
 -- What the inner functions make of a record, as its arrays stand.
-use Rattle.std.specs.Prelude.{ℕ, ◌≡◌, List, ◌∷◌, map, length, take, replicate}
+use Rattle.std.specs.Prelude.{ℕ, ◌≡◌, List, ◌∷◌, length, take, replicate, Ok}
 use Rattle.rows.specs.declared.Row.{Row}
 use Rattle.rows.specs.Rows.{AllFit, standing_sets}
-use Rattle.machine.specs.declared.Answer.{Answer}
 use Rattle.machine.specs.declared.Phase.{Phase}
-use Rattle.machine.specs.declared.Answer.TheVariants.{Done, Wrote, Decided, Refused}
+use Rattle.machine.specs.declared.Success.TheVariants.{Done}
 use Rattle.machine.specs.Machine.{Machine, open_with}
-use Rattle.machine.specs.Calls.{close, round, run}
+use Rattle.machine.specs.Calls.{Answer, close, round, run}
 use Rattle.machine.specs.WellFormed.{Table, WellFormed}
 use Rattle.machine.specs.Marks.{Marked, fresh_marked}
-use Rattle.row_table.specs.Arrays.{padded, Keyed}
+use Rattle.row_table.specs.declared.RowKeys.{RowKeys}
+use Rattle.row_table.specs.declared.RowSets.{RowSets}
+use Rattle.row_table.specs.Arrays.{padded, Filed}
 use Rattle.automaton.specs.declared.Automaton.{Automaton}
 use Rattle.automaton.specs.Promise.{Gives, GivesLetters, automaton_of}
 use Rattle.rounds.specs.declared.Progress.{Progress}
-use Rattle.session.specs.declared.Slot.{Slot}
 use Rattle.session.specs.declared.Session.{Session}
 use Rattle.session.specs.declared.Reply.{Reply}
 use Rattle.marks.specs.declared.Kept.{Kept}
 use Rattle.marks.specs.Record.{kept_of}
-use Rattle.session.specs.Record.{slot, blank, record_of, Represents}
+use Rattle.session.specs.Record.{blank, record_of, Represents}
 
 -- the first n rows of an array
-unfoldable pub first_rows : ℕ → List Slot → List Row
-first_rows n l = map (λ s. s.row) (take n l)
-
--- the keys of the first n rows of an array, into two arrays of 256 words
-pub record PutsKeys (l : List Slot) (n : ℕ) (high high' low low' : List ℕ) : Type 0 where
-  pub length_is : (length high' ≡ length high) × (length low' ≡ length low)
-  pub keyed : length high ≡ 256 → length low ≡ 256 → Keyed (first_rows n l) high' low' n
+unfoldable pub first_rows : ℕ → List Row → List Row
+first_rows n l = take n l
 
 -- the rows that stand
 abbrev pub standing : Session → List Row
@@ -40,7 +35,7 @@ reply s a = record { session = s; answer = a }
 abbrev pub with_table : Session → List Row → Session
 with_table s rows =
     record {
-      rows = padded 256 blank (map slot rows);
+      rows = padded 256 blank rows;
       row_count = length rows;
       sets = padded 64 0 (standing_sets rows);
       set_count = length (standing_sets rows);
@@ -70,29 +65,17 @@ with_rounds s r =
       marks = s.marks;
     }
 
--- the array of the rows that have the first n keys
-abbrev pub Slotted : List ℕ → List ℕ → ℕ → List Slot → Type 0
-Slotted highs lows n r = (rows : List Row) → AllFit rows → Keyed rows highs lows n → r ≡ padded 256 blank (map slot rows)
-
--- what a batch came to: done, and the record has the table that the arrays hold; or the record as it was
-abbrev pub TakesTable : Session → (List Row → Type 0) → Answer → Reply → Type 0
-TakesTable s Has Done r = (rows : List Row) → Table rows → Has rows → r ≡ reply (with_table s rows) Done
-TakesTable s Has (Wrote n) r = r ≡ reply s (Wrote n)
-TakesTable s Has (Decided v) r = r ≡ reply s (Decided v)
-TakesTable s Has (Refused n place) r = r ≡ reply s (Refused n place)
+-- the record has the table that arrays of keys and of sets hold
+abbrev pub HoldsTable : Session → RowKeys → RowSets → Session → Type 0
+HoldsTable s keys sets r = (rows : List Row) → Table rows → Filed keys.keys sets.sets keys.count sets.count rows → r ≡ with_table s rows
 
 -- the masks of the rows of the machine that the session represents
 abbrev pub Reads : Session → Automaton → Type 0
 Reads s r = (x : Marked) → Represents x s → Gives x.now.rows s.sets s.set_count r
 
--- the masks of the first n rows of an array, whose sets are the first k
-abbrev pub GivesFirst : List Slot → ℕ → List ℕ → ℕ → Automaton → Type 0
-GivesFirst l n sets k r = AllFit (first_rows n l) → k ≡ length (standing_sets (first_rows n l)) → take k sets ≡ standing_sets (first_rows n l)
-    → Gives (first_rows n l) sets k r
-
--- their letter steps, initial and final states
-abbrev pub LettersOfFirst : List Slot → ℕ → List ℕ → ℕ → ℕ → Type 0
-LettersOfFirst l n graph initials finals = AllFit (first_rows n l) → GivesLetters (first_rows n l) (automaton_of graph initials finals)
+-- the letter steps, initial and final states of the rows that stand
+abbrev pub LettersOf : Session → List ℕ → ℕ → ℕ → Type 0
+LettersOf s graph initials finals = AllFit (standing s) → GivesLetters (standing s) (automaton_of graph initials finals)
 
 -- ---- marks
 
@@ -125,12 +108,12 @@ emptied s = with_marks s (record_of fresh_marked)
 
 -- the machine is closed, and does rounds until it is settled, k at most
 abbrev pub WorkedOn : Session → ℕ → Reply → Type 0
-WorkedOn s k r = (x : Marked) → Represents x s → r ≡ reply (record_of (with_now x (run (open_with x.now.rows) (close ∷ replicate k round)))) Done
+WorkedOn s k r = (x : Marked) → Represents x s → r ≡ reply (record_of (with_now x (run (open_with x.now.rows) (close ∷ replicate k round)))) (Ok Done)
 
 -- the machine with these rows, in the phase after so many rounds
 abbrev pub ReworkedTo : Session → Phase → ℕ → Reply → Type 0
 ReworkedTo s phase k r = (x : Marked) → Represents x s → (m : Machine) → WellFormed m → x.now.rows ≡ m.rows → m.phase ≡ phase → m.rounds ≡ k
-    → r ≡ reply (record_of (with_now x m)) Done
+    → r ≡ reply (record_of (with_now x m)) (Ok Done)
 
 -- the rows of the machine that is kept, open, with the marks of s
 abbrev pub Reloads : Session → Kept → Session → Type 0
@@ -138,4 +121,4 @@ Reloads s kept r = (x : Marked) → Represents x s → (m : Machine) → WellFor
 
 -- the machine that is kept, with the marks of s
 abbrev pub BringsBack : Session → Kept → Reply → Type 0
-BringsBack s kept r = (x : Marked) → Represents x s → (m : Machine) → WellFormed m → kept ≡ kept_of m → r ≡ reply (record_of (with_now x m)) Done
+BringsBack s kept r = (x : Marked) → Represents x s → (m : Machine) → WellFormed m → kept ≡ kept_of m → r ≡ reply (record_of (with_now x m)) (Ok Done)

@@ -1,49 +1,56 @@
 // The call expression.
-ghost use Rattle.std.specs.Prelude.{length};
+ghost use Rattle.std.specs.Prelude.{length, Ok};
+ghost use Rattle.machine.specs.declared.Phase.TheVariants.{Settled};
 ghost use Rattle.machine.specs.declared.Verdict.TheVariants.{NonEmpty};
 ghost use Rattle.machine.specs.Calls.{expression};
 ghost use Rattle.machine.specs.Marks.{on};
-ghost use Rattle.session.specs.Promise.{HasState, Promised};
+ghost use Rattle.session.specs.Promise.{HasPhase, Promised};
 
-use crate::{Reply, Session, State};
-use machine::{FOREIGN_RECORD, Verdict};
-use search::graphs;
+use crate::tables::words_of;
+use crate::{Reply, Session};
+use causes::Cause;
+use machine::{Phase, Verdict};
 use search::graphs::MASKS;
+use search::{IndexedGraph, TwoWayGraph};
 
 impl Session {
     // The walk of a session settled as non-empty.
     fn express_walk(self, buffer: &mut [u8]) -> Reply
-        requires { HasState self (State.Settled NonEmpty) }
+        requires { HasPhase self (Ok (Settled NonEmpty)) }
         ensures { Promised self (on (expression (length buffer.old)))
             buffer.old buffer.new result }
     {
-        let n = self.row_count;
-        let k = self.set_count;
         let keys = self.keys();
-        let high = keys.high;
-        let a = self.automaton();
-        let graph = a.graph;
-        let mut back = [0u64; MASKS];
-        graphs::turn_indexed(&graph, &mut back);
-        let kept = self.progress();
+        let words = words_of(&keys);
+        let mut masks = [0u64; MASKS];
+        let ends = automaton::fill(&mut masks, &keys, &self.row_sets());
+        let graph = IndexedGraph::new(&masks);
+        let mut turned = [0u64; MASKS];
+        graph.turn_into(&mut turned);
+        let back = IndexedGraph::new(&turned);
+        let both = TwoWayGraph::new(&graph, &back);
+        let progress = self.progress();
         let answer = expression::express(
-            buffer, &high, n, k, &graph, &back, a.initials, a.finals, kept,
+            buffer,
+            &words,
+            keys.count,
+            self.set_count,
+            &both,
+            ends,
+            &progress,
         );
-        Reply {
-            session: self,
-            answer,
-        }
+        self.answered(answer)
     }
 
     // By the verdict: an empty one has no walk.
     fn express_settled(self, v: Verdict, buffer: &mut [u8]) -> Reply
-        requires { HasState self (State.Settled v) }
+        requires { HasPhase self (Ok (Settled v)) }
         ensures { Promised self (on (expression (length buffer.old)))
             buffer.old buffer.new result }
     {
         match v {
             Verdict::NonEmpty => self.express_walk(buffer),
-            Verdict::Empty => self.refuse(17),
+            Verdict::Empty => self.refuse(Cause::VerdictEmpty),
         }
     }
 
@@ -52,11 +59,11 @@ impl Session {
         ensures { Promised self (on (expression (length buffer.old)))
             buffer.old buffer.new result }
     {
-        match self.state() {
-            State::Foreign => self.refuse(FOREIGN_RECORD),
-            State::Open => self.refuse(9),
-            State::Running => self.refuse(11),
-            State::Settled(v) => self.express_settled(v, buffer),
+        match self.ranged() {
+            Ok(Phase::Open) => self.refuse(Cause::StillOpen),
+            Ok(Phase::Running) => self.refuse(Cause::StillRunning),
+            Ok(Phase::Settled(v)) => self.express_settled(v, buffer),
+            Err(cause) => self.refuse(cause),
         }
     }
 }

@@ -1,50 +1,45 @@
 // The call print.
-ghost use Rattle.std.specs.Prelude.{length};
+ghost use Rattle.std.specs.Prelude.{length, Ok};
+ghost use Rattle.machine.specs.declared.Phase.TheVariants.{Settled};
 ghost use Rattle.machine.specs.Calls.{print};
 ghost use Rattle.machine.specs.Marks.{on};
-ghost use Rattle.session.specs.Promise.{HasState, Promised};
+ghost use Rattle.session.specs.Promise.{HasPhase, Promised};
 
-use crate::tables::put_keys;
-use crate::{Reply, Session, State};
-use machine::{FOREIGN_RECORD, MOST_ROWS, Verdict};
-use search::graphs;
+use crate::tables::words_of;
+use crate::{Reply, Session};
+use causes::Cause;
+use machine::{Phase, Verdict};
 use search::graphs::MASKS;
+use search::{IndexedGraph, TwoWayGraph};
 
 impl Session {
     // The sheet of a settled session: the keys are made once, for the graph and for the letters of the walk.
     fn print_settled(self, v: Verdict, buffer: &mut [u8]) -> Reply
-        requires { HasState self (State.Settled v) }
+        requires { HasPhase self (Ok (Settled v)) }
         ensures { Promised self (on (print (length buffer.old)))
             buffer.old buffer.new result }
     {
-        let n = self.row_count;
-        let k = self.set_count;
-        let rows = self.rows;
-        let sets = self.sets;
-        let mut high = [0u64; MOST_ROWS];
-        let mut low = [0u64; MOST_ROWS];
-        put_keys(rows, n, &mut high, &mut low);
-        let mut graph = [0u64; MASKS];
-        let points = automaton::fill(&mut graph, &high, &low, n, &sets, k);
-        let mut back = [0u64; MASKS];
-        graphs::turn_indexed(&graph, &mut back);
-        let kept = self.progress();
+        let keys = self.keys();
+        let words = words_of(&keys);
+        let mut masks = [0u64; MASKS];
+        let ends = automaton::fill(&mut masks, &keys, &self.row_sets());
+        let graph = IndexedGraph::new(&masks);
+        let mut turned = [0u64; MASKS];
+        graph.turn_into(&mut turned);
+        let back = IndexedGraph::new(&turned);
+        let both = TwoWayGraph::new(&graph, &back);
+        let progress = self.progress();
         let answer = whole_sheet::print(
             buffer,
             v,
-            &high,
-            n,
-            k,
-            &graph,
-            &back,
-            points.initials,
-            points.finals,
-            kept,
+            &words,
+            keys.count,
+            self.set_count,
+            &both,
+            ends,
+            &progress,
         );
-        Reply {
-            session: self,
-            answer,
-        }
+        self.answered(answer)
     }
 
     // Print: the sheet into the buffer, when settled; nothing where the buffer is too short.
@@ -52,11 +47,11 @@ impl Session {
         ensures { Promised self (on (print (length buffer.old)))
             buffer.old buffer.new result }
     {
-        match self.state() {
-            State::Foreign => self.refuse(FOREIGN_RECORD),
-            State::Open => self.refuse(9),
-            State::Running => self.refuse(11),
-            State::Settled(v) => self.print_settled(v, buffer),
+        match self.ranged() {
+            Ok(Phase::Open) => self.refuse(Cause::StillOpen),
+            Ok(Phase::Running) => self.refuse(Cause::StillRunning),
+            Ok(Phase::Settled(v)) => self.print_settled(v, buffer),
+            Err(cause) => self.refuse(cause),
         }
     }
 }

@@ -1,12 +1,13 @@
 // The gate at the head of every call, and what a refusal hands back.
-ghost use Rattle.std.specs.Prelude.{◌≡◌};
-ghost use Rattle.machine.specs.declared.Answer.TheVariants.{Refused};
+ghost use Rattle.std.specs.Prelude.{◌≡◌, Ok, Err};
+ghost use Rattle.machine.specs.declared.Success.TheVariants.{Done};
 ghost use Rattle.machine.specs.WellFormed.{most_done};
-ghost use Rattle.session.specs.Promise.{HasState};
+ghost use Rattle.session.specs.Promise.{HasPhase};
 ghost use Rattle.session.specs.Standing.{reply};
 
-use crate::{Reply, Session, State};
-use machine::{Answer, MOST_ROUNDS, MOST_ROWS, MOST_SETS, Phase};
+use crate::{Reply, Session};
+use causes::Cause;
+use machine::{Answer, MOST_ROUNDS, MOST_ROWS, MOST_SETS, Phase, Refusal, Success};
 use marks::MOST_MARKS;
 
 // The most rounds that calls lead to, by the phase: the last of them settles.
@@ -21,42 +22,46 @@ fn most_done(phase: Phase) -> u8
 }
 
 impl Session {
-    // What the record is to a call.
-    pub(crate) fn state(self) -> State
-        ensures { HasState self result }
+    // The phase of the record; one whose counts no calls lead to is foreign.
+    pub(crate) fn ranged(self) -> Result<Phase, Cause>
+        ensures { HasPhase self result }
     {
-        let row_count = self.row_count;
-        let set_count = self.set_count;
-        if row_count > MOST_ROWS {
-            return State::Foreign;
+        if self.row_count > MOST_ROWS {
+            return Err(Cause::ForeignRecord);
         }
-        if set_count > MOST_SETS {
-            return State::Foreign;
+        if self.set_count > MOST_SETS {
+            return Err(Cause::ForeignRecord);
         }
-        let marks = self.marks;
-        if marks.count > MOST_MARKS {
-            return State::Foreign;
+        if self.marks.count > MOST_MARKS {
+            return Err(Cause::ForeignRecord);
         }
-        let phase = self.phase;
-        let rounds = self.rounds;
-        if rounds > most_done(phase) {
-            return State::Foreign;
+        if self.rounds > most_done(self.phase) {
+            return Err(Cause::ForeignRecord);
         }
-        match phase {
-            Phase::Open => State::Open,
-            Phase::Running => State::Running,
-            Phase::Settled(v) => State::Settled(v),
-        }
+        Ok(self.phase)
     }
 
-    // The session as it was, and a refusal without a place.
-    pub(crate) fn refuse(self, number: u8) -> Reply
-        ensures { result ≡ reply self (Refused number 0) }
+    // The session as it was, and an answer.
+    pub(crate) fn answered(self, answer: Answer) -> Reply
+        ensures { result ≡ reply self answer }
     {
-        let answer = Answer::Refused(number, 0);
         Reply {
             session: self,
             answer,
         }
+    }
+
+    // The same, without a place.
+    pub(crate) fn refuse(self, cause: Cause) -> Reply
+        ensures { result ≡ reply self (Err (record { cause = cause; place = 0 })) }
+    {
+        self.answered(Err(Refusal { cause, place: 0 }))
+    }
+
+    // The session, which is done.
+    pub(crate) fn done(self) -> Reply
+        ensures { result ≡ reply self (Ok Done) }
+    {
+        self.answered(Ok(Success::Done))
     }
 }

@@ -4,8 +4,7 @@ ghost use Rattle.machine.specs.Calls.{save};
 ghost use Rattle.machine.specs.Marks.{on};
 ghost use Rattle.session.specs.Promise.{Ranged, Promised};
 
-use crate::{Reply, Session, State};
-use machine::FOREIGN_RECORD;
+use crate::{Reply, Session};
 
 impl Session {
     // The standing rows of a session into the buffer; nothing where the buffer is too short.
@@ -14,15 +13,8 @@ impl Session {
         ensures { Promised self (on (save (length buffer.old)))
             buffer.old buffer.new result }
     {
-        let n = self.row_count;
         let keys = self.keys();
-        let high = keys.high;
-        let low = keys.low;
-        let answer = whole_sheet::saved::save(buffer, &high, &low, n);
-        Reply {
-            session: self,
-            answer,
-        }
+        self.answered(whole_sheet::saved::save(buffer, &keys.keys[..keys.count]))
     }
 
     // Save: the standing rows, in any phase.
@@ -30,9 +22,9 @@ impl Session {
         ensures { Promised self (on (save (length buffer.old)))
             buffer.old buffer.new result }
     {
-        match self.state() {
-            State::Foreign => self.refuse(FOREIGN_RECORD),
-            State::Open | State::Running | State::Settled(_) => self.save_rows(buffer),
+        match self.ranged() {
+            Ok(_) => self.save_rows(buffer),
+            Err(cause) => self.refuse(cause),
         }
     }
 }

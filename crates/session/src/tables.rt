@@ -1,87 +1,49 @@
-// The fresh session; the table of a session as arrays of keys, its automaton, and what close reads of it. What loops takes the rows alone, not
-// the record: it is copied for a call.
-ghost use Rattle.std.specs.Prelude.{◌≡◌, replicate, ◌≤◌};
-ghost use Rattle.row_table.specs.Arrays.{Keyed};
+// The fresh session; the table of a session as arrays of keys and sets, its automaton, and what close reads of it.
+ghost use Rattle.std.specs.Prelude.{◌≡◌, ℕ, ◌<◌, List, get_or, replicate};
+ghost use Rattle.sorted_keys.specs.Keys.{key_at};
+ghost use Rattle.rows.specs.declared.Row.{Row};
+ghost use Rattle.rows.specs.Rows.{AllFit};
+ghost use Rattle.row_table.specs.Arrays.{Keyed, padded};
 ghost use Rattle.search.specs.Graph.{Indexed};
+ghost use Rattle.automaton.specs.Promise.{automaton_of};
+ghost use Rattle.session.specs.Record.{blank};
 ghost use Rattle.session.specs.Promise.{Fresh, Ranged};
-ghost use Rattle.session.specs.Standing.{PutsKeys, standing, Slotted, Reads, GivesFirst, LettersOfFirst};
+ghost use Rattle.session.specs.Standing.{standing, HoldsTable, Reads, LettersOf};
 
-use crate::{Keys, Session, Slot};
-use automaton::{Automaton, Endpoints, Seen};
+use crate::Session;
+use automaton::Seen;
 use machine::{MOST_ROWS, MOST_SETS, Phase};
 use marks::Marks;
+use row_table::{RowKeys, RowSets};
 use rows::Row;
+use search::Endpoints;
 use search::graphs::Masks;
+use sorted_keys::Key;
 
-// The rows of the first `n` keys, and then the filler.
-pub(crate) fn slots(high: &[u64; MOST_ROWS], low: &[u64; MOST_ROWS], n: usize) -> [Slot; MOST_ROWS]
-    requires { n ≤ 256 }
-    ensures { Slotted high.now low.now n result }
+// What an unused place of the array of rows holds.
+const BLANK: Row = Row::Initial(0);
+
+// The rows of the keys, and then the filler.
+fn rows_of(keys: &RowKeys) -> [Row; MOST_ROWS]
+    ensures { (rows : List Row) → AllFit rows → Keyed rows keys.now.keys keys.now.count
+        → result ≡ padded 256 blank rows }
 {
-    let row = Row::Initial(0);
-    let blank = Slot { row };
-    let mut rows = [blank; MOST_ROWS];
-    let mut i = 0;
-    while i < n {
-        let row = rows::row_of(high[i], low[i]);
-        let slot = Slot { row };
-        rows[i] = slot;
-        i += 1;
+    let mut rows = [BLANK; MOST_ROWS];
+    for i in 0..keys.count {
+        rows[i] = Row::of_key(keys.keys[i]);
     }
     rows
 }
 
-// The keys of the first `n` rows, into the front of two arrays.
-pub(crate) fn put_keys(
-    rows: [Slot; MOST_ROWS],
-    n: usize,
-    high: &mut [u64; MOST_ROWS],
-    low: &mut [u64; MOST_ROWS],
-)
-    requires { n ≤ 256 }
-    ensures { PutsKeys rows n high.old high.new low.old low.new }
+// The first words of the keys: those of letter rows are the words that a walk reads.
+pub(crate) fn words_of(keys: &RowKeys) -> [u64; MOST_ROWS]
+    ensures { (i : ℕ) → i < keys.now.count → get_or result i 0 ≡ (key_at keys.now.keys i).high }
 {
-    let mut i = 0;
-    while i < n {
-        let slot = rows[i];
-        let row = slot.row;
-        high[i] = rows::high_of(row);
-        low[i] = rows::low_of(row);
-        i += 1;
+    let mut words = [0u64; MOST_ROWS];
+    for i in 0..keys.count {
+        words[i] = keys.keys[i].high;
     }
-}
-
-// The automaton of the first `n` rows, whose sets are the first `k`.
-fn automaton_of(rows: [Slot; MOST_ROWS], n: usize, sets: [u64; MOST_SETS], k: usize) -> Automaton
-    requires { (n ≤ 256) × (k ≤ 64) }
-    ensures gives { GivesFirst rows n sets k result }
-    ensures indexed { Indexed result.graph }
-{
-    let mut high = [0u64; MOST_ROWS];
-    let mut low = [0u64; MOST_ROWS];
-    put_keys(rows, n, &mut high, &mut low);
-    automaton::of_keys(&high, &low, n, &sets, k)
-}
-
-// The letter steps of the first `n` rows, into a graph that has nothing yet; their initial and their final states.
-pub(crate) fn put_letters(rows: [Slot; MOST_ROWS], n: usize, graph: &mut Masks) -> Endpoints
-    requires { n ≤ 256 }
-    ensures { graph.old ≡ replicate 448 0 →
-        LettersOfFirst rows n graph.new result.initials result.finals }
-{
-    let mut seen = Seen {
-        initials: 0,
-        finals: 0,
-        struck: 0,
-    };
-    let mut i = 0;
-    while i < n {
-        let slot = rows[i];
-        let row = slot.row;
-        seen = automaton::take_letter(graph, seen, row);
-        i += 1;
-    }
-    automaton::finish_letters(graph, seen)
+    words
 }
 
 impl Session {
@@ -89,47 +51,87 @@ impl Session {
     pub fn fresh() -> Session
         ensures { Fresh result }
     {
-        let row = Row::Initial(0);
-        let blank = Slot { row };
-        let rows = [blank; MOST_ROWS];
-        let sets = [0u64; MOST_SETS];
-        let loop_rounds = [0u8; MOST_SETS];
-        let mix_rounds = [0u8; MOST_SETS];
-        let phase = Phase::Open;
-        let marks = Marks::none();
         Session {
-            rows,
+            rows: [BLANK; MOST_ROWS],
             row_count: 0,
-            sets,
+            sets: [0; MOST_SETS],
             set_count: 0,
-            loop_rounds,
-            mix_rounds,
-            phase,
+            loop_rounds: [0; MOST_SETS],
+            mix_rounds: [0; MOST_SETS],
+            phase: Phase::Open,
             rounds: 0,
-            marks,
+            marks: Marks::none(),
         }
     }
 
     // The keys of the standing rows.
-    pub(crate) fn keys(self) -> Keys
-        requires { Ranged self }
-        ensures { Keyed (standing self) result.high result.low self.row_count }
+    pub(crate) fn keys(&self) -> RowKeys
+        requires { Ranged self.now }
+        ensures count { result.count ≡ self.now.row_count }
+        ensures keyed { Keyed (standing self.now) result.keys result.count }
     {
-        let rows = self.rows;
-        let mut high = [0u64; MOST_ROWS];
-        let mut low = [0u64; MOST_ROWS];
-        put_keys(rows, self.row_count, &mut high, &mut low);
-        Keys { high, low }
+        let mut keys = [Key { high: 0, low: 0 }; MOST_ROWS];
+        for i in 0..self.row_count {
+            keys[i] = self.rows[i].key();
+        }
+        RowKeys {
+            keys,
+            count: self.row_count,
+        }
     }
 
-    // The automaton of the standing rows.
-    pub(crate) fn automaton(self) -> Automaton
-        requires { Ranged self }
-        ensures reads { Reads self result }
-        ensures indexed { Indexed result.graph }
+    // Their sets.
+    pub(crate) fn row_sets(&self) -> RowSets
+        requires { Ranged self.now }
+        ensures sets { result.sets ≡ self.now.sets }
+        ensures count { result.count ≡ self.now.set_count }
     {
-        let rows = self.rows;
-        let sets = self.sets;
-        automaton_of(rows, self.row_count, sets, self.set_count)
+        RowSets {
+            sets: self.sets,
+            count: self.set_count,
+        }
+    }
+
+    // The session with another table.
+    pub(crate) fn with_table(self, keys: &RowKeys, sets: RowSets) -> Session
+        ensures { HoldsTable self keys.now sets result }
+    {
+        let rows = rows_of(keys);
+        let set_count = sets.count;
+        let sets = sets.sets;
+        Session {
+            rows,
+            row_count: keys.count,
+            sets,
+            set_count,
+            ..self
+        }
+    }
+
+    // The graph of the standing rows, into masks that have nothing yet; where its walks start and end.
+    pub(crate) fn fill(&self, masks: &mut Masks) -> Endpoints
+        requires { Ranged self.now }
+        ensures reads { masks.old ≡ replicate 448 0 →
+            Reads self.now (automaton_of masks.new result.initials result.finals) }
+        ensures indexed { masks.old ≡ replicate 448 0 → Indexed masks.new }
+    {
+        automaton::fill(masks, &self.keys(), &self.row_sets())
+    }
+
+    // The letter steps of the standing rows, into a graph that has nothing yet; their initial and their final states.
+    pub(crate) fn put_letters(&self, graph: &mut Masks) -> Endpoints
+        requires { Ranged self.now }
+        ensures { graph.old ≡ replicate 448 0 →
+            LettersOf self.now graph.new result.initials result.finals }
+    {
+        let mut seen = Seen {
+            initials: 0,
+            finals: 0,
+            struck: 0,
+        };
+        for row in &self.rows[..self.row_count] {
+            seen = automaton::take_letter(graph, seen, *row);
+        }
+        automaton::finish_letters(graph, seen)
     }
 }

@@ -4,8 +4,10 @@ ghost use Rattle.machine.specs.Calls.{verdict};
 ghost use Rattle.machine.specs.Marks.{on};
 ghost use Rattle.session.specs.Promise.{Ranged, Promised};
 
-use crate::{Reply, Session, State};
-use machine::{Answer, FOREIGN_RECORD};
+use crate::{Reply, Session};
+use machine::Success;
+use search::IndexedGraph;
+use search::graphs::MASKS;
 
 impl Session {
     // The verdict of the standing rows, by rising size; the session stays as it is.
@@ -13,23 +15,19 @@ impl Session {
         requires { Ranged self }
         ensures { Promised self (on verdict) [] [] result }
     {
-        let n = self.set_count;
-        let a = self.automaton();
-        let graph = a.graph;
-        let answer = Answer::Decided(rising::verdict(&graph, a.initials, a.finals, n));
-        Reply {
-            session: self,
-            answer,
-        }
+        let mut masks = [0u64; MASKS];
+        let ends = self.fill(&mut masks);
+        let graph = IndexedGraph::new(&masks);
+        self.answered(Ok(Success::Decided(rising::verdict(&graph, ends, self.set_count))))
     }
 
     // Verdict: that of the rounds, in any phase.
     pub fn verdict(self) -> Reply
         ensures { Promised self (on verdict) [] [] result }
     {
-        match self.state() {
-            State::Foreign => self.refuse(FOREIGN_RECORD),
-            State::Open | State::Running | State::Settled(_) => self.decide(),
+        match self.ranged() {
+            Ok(_) => self.decide(),
+            Err(cause) => self.refuse(cause),
         }
     }
 }

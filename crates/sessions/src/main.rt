@@ -9,12 +9,11 @@ use std::rt::{Env, Files};
 // Runs the script in the file that an argument names; of a file that cannot be read nothing is run.
 fn run_script(rt: &(impl Env + Files + Print), index: usize) {
     let mut path = [0u8; LONGEST_PATH];
-    let length = argument(rt, index, &mut path);
-    say(rt, &path[..length]);
+    let path = argument(rt, index, &mut path);
+    say(rt, path);
     say(rt, b"\n");
-    let file = open(rt, &path[..length]);
     let mut text = [0u8; LONGEST_BATCH];
-    let n = match file {
+    let n = match open(rt, path) {
         Ok(mut file) => read_full(&mut file, &mut text),
         Err(_) => 0,
     };
@@ -22,10 +21,7 @@ fn run_script(rt: &(impl Env + Files + Print), index: usize) {
 }
 
 fn main(rt: HostRuntime) {
-    let count = argument_count(&rt);
-    let mut index = 1;
-    while index < count {
+    for index in 1..argument_count(&rt) {
         run_script(&rt, index);
-        index += 1;
     }
 }

@@ -1,42 +1,91 @@
-// The lines of the sheet, each written at the front of a lent buffer, and how long each is.
+// The lines of the sheet and of a refusal, each written at the front of a lent buffer or from a place on, and how long each is.
 #![tactic(auto)]
 
-ghost use Rattle.std.specs.Prelude.{◌≡◌, ◌≤◌, length};
+ghost use Rattle.std.specs.Prelude.{◌≡◌, ◌≤◌, ◌++◌, length};
 ghost use Rattle.lists.specs.Writing.{Wrote};
-ghost use Rattle.machine.specs.Sheet.{verdict_text, label_text, verdict_line, opening_line, start_line, step_line};
-ghost use Rattle.machine.specs.Program.{refusal_line};
-ghost use Rattle.sheet_lines.specs.Lines.{one_line, two_line, claim_of, label_of, step_to};
+ghost use Rattle.machine.specs.Sheet.{line, verdict_text, label_text, step_line};
+ghost use Rattle.machine.specs.Labels.{label_of, step_from};
+ghost use Rattle.sheet_lines.specs.Lines.{line_text};
 
-use machine::Verdict;
-use texts::{Item, number_len, pair_at, text_at};
+use machine::{Claim, Step, StepLabel, Verdict};
+use texts::{Hex, Number, Text, Written, number_len};
 
-// What a step reads: a letter, or a limit at a set.
+// A line: a verdict and its count of rounds, what is opened in a round, where the walk starts, a step of it, a refusal and its place.
 #[derive(Clone, Copy)]
-pub enum StepLabel {
-    Letter(u8),
-    Omega(u64),
-    Back(u64),
-    Mix(u64),
+pub enum Line {
+    Verdict(Verdict, u64),
+    Opening(u64, Claim),
+    Start(u64),
+    Step(Step),
+    Refusal(u64, u64),
 }
 
 // Writes a line of one word.
-fn put_one(buf: &mut [u8], word: &[u8], item: Item) -> usize
-    requires { length (one_line word.now item) ≤ length buf.old }
-    ensures { Wrote (one_line word.now item) buf.old buf.new result }
+fn put_one<X: Written + Copy>(buf: &mut [u8], word: &[u8], x: X) -> usize
+    requires { length (line (word.now ++ X.text_of x)) ≤ length buf.old }
+    ensures { Wrote (line (word.now ++ X.text_of x)) buf.old buf.new result }
 {
-    let a = pair_at(buf, 0, word, item);
-    text_at(buf, a, b"\n")
+    ((Text(word), x), Text(b"\n")).put(buf)
 }
 
 // Writes a line of two words.
-fn put_two(buf: &mut [u8], first: &[u8], x: Item, second: &[u8], y: Item) -> usize
-    requires { length (two_line first.now x second.now y) ≤ length buf.old }
-    ensures { Wrote (two_line first.now x second.now y) buf.old
-        buf.new result }
+fn put_two<X: Written + Copy, Y: Written + Copy>(
+    buf: &mut [u8],
+    first: &[u8],
+    x: X,
+    second: &[u8],
+    y: Y,
+) -> usize
+    requires { length (line (first.now ++ (X.text_of x ++ (second.now ++ Y.text_of y)))) ≤ length buf.old }
+    ensures { Wrote (line (first.now ++ (X.text_of x ++ (second.now ++ Y.text_of y)))) buf.old buf.new result }
 {
-    let a = pair_at(buf, 0, first, x);
-    let b = pair_at(buf, a, second, y);
-    text_at(buf, b, b"\n")
+    ((Text(first), (x, (Text(second), y))), Text(b"\n")).put(buf)
+}
+
+// Writes the line of a step.
+fn put_step(buf: &mut [u8], step: Step) -> usize
+    requires { length (step_line (step_from 0 step)) ≤ length buf.old }
+    ensures { Wrote (step_line (step_from 0 step)) buf.old buf.new result }
+{
+    let to = Number(step.to as u64);
+    match step.label {
+        StepLabel::Letter(a) => put_two(buf, b"step letter ", Number(a as u64), b" to ", to),
+        StepLabel::Omega(set) => put_two(buf, b"step omega ", Hex(set), b" to ", to),
+        StepLabel::Back(set) => put_two(buf, b"step back ", Hex(set), b" to ", to),
+        StepLabel::Mix(set) => put_two(buf, b"step mix ", Hex(set), b" to ", to),
+    }
+}
+
+impl Written for Line {
+    ghost text_of = { line_text };
+
+    fn put(&self, buf: &mut [u8]) -> usize {
+        match *self {
+            Line::Verdict(Verdict::NonEmpty, k) => put_one(
+                buf,
+                b"verdict nonempty rounds ",
+                Number(k),
+            ),
+            Line::Verdict(Verdict::Empty, k) => put_one(buf, b"verdict empty rounds ", Number(k)),
+            Line::Opening(k, Claim::Loops(set)) => put_two(
+                buf,
+                b"open ",
+                Number(k),
+                b" loop ",
+                Hex(set),
+            ),
+            Line::Opening(k, Claim::Mixes(set)) => put_two(
+                buf,
+                b"open ",
+                Number(k),
+                b" mix ",
+                Hex(set),
+            ),
+            Line::Start(s) => put_one(buf, b"start ", Number(s)),
+            Line::Step(step) => put_step(buf, step),
+            Line::Refusal(n, place) => put_two(buf, b"refused ", Number(n), b" at ", Number(place)),
+        }
+    }
 }
 
 // How long the word of a verdict is.
@@ -47,66 +96,6 @@ fn verdict_len(v: Verdict) -> usize
         Verdict::NonEmpty => b"nonempty".len(),
         Verdict::Empty => b"empty".len(),
     }
-}
-
-// How long the line `verdict nonempty rounds K` or `verdict empty rounds K` is.
-pub fn verdict_line_len(v: Verdict, k: u64) -> usize
-    ensures { result ≡ length (verdict_line v k) }
-{
-    b"verdict  rounds \n".len() + verdict_len(v) + number_len(k)
-}
-
-// Writes the line of a verdict.
-pub fn put_verdict_line(buf: &mut [u8], v: Verdict, k: u64) -> usize
-    requires { length (verdict_line v k) ≤ length buf.old }
-    ensures { Wrote (verdict_line v k) buf.old buf.new result }
-{
-    match v {
-        Verdict::NonEmpty => put_one(buf, b"verdict nonempty rounds ", Item::Number(k)),
-        Verdict::Empty => put_one(buf, b"verdict empty rounds ", Item::Number(k)),
-    }
-}
-
-// How long the line `open K loop SET` or `open K mix SET` is.
-pub fn opening_line_len(round: u64, mixes: bool, set: u64) -> usize
-    ensures { result ≡ length (opening_line (record { round = round; claim = claim_of mixes set })) }
-{
-    let digits = number_len(round) + 16;
-    if mixes {
-        b"open  mix \n".len() + digits
-    } else {
-        b"open  loop \n".len() + digits
-    }
-}
-
-// Writes the line of an opening.
-pub fn put_opening_line(buf: &mut [u8], round: u64, mixes: bool, set: u64) -> usize
-    requires { length (opening_line (record { round = round; claim = claim_of mixes set })) ≤ length buf.old }
-    ensures { Wrote (opening_line (record { round = round; claim = claim_of mixes set })) buf.old
-        buf.new result }
-{
-    let x = Item::Number(round);
-    let y = Item::Set(set);
-    if mixes {
-        put_two(buf, b"open ", x, b" mix ", y)
-    } else {
-        put_two(buf, b"open ", x, b" loop ", y)
-    }
-}
-
-// How long the line `start S` is.
-pub fn start_line_len(s: u64) -> usize
-    ensures { result ≡ length (start_line s) }
-{
-    b"start \n".len() + number_len(s)
-}
-
-// Writes the line of the state where the walk starts.
-pub fn put_start_line(buf: &mut [u8], s: u64) -> usize
-    requires { length (start_line s) ≤ length buf.old }
-    ensures { Wrote (start_line s) buf.old buf.new result }
-{
-    put_one(buf, b"start ", Item::Number(s))
 }
 
 // How long a label's word and its letter or set are.
@@ -121,32 +110,19 @@ fn label_len(label: StepLabel) -> usize
     }
 }
 
-// How long the line `step letter L to S`, or with `omega SET`, `back SET` or `mix SET`, is.
-pub fn step_line_len(label: StepLabel, to: u64) -> usize
-    ensures { result ≡ length (step_line (step_to label to)) }
-{
-    b"step  to \n".len() + label_len(label) + number_len(to)
-}
-
-// Writes the line of a step.
-pub fn put_step_line(buf: &mut [u8], label: StepLabel, to: u64) -> usize
-    requires { length (step_line (step_to label to)) ≤ length buf.old }
-    ensures { Wrote (step_line (step_to label to)) buf.old buf.new result }
-{
-    let end = Item::Number(to);
-    match label {
-        StepLabel::Letter(a) => put_two(buf, b"step letter ", Item::Number(a as u64), b" to ", end),
-        StepLabel::Omega(set) => put_two(buf, b"step omega ", Item::Set(set), b" to ", end),
-        StepLabel::Back(set) => put_two(buf, b"step back ", Item::Set(set), b" to ", end),
-        StepLabel::Mix(set) => put_two(buf, b"step mix ", Item::Set(set), b" to ", end),
+impl Line {
+    pub fn len(&self) -> usize
+        ensures { result ≡ length (line_text self.now) }
+    {
+        match *self {
+            Line::Verdict(v, k) => b"verdict  rounds \n".len() + verdict_len(v) + number_len(k),
+            Line::Opening(k, Claim::Loops(_)) => b"open  loop \n".len() + number_len(k) + 16,
+            Line::Opening(k, Claim::Mixes(_)) => b"open  mix \n".len() + number_len(k) + 16,
+            Line::Start(s) => b"start \n".len() + number_len(s),
+            Line::Step(step) => b"step  to \n".len()
+                + label_len(step.label)
+                + number_len(step.to as u64),
+            Line::Refusal(n, place) => b"refused  at \n".len() + number_len(n) + number_len(place),
+        }
     }
-}
-
-// Writes the line of a refusal.
-pub fn put_refusal_line(buf: &mut [u8], n: u64, place: u64) -> usize
-    requires { length (refusal_line n place) ≤ length buf.old }
-    ensures { Wrote (refusal_line n place) buf.old buf.new result }
-{
-    let x = Item::Number(n);
-    put_two(buf, b"refused ", x, b" at ", Item::Number(place))
 }

@@ -3,4 +3,5 @@ pub mod Upto
 pub mod Lines
 pub mod ByRound
 pub mod Openings
-pub mod Sheet
+pub mod Walks
+pub mod Items

@@ -1,3 +1,2 @@
 -- Texts as the writers make them.
 pub mod Digits
-pub mod Items

@@ -1,30 +1,91 @@
 // Texts, numbers and sets, each written at the front of a lent buffer or from a place on.
 #![tactic(auto)]
 
-ghost use Rattle.std.specs.Prelude.{◌≡◌, ◌+◌, ◌≤◌, ◌<◌, ◌++◌, length};
+ghost use Rattle.std.specs.Prelude.{◌≡◌, ◌+◌, ◌≤◌, ◌<◌, ◌++◌, ℕ, List, length};
 ghost use Rattle.lists.specs.Writing.{Wrote, WroteAt};
+ghost use Rattle.rows.specs.Rows.{row_bytes};
 ghost use Rattle.machine.specs.Text.{digit, set_text, number_text};
 ghost use Rattle.texts.specs.Digits.{low_digits, last_digits, in_turn};
-ghost use Rattle.texts.specs.Items.{item_text};
 
-// What stands after a word.
-#[derive(Clone, Copy)]
-pub enum Item {
-    Number(u64),
-    Set(u64),
+use rows::Row;
+
+// What has a text, which is written at the front of a lent buffer, or from a place on.
+pub trait Written {
+    ghost text_of: { Self → List ℕ };
+
+    fn put(&self, buf: &mut [u8]) -> usize
+        requires { length (text_of self.now) ≤ length buf.old }
+        ensures { Wrote (text_of self.now) buf.old buf.new result };
+
+    // Into the unwritten rest of the buffer. Returns the next place.
+    final fn put_at(&self, buf: &mut [u8], at: usize) -> usize
+        requires { at + length (text_of self.now) ≤ length buf.old }
+        ensures { WroteAt (text_of self.now) buf.old buf.new at result }
+    {
+        at + self.put(&mut buf[at..])
+    }
 }
 
-// Writes a text.
-pub fn put_text(buf: &mut [u8], text: &[u8]) -> usize
-    requires { length text.now ≤ length buf.old }
-    ensures { Wrote text.now buf.old buf.new result }
-{
-    let mut i = 0;
-    while i < text.len() {
-        buf[i] = text[i];
-        i += 1;
+// A text as it is.
+#[derive(Clone, Copy)]
+pub struct Text<'a>(pub &'a [u8]);
+
+impl<'a> Written for Text<'a> {
+    ghost text_of = { λ text. text.0.now };
+
+    fn put(&self, buf: &mut [u8]) -> usize {
+        buf[..self.0.len()].copy_from_slice(self.0);
+        self.0.len()
     }
-    i
+}
+
+// A number with no leading zeros. Most have one digit or two: they are written without a loop.
+#[derive(Clone, Copy)]
+pub struct Number(pub u64);
+
+impl Written for Number {
+    ghost text_of = { λ n. number_text n.0 };
+
+    fn put(&self, buf: &mut [u8]) -> usize {
+        if self.0 < 10 {
+            return put_one(buf, self.0);
+        }
+        if self.0 < 100 {
+            return put_two(buf, self.0);
+        }
+        put_digits(buf, number_len(self.0), self.0)
+    }
+}
+
+// A set, as 16 hexadecimal digits: each byte of it has two.
+#[derive(Clone, Copy)]
+pub struct Hex(pub u64);
+
+impl Written for Hex {
+    ghost text_of = { λ set. set_text set.0 };
+
+    fn put(&self, buf: &mut [u8]) -> usize {
+        put_in_turn(buf, last_digits(self.0 / 16), last_digits(self.0))
+    }
+}
+
+// One after the other.
+impl<A: Written, B: Written> Written for (A, B) {
+    ghost text_of = { λ p. A.text_of p.0 ++ B.text_of p.1 };
+
+    fn put(&self, buf: &mut [u8]) -> usize {
+        let next = self.0.put(buf);
+        self.1.put_at(buf, next)
+    }
+}
+
+// A row, as its bytes.
+impl Written for Row {
+    ghost text_of = { row_bytes };
+
+    fn put(&self, buf: &mut [u8]) -> usize {
+        self.write(buf)
+    }
 }
 
 // The byte of a decimal digit.
@@ -40,10 +101,8 @@ fn put_digits(buf: &mut [u8], count: usize, n: u64) -> usize
     requires { count ≤ length buf.old }
     ensures { Wrote (low_digits count n) buf.old buf.new result }
 {
-    let mut i = count;
     let mut v = n;
-    while 0 < i {
-        i -= 1;
+    for i in (0..count).rev() {
         buf[i] = digit_byte((v % 10) as u8);
         v = v / 10;
     }
@@ -57,6 +116,7 @@ pub fn number_len(n: u64) -> usize
 {
     let mut v = n;
     let mut k = 1;
+    // The tenths come to their end: no range counts them.
     while 10 <= v {
         v = v / 10;
         k += 1;
@@ -83,20 +143,6 @@ fn put_two(buf: &mut [u8], n: u64) -> usize
     2
 }
 
-// Writes a number with no leading zeros. Most have one digit or two: they are written without a loop.
-pub fn put_number(buf: &mut [u8], n: u64) -> usize
-    requires { length (number_text n) ≤ length buf.old }
-    ensures { Wrote (number_text n) buf.old buf.new result }
-{
-    if n < 10 {
-        return put_one(buf, n);
-    }
-    if n < 100 {
-        return put_two(buf, n);
-    }
-    put_digits(buf, number_len(n), n)
-}
-
 // The last hex digits of the eight bytes of a word, all at once: 0 to 9, a to f. Below 10 a digit and 6 stay below 16.
 fn last_digits(x: u64) -> u64
     ensures { result ≡ last_digits 8 x }
@@ -111,59 +157,13 @@ fn put_in_turn(buf: &mut [u8], first: u64, second: u64) -> usize
     requires { 16 ≤ length buf.old }
     ensures { Wrote (in_turn 8 first second) buf.old buf.new result }
 {
-    let mut i = 8;
     let mut a = first;
     let mut b = second;
-    while 0 < i {
-        i -= 1;
+    for i in (0..8).rev() {
         buf[2 * i + 1] = (b % 256) as u8;
         buf[2 * i] = (a % 256) as u8;
         a = a / 256;
         b = b / 256;
     }
     16
-}
-
-// Writes a set as 16 hex digits: each byte of it has two.
-pub fn put_set(buf: &mut [u8], set: u64) -> usize
-    requires { 16 ≤ length buf.old }
-    ensures { Wrote (set_text set) buf.old buf.new result }
-{
-    put_in_turn(buf, last_digits(set / 16), last_digits(set))
-}
-
-// Writes a number or a set.
-fn put_item(buf: &mut [u8], item: Item) -> usize
-    requires { length (item_text item) ≤ length buf.old }
-    ensures { Wrote (item_text item) buf.old buf.new result }
-{
-    match item {
-        Item::Number(n) => put_number(buf, n),
-        Item::Set(set) => put_set(buf, set),
-    }
-}
-
-// Writes a text from `at` on, and returns the next place.
-pub fn text_at(buf: &mut [u8], at: usize, text: &[u8]) -> usize
-    requires { at + length text.now ≤ length buf.old }
-    ensures { WroteAt text.now buf.old buf.new at result }
-{
-    at + put_text(&mut buf[at..], text)
-}
-
-// Writes a number or a set from `at` on, and returns the next place.
-pub fn item_at(buf: &mut [u8], at: usize, item: Item) -> usize
-    requires { at + length (item_text item) ≤ length buf.old }
-    ensures { WroteAt (item_text item) buf.old buf.new at result }
-{
-    at + put_item(&mut buf[at..], item)
-}
-
-// Writes a word and what stands after it from `at` on, and returns the next place.
-pub fn pair_at(buf: &mut [u8], at: usize, word: &[u8], item: Item) -> usize
-    requires { at + (length word.now + length (item_text item)) ≤ length buf.old }
-    ensures { WroteAt (word.now ++ item_text item) buf.old buf.new at result }
-{
-    let a = text_at(buf, at, word);
-    item_at(buf, a, item)
 }

@@ -2,7 +2,7 @@
 -- (`comes_none`); and the legs of a frame are legs to come (`begins_whole`, `begins_tour`, `begins_pieces`).
 use Prim.Native.Nat.{ℕ, ◌^◌, ◌≤◌, ◌<◌}
 use mathlib.Core.Path.{◌≡◌, refl, ap, sym, subst, ◌∙◌}
-use mathlib.Core.Bool.{true, false, not, ◌&&◌, true≢false}
+use mathlib.Core.Bool.{not, ◌&&◌}
 use mathlib.Core.Logic.{⊎_elim, ◌↔◌}
 use mathlib.Core.List.{List, [], ◌∷◌, ◌++◌, map, append-nil}
 use native.Mathlib.Omega.{arith}
@@ -18,14 +18,15 @@ use Rattle.machine.specs.Expression.{walk_in}
 use Rattle.search.specs.Graph.{Graph}
 use Rattle.walks.specs.Choices.{Way, SetsRise}
 use Rattle.walks.specs.Walks.{Descends}
-use Rattle.tours.specs.declared.Shape.{Shape}
-use Rattle.tours.specs.declared.Shape.TheVariants.{Whole, Tour, Pieces}
-use Rattle.tours.specs.declared.Frame.{Frame}
-use Rattle.tours.specs.declared.Cursor.{Cursor}
-use Rattle.tours.specs.declared.legs.Leg.{Leg}
+use Rattle.tours.specs.declared.frames.Shape.{Shape}
+use Rattle.tours.specs.declared.frames.Shape.TheVariants.{Whole, Tour, Pieces}
+use Rattle.tours.specs.declared.frames.Frame.{Frame}
+use Rattle.tours.specs.declared.frames.Cursor.{Cursor}
+use Rattle.walks.specs.declared.found.Leg.{Leg}
 use Rattle.tours.specs.Frames.{About, Framed, LaysLeg, legs, neighbour, piece_of, hops}
 use Rattle.tours.specs.Parts.{leg_parts, parts_of, separator}
 use Rattle.tours.specs.Cursors.{Within, legs_left, Stands, Begins}
+use Rattle.std.specs.Prelude.{Option, None, Some}
 use Rattle.tours.specs.Coming.{leg_of, LegWithin, LaysLegOf, legs_from, Coming, Comes}
 
 -- ---- the legs of states
@@ -58,9 +59,9 @@ left_coming Pieces P c w = w
 pub lays_of : (back : Graph) (f : Frame) (a s : ℕ) (layers : List ℕ) (r : Leg) (shape : Shape) → f.shape ≡ shape
     → (LegWithin shape f.set a s → LaysLeg back shape f.set f.starts f.ends f.force (λ m. leg_of m shape f.set a s) layers r)
     → LaysLegOf back f a s layers r
-lays_of back f a s layers r shape e lays m g words heads links n k held framed within =
+lays_of back f a s layers r shape e lays m g words n k held framed within =
     subst (λ (x : Shape). Descends (Way words n back f.force) (SetsRise back f.force) layers r.start r.steps (leg_of m x f.set a s)) (sym e)
-    (lays (subst (λ (x : Shape). LegWithin x f.set a s) e within) m g words heads links n k held (subst (λ (x : Shape). Framed m g k x f.set f.starts f.ends f.force) e framed))
+    (lays (subst (λ (x : Shape). LegWithin x f.set a s) e within) m g words n k held (subst (λ (x : Shape). Framed m g k x f.set f.starts f.ends f.force) e framed))
 
 -- ---- at the leg of the lowest state
 
@@ -78,18 +79,18 @@ module _ (P a rest later low rest' : ℕ) (t : TakesLowest rest low rest') (fits
   left_within (Tour q) c e g i h = rw (e, g, i) (h.1 low t.is, fewer_part h.1, h.2)
   left_within Pieces c e g i h = rw (g, i) (fewer_part h.0, h.1)
 
-module _ (back : Graph) (f : Frame) (layers : List ℕ) (c a rest later : ℕ) where
-  pub comes_lead : (low rest' : ℕ) (leg : Leg) → TakesLowest rest low rest' → rest' < 2 ^ 64 → LaysLegOf back f a low layers leg
-      → Comes back f c a rest later layers (record { live = true; before = c; state = leg.start; steps = leg.steps; stop = low; rest = rest'; later = later })
-  comes_lead low rest' leg t fits lays m g words heads links n k held framed coming = record {
-    ended = λ e. absurd (true≢false e);
-    within = λ e. is_within;
-    live = λ e. (
+module _ (back : Graph) (f : Frame) (layers : List ℕ) (c : Option ℕ) (a rest later : ℕ) where
+  pub comes_lead : (low rest' : ℕ) (leg : Leg) (here : Cursor) → (here.before ≡ c) × (here.state ≡ leg.start) × (here.steps ≡ leg.steps) × (here.stop ≡ low) × (here.rest ≡ rest') × (here.later ≡ later)
+      → TakesLowest rest low rest' → rest' < 2 ^ 64 → LaysLegOf back f a low layers leg → Comes back f c a rest later layers (Some here)
+  comes_lead low rest' leg here (is_before, is_state, is_steps, is_stop, is_rest, is_later) t fits lays m g words n k held framed coming = record {
+    within = is_within;
+    walk = (
       leg_of m shape P a low,
-      lays m g words heads links n k held framed (leg_within P a rest later low rest' t fits shape coming),
+      rw (is_state, is_steps) (lays m g words n k held framed (leg_within P a rest later low rest' t fits shape coming)),
       ap (λ (l : List ℕ). parts_of c sep (legs_from m shape P a (l ++ members later))) (members_take rest low rest' t)
           ∙ ap (parts_of c sep) (legs_cons m shape P a low (members rest' ++ members later))
-          ∙ ap (λ (l : List Walk). leg_parts c (leg_of m shape P a low) ++ parts_of sep sep l) (sym (left_is m shape P here is_within)),
+          ∙ ap (λ (l : List Walk). leg_parts c (leg_of m shape P a low) ++ parts_of (Some sep) sep l) (sym left_here)
+          ∙ ap (λ (b : Option ℕ). leg_parts b (leg_of m shape P a low) ++ parts_of (Some sep) sep (legs_left m shape P here)) (sym is_before),
     );
   }
     where
@@ -102,11 +103,11 @@ module _ (back : Graph) (f : Frame) (layers : List ℕ) (c a rest later : ℕ) w
       sep : ℕ
       sep = separator shape
 
-      here : Cursor
-      here = record { live = true; before = c; state = leg.start; steps = leg.steps; stop = low; rest = rest'; later = later }
-
       is_within : Within shape P here
-      is_within = left_within P a rest later low rest' t fits shape here refl refl refl coming
+      is_within = left_within P a rest later low rest' t fits shape here is_stop is_rest is_later coming
+
+      left_here : legs_left m shape P here ≡ legs_from m shape P low (members rest' ++ members later)
+      left_here = left_is m shape P here is_within ∙ rw (is_stop, is_rest, is_later) refl
 
 -- ---- at the legs of the second set
 
@@ -115,19 +116,16 @@ later_coming Whole P a rest later h = (omega (arith, h.1), refl)
 later_coming (Tour q) P a rest later h = (h.0, h.2, λ s k. absurd (in_none s k))
 later_coming Pieces P a rest later h = (h.1, λ s k. absurd (in_none s k))
 
-module _ (back : Graph) (f : Frame) (layers : List ℕ) (c a rest later : ℕ) (r : Cursor) where
-  pub comes_later : rest ≡ 0 → Comes back f c a later 0 layers r → Comes back f c a rest later layers r
-  comes_later e comes m g words heads links n k held framed coming =
+module _ (back : Graph) (f : Frame) (layers : List ℕ) (c : Option ℕ) (a rest later : ℕ) where
+  pub comes_later : (r : Option Cursor) → rest ≡ 0 → Comes back f c a later 0 layers r → Comes back f c a rest later layers r
+  comes_later r e comes m g words n k held framed coming =
       subst (λ (l : List ℕ). Stands m words n back f layers r (parts_of c (separator f.shape) (legs_from m f.shape f.set a l)))
-      (rw (e, members_none) (append-nil (members later))) (comes m g words heads links n k held framed (later_coming f.shape f.set a rest later coming))
+      (rw (e, members_none) (append-nil (members later))) (comes m g words n k held framed (later_coming f.shape f.set a rest later coming))
 
   -- none is left
-  pub comes_none : rest ≡ 0 → later ≡ 0 → r.live ≡ false → Comes back f c a rest later layers r
-  comes_none e i dead m g words heads links n k held framed coming = record {
-    ended = λ _. ap (parts_of c (separator f.shape)) (ap (legs_from m f.shape f.set a) (members_nones e i) ∙ legs_nil m f.shape f.set a);
-    within = λ alive. absurd (true≢false (sym alive ∙ dead));
-    live = λ alive. absurd (true≢false (sym alive ∙ dead));
-  }
+  pub comes_none : rest ≡ 0 → later ≡ 0 → Comes back f c a rest later layers None
+  comes_none e i m g words n k held framed coming =
+      ap (parts_of c (separator f.shape)) (ap (legs_from m f.shape f.set a) (members_nones e i) ∙ legs_nil m f.shape f.set a)
 
 -- ---- the legs of a frame
 
@@ -161,19 +159,19 @@ module _ (P q higher others : ℕ) (above : (t : ℕ) → (t ∈ higher) ↔ ((t
   starts_tour : (m : Machine) → q ∈ P → Starts m (Tour q) P q higher others
   starts_tour m h = ((h, (λ t i. ((above t).0 i).0), λ t i. ((others_are t).0 i).0), ap (hops (λ a b. neighbour P a b m)) (trip_is h))
 
-module _ (back : Graph) (f : Frame) (layers : List ℕ) (r : Cursor) where
+module _ (back : Graph) (f : Frame) (layers : List ℕ) (r : Option Cursor) where
   begins_from : (shape : Shape) (a rest later : ℕ) → f.shape ≡ shape → ((m : Machine) → About m shape f.set f.starts f.ends → Starts m shape f.set a rest later)
-      → Comes back f 0 a rest later layers r → Begins back f layers r
-  begins_from shape a rest later e starts comes m g words heads links n k held framed =
+      → Comes back f None a rest later layers r → Begins back f layers r
+  begins_from shape a rest later e starts comes m g words n k held framed =
       let s = subst (λ (x : Shape). Starts m x f.set a rest later) (sym e) (starts m (subst (λ (x : Shape). About m x f.set f.starts f.ends) e framed.about)) in
-      subst (λ (l : List Walk). Stands m words n back f layers r (parts_of 0 (separator f.shape) l)) (sym s.1) (comes m g words heads links n k held framed s.0)
+      subst (λ (l : List Walk). Stands m words n back f layers r (parts_of None (separator f.shape) l)) (sym s.1) (comes m g words n k held framed s.0)
 
-  pub begins_whole : f.shape ≡ Whole → Comes back f 0 0 1 0 layers r → Begins back f layers r
+  pub begins_whole : f.shape ≡ Whole → Comes back f None 0 1 0 layers r → Begins back f layers r
   begins_whole e = begins_from Whole 0 1 0 e (λ m about. starts_whole m f.set)
 
-  pub begins_pieces : f.shape ≡ Pieces → Comes back f 0 0 f.set 0 layers r → Begins back f layers r
+  pub begins_pieces : f.shape ≡ Pieces → Comes back f None 0 f.set 0 layers r → Begins back f layers r
   begins_pieces e = begins_from Pieces 0 f.set 0 e (λ m about. starts_pieces m f.set)
 
   pub begins_tour : (q higher others : ℕ) → f.shape ≡ Tour q → ((t : ℕ) → (t ∈ higher) ↔ ((t ∈ f.set) × (q < t)))
-      → ((t : ℕ) → member t others ≡ (member t f.set && not (member t higher))) → Comes back f 0 q higher others layers r → Begins back f layers r
+      → ((t : ℕ) → member t others ≡ (member t f.set && not (member t higher))) → Comes back f None q higher others layers r → Begins back f layers r
   begins_tour q higher others e above is = begins_from (Tour q) q higher others e (λ m about. starts_tour f.set q higher others above is m about.0)

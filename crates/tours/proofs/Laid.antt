@@ -1,6 +1,6 @@
--- A leg that is laid: on any arrays it fits them (`one_small`, `zero_small`, `small_low`); of every machine that the arrays hold it is the first of the
+-- A leg that is laid: on any arrays it fits them (`one_few`, `zero_few`); of every machine that the arrays hold it is the first of the
 -- shortest walks, and goes down its layers (`one_lies`, `zero_lies`), the sheet's walk (`whole_down`) and the walks of a tour (`between_down`).
-use Prim.Native.Nat.{ℕ, ◌-◌, ◌≤◌, ◌<◌}
+use Prim.Native.Nat.{ℕ, ◌-◌, ◌≤◌}
 use mathlib.Core.Path.{◌≡◌, refl, sym, subst, ◌∙◌}
 use mathlib.Core.Bool.{◌||◌}
 use mathlib.Core.Logic.{◌⊎◌, inl, inr, ⊎_elim}
@@ -12,7 +12,7 @@ use lib.ListN.{length, take, drop, length-append, length-drop, drop_of_length-le
 use lib.Seq.{length-take-le, drop_at, get_or-take}
 use Rattle.lists.specs.Tests.{◌among◌}
 use Rattle.masks.specs.Mask.{member, ◌∈◌}
-use Rattle.masks.proofs.Member.{member_lt, with_same, with_none}
+use Rattle.masks.proofs.Member.{with_same, with_none}
 use Rattle.orderings.specs.Steps.{Claim, loops, set_of, Walk, Leads}
 use Rattle.orderings.specs.Timelines.{timelines}
 use Rattle.orderings.proofs.Walks.{allowed_more}
@@ -41,10 +41,10 @@ use Rattle.walks.specs.Walks.{Courses, Descends}
 use Rattle.walks.proofs.Standing.{Free, sets_rise_in}
 use Rattle.walks.proofs.Courses.{lay_none, lay_foremost}
 use Rattle.walks.proofs.Answers.{to_leading, leading_best, final_free}
-use Rattle.tours.specs.declared.Shape.{Shape}
-use Rattle.tours.specs.declared.Shape.TheVariants.{Whole, Tour}
-use Rattle.tours.specs.declared.legs.Leg.{Leg}
-use Rattle.tours.specs.Frames.{Held, Framed, claims_for, neighbour, LowLeg}
+use Rattle.tours.specs.declared.frames.Shape.{Shape}
+use Rattle.tours.specs.declared.frames.Shape.TheVariants.{Whole, Tour}
+use Rattle.walks.specs.declared.found.Leg.{Leg}
+use Rattle.tours.specs.Frames.{Held, Framed, claims_for, neighbour}
 use Rattle.tours.specs.Laid.{KeptBelow, OneOrMore, ZeroOrMore}
 
 -- ---- any arrays
@@ -64,33 +64,26 @@ kept_part old part at h e =
       drop_at (take at old) part at front,
     )
 
--- a state, and few steps
-abbrev pub Small : Leg → Type 0
-Small r = (r.start < 64) × (r.steps ≤ 64)
-
 module _ (E : ℕ → ℕ → Type 0) (starts ends : ℕ) (layers : List ℕ) (r : Leg) where
-  -- a leg that is laid is from a state, and of few steps
-  pub one_small : (s : ℕ) → s < 64 → OneOrMore E starts ends s layers r → Small r
-  one_small s h o = ⊎_elim (λ l. (member_lt r.start starts l.begins, l.few)) (λ n. (omega (arith, n.0), omega (arith, n.1))) o
+  -- a leg that is laid is of few steps
+  pub one_few : (s : ℕ) → OneOrMore E starts ends s layers r → r.steps ≤ 64
+  one_few s o = ⊎_elim (λ l. l.few) (λ n. omega (arith, n.1)) o
 
-  pub zero_small : ZeroOrMore E starts ends layers r → Small r
-  zero_small o = ⊎_elim (λ z. (member_lt r.start starts z.1, omega (arith, z.0))) (λ n. one_small 0 (omega arith) n.1) o
-
--- such a leg fits its layers
-pub small_low : (r : Leg) → Small r → LowLeg r
-small_low r h = record { low = h.0; few = omega (arith, h.1) }
-
--- ---- arrays that hold a machine
+  pub zero_few : ZeroOrMore E starts ends layers r → r.steps ≤ 64
+  zero_few o = ⊎_elim (λ z. omega (arith, z.0)) (λ n. one_few 0 n.1) o
 
 -- the walk goes down the layers of the leg, by the first step into each
+abbrev pub DownFrom : List ℕ → ℕ → Graph → Claims → List ℕ → ℕ → ℕ → Walk → Type 0
+DownFrom words n back force layers start steps w = Descends (Way words n back force) (SetsRise back force) layers start steps w
+
 abbrev pub Down : List ℕ → ℕ → Graph → Claims → List ℕ → Leg → Walk → Type 0
-Down words n back force layers r w = Descends (Way words n back force) (SetsRise back force) layers r.start r.steps w
+Down words n back force layers r w = DownFrom words n back force layers r.start r.steps w
 
 -- the first of the shortest is one: what goes down is the walk that was asked for
 pub down_same : (D : Walk → Type 0) (C : Found → Type 0) → ((f : Found) → C f → (b : ℕ) × Leads f.start f.walk b) → (f g : Found) → Foremost C f → Foremost C g → D f.walk → D g.walk
 down_same D C leads f g b d h = subst (λ (x : Found). D x.walk) (foremost_unique C leads f g b d) h
 
-module _ {m : Machine} {g back : Graph} {words heads links : List ℕ} {n k : ℕ} (held : Held m g words heads links n back k)
+module _ {m : Machine} {g back : Graph} {words : List ℕ} {n k : ℕ} (held : Held m g words n back k)
     {shape : Shape} {P starts ends : ℕ} {force : Claims} (framed : Framed m g k shape P starts ends force) where
   abbrev claims : List Claim
   claims = claims_for m shape P
@@ -143,7 +136,7 @@ module _ {m : Machine} {g back : Graph} {words heads links : List ℕ} {n k : �
 
 -- ---- the sheet's walk
 
-module _ {m : Machine} {g back : Graph} {words heads links : List ℕ} {n k : ℕ} (held : Held m g words heads links n back k)
+module _ {m : Machine} {g back : Graph} {words : List ℕ} {n k : ℕ} (held : Held m g words n back k)
     {P starts ends : ℕ} {force : Claims} (framed : Framed m g k Whole P starts ends force) where
   abbrev about : (P ≡ all_mask) × Initials m.rows starts × Finals m.rows ends × (m.phase ≡ Settled NonEmpty)
   about = framed.about
@@ -177,7 +170,7 @@ module _ {m : Machine} {g back : Graph} {words heads links : List ℕ} {n k : �
 
 -- ---- a set that loops
 
-module _ {m : Machine} {g back : Graph} {words heads links : List ℕ} {n k : ℕ} (held : Held m g words heads links n back k)
+module _ {m : Machine} {g back : Graph} {words : List ℕ} {n k : ℕ} (held : Held m g words n back k)
     {q P starts ends : ℕ} {force : Claims} (framed : Framed m g k (Tour q) P starts ends force) where
   abbrev ground : Grounded m.rows m.openings
   ground = grounded m held.formed

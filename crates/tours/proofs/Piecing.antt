@@ -30,17 +30,13 @@ use Rattle.walks.specs.Choices.{Way, SetsRise}
 use Rattle.walks.specs.Walks.{Descends}
 use Rattle.walks.proofs.Standing.{Free}
 use Rattle.walks.proofs.Descending.{descends_append, descends_same}
-use Rattle.tours.specs.declared.Shape.TheVariants.{Pieces}
-use Rattle.tours.specs.declared.legs.Leg.{Leg}
+use Rattle.tours.specs.declared.frames.Shape.TheVariants.{Pieces}
+use Rattle.walks.specs.declared.found.Leg.{Leg}
 use Rattle.tours.specs.Frames.{Held, Framed, piece_of}
 use Rattle.tours.specs.Laid.{KeptBelow, OneOrMore, ZeroOrMore, ComesFirst}
-use Rattle.tours.proofs.Laid.{Down, down_same, Ways, Goes, Lies, Laid, one_lies, zero_lies, open_free}
+use Rattle.tours.proofs.Laid.{DownFrom, Down, down_same, Ways, Goes, Lies, Laid, one_lies, zero_lies, open_free}
 
--- the two legs as one
-abbrev pub as_one : Leg → Leg → Leg
-as_one to on = record { start = to.start; steps = to.steps + on.steps }
-
-module _ {m : Machine} {g back : Graph} {words heads links : List ℕ} {n k : ℕ} (held : Held m g words heads links n back k)
+module _ {m : Machine} {g back : Graph} {words : List ℕ} {n k : ℕ} (held : Held m g words n back k)
     {P starts ends : ℕ} {force : Claims} (framed : Framed m g k Pieces P starts ends force) (s : ℕ) (here : s ∈ P) where
   abbrev ground : Grounded m.rows m.openings
   ground = grounded m held.formed
@@ -79,15 +75,16 @@ module _ {m : Machine} {g back : Graph} {words heads links : List ℕ} {n k : �
   the_piece = piece_for m.rows m.openings ground P framed.about.0 s here
 
   -- the first of the shortest is the piece
-  is_piece : (layers : List ℕ) (r : Leg) (w : Walk) → Foremost Pass (found r.start w) → Down words n back force layers r w → Down words n back force layers r (piece_of P s m)
-  is_piece layers r w h d = by the_piece
+  is_piece : (layers : List ℕ) (start steps : ℕ) (w : Walk) → Foremost Pass (found start w) → DownFrom words n back force layers start steps w
+      → DownFrom words n back force layers start steps (piece_of P s m)
+  is_piece layers start steps w h d = by the_piece
     where
-      first : Foremost (PieceBy m.rows m.openings P s) (found r.start w)
-      first = foremost_of (found r.start w) to_piece of_piece h
+      first : Foremost (PieceBy m.rows m.openings P s) (found start w)
+      first = foremost_of (found start w) to_piece of_piece h
 
-      by : PieceFor m.rows m.openings P s (piece_of P s m) → Down words n back force layers r (piece_of P s m)
-      by (inl f) = down_same (Down words n back force layers r) (PieceBy m.rows m.openings P s) (λ f c. (c.1.0, c.1.2)) (found r.start w) (found f.0 (piece_of P s m)) first f.1 d
-      by (inr z) = absurd (z.0 (found r.start w) first.is)
+      by : PieceFor m.rows m.openings P s (piece_of P s m) → DownFrom words n back force layers start steps (piece_of P s m)
+      by (inl f) = down_same (DownFrom words n back force layers start steps) (PieceBy m.rows m.openings P s) (λ f c. (c.1.0, c.1.2)) (found start w) (found f.0 (piece_of P s m)) first f.1 d
+      by (inr z) = absurd (z.0 (found start w) first.is)
 
   -- without a piece by way of s, s is an entrance and an exit, and the piece has no steps
   no_piece : ((f : Found) → ¬ Pass f) → (s ∈ starts) × (s ∈ ends) × (piece_of P s m ≡ [])
@@ -114,7 +111,7 @@ module _ {m : Machine} {g back : Graph} {words heads links : List ℕ} {n k : �
 
     -- s is not both an entrance and an exit: the walk on from s, and above its layers those of the walk to s
     pub through_down : (s ∈ starts → s ∈ ends → ⊥) → (layers new : List ℕ) (on to : Leg) → ZeroOrMore (Ahead back force P) alone ends layers on → KeptBelow on.steps layers new
-        → ZeroOrMore (Ahead back force P) starts alone (drop on.steps new) to → Down words n back force new (as_one to on) (piece_of P s m)
+        → ZeroOrMore (Ahead back force P) starts alone (drop on.steps new) to → DownFrom words n back force new to.start (to.steps + on.steps) (piece_of P s m)
     through_down apart layers new on to o kept t = by (zero_lies held framed alone ends layers on exits_free o) (zero_lies held framed starts alone (drop on.steps new) to alone_free t)
       where
         never : ((f : Found) → ¬ Pass f) → ⊥
@@ -122,7 +119,7 @@ module _ {m : Machine} {g back : Graph} {words heads links : List ℕ} {n k : �
 
         by : Lies held framed (Ways held framed alone ends) layers on ⊎ ((f : Found) → ¬ Ways held framed alone ends f)
             → Lies held framed (Ways held framed starts alone) (drop on.steps new) to ⊎ ((f : Found) → ¬ Ways held framed starts alone f)
-            → Down words n back force new (as_one to on) (piece_of P s m)
+            → DownFrom words n back force new to.start (to.steps + on.steps) (piece_of P s m)
         by (inr none) t = absurd (never (through_none m.rows In P (λ t. t ∈ starts) (λ t. t ∈ ends) (λ t. t ∈ alone) s alone_s s_alone (inr none)))
         by (inl a) (inr none) = absurd (never (through_none m.rows In P (λ t. t ∈ starts) (λ t. t ∈ ends) (λ t. t ∈ alone) s alone_s s_alone (inl none)))
         by (inl (w, d, f, size)) (inl (v, e, h, length_is)) =
@@ -133,7 +130,7 @@ module _ {m : Machine} {g back : Graph} {words heads links : List ℕ} {n k : �
             let a : to.start ≡ s = subst (λ (x : Walk). Leads to.start x s) y.0 leads in
             let b : on.start ≡ f.is.1.0 = subst (λ (x : Walk). Leads on.start x f.is.1.0) y.1 f.is.1.2 in
             apart (subst (λ (x : ℕ). x ∈ starts) a h.is.0) (subst (λ (x : ℕ). x ∈ ends) (sym b ∙ at) f.is.1.1) in
-            is_piece new (as_one to on) (v ++ w)
+            is_piece new to.start (to.steps + on.steps) (v ++ w)
             (through_foremost m.rows In P (λ t. t ∈ starts) (λ t. t ∈ ends) (λ t. t ∈ alone) s alone_s s_alone (found to.start v) (found on.start w) h f some)
             (descends_append (Way words n back force) (SetsRise back force) new on.steps s w
             (descends_same (Way words n back force) (SetsRise back force) layers new on.steps s w (λ i l. sym (kept.stay i l))
@@ -170,7 +167,7 @@ module _ {m : Machine} {g back : Graph} {words heads links : List ℕ} {n k : �
 
             by : Laid held framed others alone s layers' to → Down words n back force layers' to (piece_of P s m)
             by (inr none) = absurd (omega (arith, c.0, none.1))
-            by (inl (some, (w, d, f, size))) = is_piece layers' to w
+            by (inl (some, (w, d, f, size))) = is_piece layers' to.start to.steps w
                 (gap_to m.rows In P (λ t. t ∈ starts) (λ t. t ∈ ends) (λ t. t ∈ alone) s alone_s s_alone (λ t. t ∈ others) but other leaves (found to.start w) f (longer w size on_lies)) d
 
         -- it does not, and the leg on from s is laid once more
@@ -199,7 +196,7 @@ module _ {m : Machine} {g back : Graph} {words heads links : List ℕ} {n k : �
                 )
 
             by : Laid held framed alone ends s layers on → Laid held framed others alone s layers' to → Laid held framed alone ends s new r → Down words n back force new r (piece_of P s m)
-            by a b (inl (some, (u, d, f, size))) = is_piece new r u
+            by a b (inl (some, (u, d, f, size))) = is_piece new r.start r.steps u
                 (gap_from m.rows In P (λ t. t ∈ starts) (λ t. t ∈ ends) (λ t. t ∈ alone) s alone_s s_alone (λ t. t ∈ others) but other enters (found r.start u) f (longer u f a b)) d
             by (inl a) b (inr none) = absurd (none.2 (found on.start a.1.0) a.1.2.is)
             by (inr a) (inl b) (inr none) = absurd (c (b.0, inl a.1))

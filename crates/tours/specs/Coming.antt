@@ -1,5 +1,5 @@
 -- The leg of a state, and the legs of the states to come.
-use Rattle.std.specs.Prelude.{ℕ, ◌≤◌, ◌≡◌, List, ◌∷◌, ◌++◌, map}
+use Rattle.std.specs.Prelude.{ℕ, ◌≤◌, ◌≡◌, List, ◌∷◌, ◌++◌, map, Option}
 use Rattle.masks.specs.Mask.{◌∈◌, ◌⊆◌}
 use Rattle.orderings.specs.Steps.{members, Walk}
 use Rattle.machine.specs.Machine.{Machine, open_claims}
@@ -8,11 +8,11 @@ use Rattle.machine.specs.Expression.{walk_in}
 use Rattle.search.specs.Graph.{Graph}
 use Rattle.walks.specs.Choices.{Way, SetsRise}
 use Rattle.walks.specs.Walks.{Descends}
-use Rattle.tours.specs.declared.Shape.{Shape}
-use Rattle.tours.specs.declared.Shape.TheVariants.{Whole, Tour, Pieces}
-use Rattle.tours.specs.declared.Frame.{Frame}
-use Rattle.tours.specs.declared.Cursor.{Cursor}
-use Rattle.tours.specs.declared.legs.Leg.{Leg}
+use Rattle.tours.specs.declared.frames.Shape.{Shape}
+use Rattle.tours.specs.declared.frames.Shape.TheVariants.{Whole, Tour, Pieces}
+use Rattle.tours.specs.declared.frames.Frame.{Frame}
+use Rattle.tours.specs.declared.frames.Cursor.{Cursor}
+use Rattle.walks.specs.declared.found.Leg.{Leg}
 use Rattle.tours.specs.Frames.{neighbour, piece_of, hops}
 use Rattle.tours.specs.Parts.{parts_of, separator}
 use Rattle.tours.specs.Cursors.{OfEach, Stands}
@@ -47,6 +47,6 @@ Coming (Tour q) P a rest later = (a ∈ P) × (rest ⊆ P) × (later ⊆ P)
 Coming Pieces P a rest later = (rest ⊆ P) × (later ⊆ P)
 
 -- at the first part of the legs of the states of rest, and then of later
-abbrev pub Comes : Graph → Frame → ℕ → ℕ → ℕ → ℕ → List ℕ → Cursor → Type 0
+abbrev pub Comes : Graph → Frame → Option ℕ → ℕ → ℕ → ℕ → List ℕ → Option Cursor → Type 0
 Comes back f c a rest later layers r = OfEach back f (λ m words n. Coming f.shape f.set a rest later
     → Stands m words n back f layers r (parts_of c (separator f.shape) (legs_from m f.shape f.set a (members rest ++ members later))))

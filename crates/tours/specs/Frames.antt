@@ -1,5 +1,5 @@
 -- What a frame is about, and its legs: the walk of the sheet, a tour of a set, or the pieces of a set.
-use Rattle.std.specs.Prelude.{ℕ, ◌<◌, ◌≤◌, ◌≡◌, ◌↔◌, List, [], ◌∷◌, map, length}
+use Rattle.std.specs.Prelude.{ℕ, ◌≡◌, ◌↔◌, List, [], ◌∷◌, map, length}
 use Rattle.lists.specs.Tests.{◌among◌}
 use Rattle.masks.specs.Mask.{◌∈◌}
 use Rattle.rows.specs.Rows.{standing_sets}
@@ -17,18 +17,17 @@ use Rattle.search.specs.Graph.{Graph, TurnedGraph}
 use Rattle.search.specs.Hops.{InnerClaims, all_mask}
 use Rattle.search.specs.Masked.{Masked, Forced, Initials, Finals}
 use Rattle.row_table.specs.Letters.{LettersIn}
-use Rattle.walks.specs.Choices.{Way, BySource, SetsRise}
+use Rattle.walks.specs.Choices.{Way, SetsRise}
 use Rattle.walks.specs.Walks.{Descends}
-use Rattle.tours.specs.declared.Shape.{Shape}
-use Rattle.tours.specs.declared.Shape.TheVariants.{Whole, Tour, Pieces}
-use Rattle.tours.specs.declared.Frame.{Frame}
-use Rattle.tours.specs.declared.legs.Leg.{Leg}
+use Rattle.tours.specs.declared.frames.Shape.{Shape}
+use Rattle.tours.specs.declared.frames.Shape.TheVariants.{Whole, Tour, Pieces}
+use Rattle.tours.specs.declared.frames.Frame.{Frame}
+use Rattle.walks.specs.declared.found.Leg.{Leg}
 
--- the arrays hold the machine: the words of its letter rows, chained by the states that they start from, and its graph, turned round
-pub record Held (m : Machine) (g : Graph) (words heads links : List ℕ) (n : ℕ) (back : Graph) (k : ℕ) : Type 0 where
+-- the arrays hold the machine: the words of its letter rows, and its graph, turned round
+pub record Held (m : Machine) (g : Graph) (words : List ℕ) (n : ℕ) (back : Graph) (k : ℕ) : Type 0 where
   pub formed : WellFormed m
   pub letters : LettersIn m.rows words n
-  pub chained : BySource heads links words n
   pub turned : TurnedGraph g back
   pub masked : Masked m.rows g k
   pub count : length (standing_sets m.rows) ≡ k
@@ -74,19 +73,8 @@ legs m Whole P = walk_in (shortest m.rows (open_claims m)) ∷ []
 legs m (Tour q) P = hops (λ a b. neighbour P a b m) (round_trip P q)
 legs m Pieces P = map (λ s. piece_of P s m) (members P)
 
--- a tour is from a state
-abbrev pub LowShape : Shape → Type 0
-LowShape Whole = Unit {0}
-LowShape (Tour q) = q < 64
-LowShape Pieces = Unit {0}
-
--- a leg fits its layers
-pub record LowLeg (r : Leg) : Type 0 where
-  pub low : r.start < 64
-  pub few : r.steps ≤ 128
-
 -- down the layers the leg is the walk of every machine that the arrays hold
 abbrev pub LaysLeg : Graph → Shape → ℕ → ℕ → ℕ → Claims → (Machine → Walk) → List ℕ → Leg → Type 0
-LaysLeg back shape P starts ends force walk layers r = (m : Machine) (g : Graph) (words heads links : List ℕ) (n k : ℕ)
-    → Held m g words heads links n back k → Framed m g k shape P starts ends force
+LaysLeg back shape P starts ends force walk layers r = (m : Machine) (g : Graph) (words : List ℕ) (n k : ℕ)
+    → Held m g words n back k → Framed m g k shape P starts ends force
     → Descends (Way words n back force) (SetsRise back force) layers r.start r.steps (walk m)

@@ -1,9 +1,8 @@
 -- Legs as the layers have them, whatever arrays the steps E are read from.
-use Rattle.std.specs.Prelude.{ℕ, ◌≤◌, ◌<◌, ◌≡◌, ◌⊎◌, List, length, get_or}
+use Rattle.std.specs.Prelude.{ℕ, ◌≤◌, ◌<◌, ◌≡◌, ◌⊎◌, List, length, get_or, None}
 use Rattle.masks.specs.Mask.{◌∈◌}
-use Rattle.walks.specs.declared.Course.TheVariants.{Nowhere}
 use Rattle.walks.specs.Layers.{LaidFrom, Lays}
-use Rattle.tours.specs.declared.legs.Leg.{Leg}
+use Rattle.walks.specs.declared.found.Leg.{Leg}
 
 -- the layers before a place stay, and so does their count
 pub record KeptBelow (at : ℕ) (old new : List ℕ) : Type 0 where
@@ -13,7 +12,7 @@ pub record KeptBelow (at : ℕ) (old new : List ℕ) : Type 0 where
 -- one or more steps lead from one of the starts to one of the ends; or none do, and the leg is that of no steps at s
 abbrev pub OneOrMore : (ℕ → ℕ → Type 0) → ℕ → ℕ → ℕ → List ℕ → Leg → Type 0
 OneOrMore E starts ends s layers r = LaidFrom E starts ends layers r.start r.steps
-    ⊎ ((r.start ≡ s) × (r.steps ≡ 0) × Lays E starts ends layers Nowhere)
+    ⊎ ((r.start ≡ s) × (r.steps ≡ 0) × Lays E starts ends layers None)
 
 -- no steps at the lowest state that is a start and an end; without such a state one or more
 abbrev pub ZeroOrMore : (ℕ → ℕ → Type 0) → ℕ → ℕ → List ℕ → Leg → Type 0

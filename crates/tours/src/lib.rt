@@ -1,135 +1,59 @@
 // The parts of an expression, one after another: the steps of the walk, of a tour of a set, or of the pieces of a set, and what stands before each.
 #![tactic(auto)]
 
+pub mod frames;
 pub mod legs;
 
-ghost use Rattle.std.specs.Prelude.{◌≡◌, true, false, ℕ, ◌+◌, ◌*◌, ◌≤◌, ◌<◌, ◌↔◌};
+ghost use Rattle.std.specs.Prelude.{◌≡◌, ℕ, ◌+◌, ◌*◌, ◌≤◌, ◌<◌, ◌↔◌, Some, IfSome};
 ghost use Rattle.masks.specs.Mask.{◌∈◌};
-ghost use Rattle.search.specs.Graph.{graph_of, Indexed};
-ghost use Rattle.walks.specs.Choices.{Chained};
-ghost use Rattle.tours.specs.Frames.{LowShape, LowLeg};
 ghost use Rattle.tours.specs.Parts.{separator};
-ghost use Rattle.tours.specs.Cursors.{Low, size_of, Begins, Advances, ShowsPart, LowChoice};
+ghost use Rattle.tours.specs.Cursors.{size_of, Begins, Advances, ShowsPart};
 ghost use Rattle.tours.specs.Coming.{LaysLegOf, Comes};
 
-use crate::legs::{LAYERS, Leg};
-use machine::MOST_ROWS;
-use masks::{STATES, Set, take_lowest};
-use search::Claims;
-use search::graphs::Masks;
-use walks::Choice;
-
-// What is written out: the walk from an initial to a final state, a tour of a set from a state, or the pieces of a set.
-#[derive(Clone, Copy)]
-pub enum Shape {
-    Whole,
-    Tour(u8),
-    Pieces,
-}
-
-// Walks inside `set` with the claims in force, those about parts of it that opened before `round`. Pieces lead from one of `starts` to one
-// of `ends`, and so does the whole walk.
-#[derive(Clone, Copy)]
-pub struct Frame {
-    pub shape: Shape,
-    pub set: Set,
-    pub starts: Set,
-    pub ends: Set,
-    pub force: Claims,
-    pub round: u8,
-}
-
-// Where the writing stands: `before`, the byte that stands before the next part, 0 for none; `state`, where that part starts; how many
-// steps its leg has left, where none means `e`; `stop`, where a leg of a tour ends; and the states whose legs come after it.
-#[derive(Clone, Copy)]
-pub struct Cursor {
-    pub live: bool,
-    pub before: u8,
-    pub state: u8,
-    pub steps: usize,
-    pub stop: u8,
-    pub rest: Set,
-    pub later: Set,
-}
-
-// Nothing is left.
-fn ended() -> Cursor
-    ensures { Low result × (result.live ≡ false) }
-{
-    Cursor {
-        live: false,
-        before: 0,
-        state: 0,
-        steps: 0,
-        stop: 0,
-        rest: 0,
-        later: 0,
-    }
-}
+pub use crate::frames::{Cursor, Frame, Shape};
+use crate::legs::LAYERS;
+use machine::Step;
+use masks::{Set, below, difference, take_lowest};
+use search::IndexedGraph;
+use walks::{Leg, Letters};
 
 // The states of `m` above `s`.
 fn above(m: Set, s: u8) -> Set
+    requires { s < 64 }
     ensures { (t : ℕ) → (t ∈ result) ↔ ((t ∈ m) × (s < t)) }
 {
-    let mut rest = m;
-    while rest != 0 {
-        let next = take_lowest(rest);
-        if s < next.low {
-            return rest;
-        }
-        rest = next.rest;
-    }
-    0
+    difference(m, below(s as usize + 1))
 }
 
 // The leg of the state `s`: of a tour, from `state` to it; of pieces, the one for it.
-fn leg_of(back: &Masks, frame: Frame, state: u8, s: u8, layers: &mut [Set; LAYERS]) -> Leg
-    requires { (state < 64) × (s < 64) × Indexed back.now }
-    ensures low { LowLeg result }
-    ensures lays { LaysLegOf (graph_of back.now) frame state s layers.new result }
+fn leg_of(back: &IndexedGraph, frame: Frame, state: u8, s: u8, layers: &mut [Set; LAYERS]) -> Leg
+    requires { (state < 64) × (s < 64) }
+    ensures { LaysLegOf back.now frame state s layers.new result }
 {
-    let shape = frame.shape;
-    match shape {
-        Shape::Whole => legs::whole(
-            back,
-            frame.force,
-            frame.set,
-            frame.starts,
-            frame.ends,
-            layers,
-        ),
-        Shape::Tour(_) => legs::between(back, frame.force, frame.set, state, s, layers),
-        Shape::Pieces => legs::piece(
-            back,
-            frame.force,
-            frame.set,
-            frame.starts,
-            frame.ends,
-            s,
-            layers,
-        ),
+    match frame.shape {
+        Shape::Whole => legs::whole(back, frame, layers),
+        Shape::Tour(_) => legs::between(back, frame, state, s, layers),
+        Shape::Pieces => legs::piece(back, frame, s, layers),
     }
 }
 
 // At the first part of the leg of the lowest state of `rest`.
 fn lead(
-    back: &Masks,
+    back: &IndexedGraph,
     frame: Frame,
-    before: u8,
+    before: Option<u8>,
     state: u8,
     rest: Set,
     later: Set,
     layers: &mut [Set; LAYERS],
 ) -> Cursor
-    requires { (0 < rest) × (state < 64) × Indexed back.now }
-    ensures low { Low result }
-    ensures fewer { size_of result ≤ (rest + later) * 130 }
-    ensures comes { Comes (graph_of back.now) frame before state rest later layers.new result }
+    requires { (0 < rest) × (state < 64) }
+    ensures fewer { size_of (Some result) ≤ (rest + later) * 130 }
+    ensures comes { Comes back.now frame before state rest later layers.new (Some result) }
 {
     let next = take_lowest(rest);
     let leg = leg_of(back, frame, state, next.low, layers);
     Cursor {
-        live: true,
         before,
         state: leg.start,
         steps: leg.steps,
@@ -139,46 +63,42 @@ fn lead(
     }
 }
 
-// At the first part of the leg of the lowest state of `rest`, or where there is none of `later`; or ended.
+// At the first part of the leg of the lowest state of `rest`, or where there is none of `later`; or none is left.
 fn onward(
-    back: &Masks,
+    back: &IndexedGraph,
     frame: Frame,
-    before: u8,
+    before: Option<u8>,
     state: u8,
     rest: Set,
     later: Set,
     layers: &mut [Set; LAYERS],
-) -> Cursor
-    requires { (state < 64) × Indexed back.now }
-    ensures low { Low result }
+) -> Option<Cursor>
+    requires { state < 64 }
     ensures fewer { size_of result ≤ (rest + later) * 130 }
-    ensures comes { Comes (graph_of back.now) frame before state rest later layers.new result }
+    ensures comes { Comes back.now frame before state rest later layers.new result }
 {
     if rest != 0 {
-        return lead(back, frame, before, state, rest, later, layers);
+        return Some(lead(back, frame, before, state, rest, later, layers));
     }
     if later != 0 {
-        return lead(back, frame, before, state, later, 0, layers);
+        return Some(lead(back, frame, before, state, later, 0, layers));
     }
-    ended()
+    None
 }
 
 // At the first part of all.
-pub fn begin(back: &Masks, frame: Frame, layers: &mut [Set; LAYERS]) -> Cursor
-    requires { LowShape frame.shape × Indexed back.now }
-    ensures low { Low result }
-    ensures begins { Begins (graph_of back.now) frame layers.new result }
+pub fn begin(back: &IndexedGraph, frame: Frame, layers: &mut [Set; LAYERS]) -> Option<Cursor>
+    ensures { Begins back.now frame layers.new result }
 {
-    let shape = frame.shape;
-    match shape {
+    match frame.shape {
         // One leg, by whatever state.
-        Shape::Whole => lead(back, frame, 0, 0, 1, 0, layers),
+        Shape::Whole => Some(lead(back, frame, None, 0, 1, 0, layers)),
         Shape::Tour(q) => {
             let higher = above(frame.set, q);
-            let others = masks::difference(frame.set, higher);
-            onward(back, frame, 0, q, higher, others, layers)
+            let others = difference(frame.set, higher);
+            onward(back, frame, None, q, higher, others, layers)
         }
-        Shape::Pieces => onward(back, frame, 0, 0, frame.set, 0, layers),
+        Shape::Pieces => onward(back, frame, None, 0, frame.set, 0, layers),
     }
 }
 
@@ -187,42 +107,38 @@ fn between_legs(shape: Shape) -> u8
     ensures { result ≡ separator shape }
 {
     match shape {
-        Shape::Whole => b'.',
-        Shape::Tour(_) => b'.',
+        Shape::Whole | Shape::Tour(_) => b'.',
         Shape::Pieces => b',',
     }
 }
 
 // At the next part, where the last one led to `to`.
 pub fn advance(
-    back: &Masks,
+    back: &IndexedGraph,
     frame: Frame,
     cursor: Cursor,
     to: u8,
     layers: &mut [Set; LAYERS],
-) -> Cursor
-    requires { LowShape frame.shape × Low cursor × (to < 64) × Indexed back.now }
-    ensures low { Low result }
-    ensures fewer { cursor.live ≡ true → size_of result < size_of cursor }
-    ensures advances { Advances (graph_of back.now) frame layers.old cursor to
-        layers.new result }
+) -> Option<Cursor>
+    requires { to < 64 }
+    ensures fewer { size_of result < size_of (Some cursor) }
+    ensures advances { Advances back.now frame layers.old cursor to layers.new result }
 {
     if 1 < cursor.steps {
-        return Cursor {
-            live: true,
-            before: b'.',
+        return Some(Cursor {
+            before: Some(b'.'),
             state: to,
             steps: cursor.steps - 1,
             stop: cursor.stop,
             rest: cursor.rest,
             later: cursor.later,
-        };
+        });
     }
-    let shape = frame.shape;
+    let before = Some(between_legs(frame.shape));
     onward(
         back,
         frame,
-        between_legs(shape),
+        before,
         cursor.stop,
         cursor.rest,
         cursor.later,
@@ -230,33 +146,17 @@ pub fn advance(
     )
 }
 
-// The step at the cursor: the first one into the next layer. There is none where the leg has no steps. The letter rows are chained by the
-// states that they start from.
+// The step at the cursor: the first one into the next layer. There is none where the leg has no steps.
 pub fn step_at(
-    words: &[u64; MOST_ROWS],
-    first: &[u16; STATES],
-    next: &[u16; MOST_ROWS],
-    back: &Masks,
+    letters: &Letters,
+    back: &IndexedGraph,
     frame: Frame,
     cursor: Cursor,
     layers: &[Set; LAYERS],
-) -> Choice
-    requires { Low cursor × Chained first.now next.now words.now }
-    ensures low { LowChoice result }
-    ensures shows { ShowsPart words.now first.now next.now
-        (graph_of back.now) frame layers.now cursor result }
+) -> Option<Step>
+    ensures low { IfSome result (λ t. t.to < 64) }
+    ensures shows { ShowsPart letters.now.words.now letters.now.count back.now frame layers.now cursor result }
 {
-    let k = cursor.steps;
-    if k == 0 {
-        return Choice::Nothing;
-    }
-    walks::first_step(
-        words,
-        first,
-        next,
-        back,
-        frame.force,
-        cursor.state,
-        layers[k - 1],
-    )
+    let k = cursor.steps.checked_sub(1)?;
+    letters.first_step(back, frame.force, cursor.state, layers[k])
 }

@@ -3,16 +3,17 @@
 -- the definition computes (`answers_some`, `answers_none`).
 use Prim.Native.Nat.{ℕ, ◌≤◌}
 use mathlib.Core.Path.{◌≡◌, refl, ap, ◌∙◌}
-use mathlib.Core.Bool.{true, false}
 use mathlib.Core.Option.{Option, none, some}
 use mathlib.Core.List.{List, []}
 use lib.ListN.{length}
+use Rattle.std.specs.Prelude.{None, Some}
 use Rattle.lists.specs.Tests.{◌among◌}
 use Rattle.masks.specs.Mask.{◌∈◌}
-use Rattle.masks.proofs.Member.{not_both, member_lt}
+use Rattle.masks.proofs.Member.{member_lt}
 use Rattle.rows.specs.declared.Row.{Row}
 use Rattle.rows.specs.Rows.{standing_sets}
 use Rattle.orderings.specs.Steps.{Claim}
+use Rattle.machine.specs.declared.Step.{Step}
 use Rattle.machine.specs.Order.{Found, Candidate, Foremost, Best}
 use Rattle.machine.specs.Search.{shortest}
 use Rattle.machine.specs.WellFormed.{Table}
@@ -26,11 +27,10 @@ use Rattle.search.specs.Masked.{Initials, Finals}
 use Rattle.search.specs.Promises.{Stands}
 use Rattle.search.proofs.Accepting.{has_all, all_claims, walk_all}
 use Rattle.row_table.specs.Letters.{LettersIn}
-use Rattle.walks.specs.declared.Course.TheVariants.{From, Nowhere}
-use Rattle.walks.specs.declared.FoundWalk.{FoundWalk}
-use Rattle.walks.specs.Layers.{Ahead, Lays}
+use Rattle.walks.specs.declared.found.FoundWalk.{FoundWalk}
+use Rattle.walks.specs.Layers.{Ahead, LaidFrom, Lays}
 use Rattle.walks.specs.Choices.{Way, SetsRise}
-use Rattle.walks.specs.Walks.{steps_from, as_found, Follows, Answers}
+use Rattle.walks.specs.Walks.{walk_from, as_found, Follows, Answers}
 use Rattle.walks.proofs.Standing.{Free, sets_rise_in}
 use Rattle.walks.proofs.Descending.{follows_descends}
 use Rattle.walks.proofs.Courses.{lay_none, lay_foremost}
@@ -56,46 +56,34 @@ module _ (rows : List Row) (claims : List Claim) (initials finals : ℕ) (is_ini
   final_free s m = (has_all s (member_lt s finals m), ((is_finals s).0 m).1)
 
   -- a state that is initial and final, the lowest, is a walk of no steps
-  pub answer_here : (w : FoundWalk) (start : ℕ) → w.found ≡ true → w.start ≡ start → w.count ≡ 0 → start ∈ initials → start ∈ finals
-      → ((s : ℕ) → s ∈ initials → s ∈ finals → start ≤ s) → Answers rows claims w
-  unfolding steps_from
-  answer_here w start found begins empty h m low = record {
-    best = λ e. rw (begins, empty) (leading_best (record { start = start; walk = [] })
-        (here_foremost rows (λ c. c among claims) all_mask (λ s. s ∈ initials) (λ s. s ∈ finals) start h m low));
-    none = λ e. absurd (not_both found e);
-  }
+  pub answer_here : (start : ℕ) → start ∈ initials → start ∈ finals → ((s : ℕ) → s ∈ initials → s ∈ finals → start ≤ s) → Best rows claims (record { start = start; walk = [] })
+  answer_here start h m low = leading_best (record { start = start; walk = [] })
+      (here_foremost rows (λ c. c among claims) all_mask (λ s. s ∈ initials) (λ s. s ∈ finals) start h m low)
 
   module _ {g back : Graph} (turned : TurnedGraph g back) {force : Claims} {k : ℕ} (is : Stands g force rows claims k) (count : length (standing_sets rows) ≡ k)
       {words : List ℕ} {n : ℕ} (letters : LettersIn rows words n) (unmet : (s : ℕ) → s ∈ initials → s ∈ finals → ⊥) where
-    pub answer_none : (layers : List ℕ) (w : FoundWalk) → w.found ≡ false → Lays (Ahead back force all_mask) initials finals layers Nowhere → Answers rows claims w
-    answer_none layers w e l = record {
-      best = λ t. absurd (not_both t e);
-      none = λ f g c. stepping_none rows (λ c. c among claims) all_mask (λ s. s ∈ initials) (λ s. s ∈ finals) unmet
-          (lay_none turned is count letters (all_claims _ force) (sets_rise_in turned is count letters (all_claims _ force)) initials finals layers l) g (to_leading g c);
-    }
+    pub answer_none : (layers : List ℕ) → Lays (Ahead back force all_mask) initials finals layers None → (f : Found) → ¬ Candidate rows claims f
+    answer_none layers l f c = stepping_none rows (λ c. c among claims) all_mask (λ s. s ∈ initials) (λ s. s ∈ finals) unmet
+        (lay_none turned is count letters (all_claims _ force) (sets_rise_in turned is count letters (all_claims _ force)) initials finals layers l) f (to_leading f c)
 
-    pub answer_best : (layers : List ℕ) (start steps : ℕ) (w : FoundWalk) → Lays (Ahead back force all_mask) initials finals layers (From start steps)
-        → Follows (Way words n back force) (SetsRise back force) layers start steps w → Answers rows claims w
-    answer_best layers start steps w l f =
+    pub answer_best : (layers : List ℕ) (start steps : ℕ) (l : List Step) → LaidFrom (Ahead back force all_mask) initials finals layers start steps
+        → Follows (Way words n back force) (SetsRise back force) layers start steps l → Best rows claims (record { start = start; walk = walk_from start l })
+    answer_best layers start steps l laid f =
         let inner = all_claims g force in
         let rise = sets_rise_in turned is count letters inner in
-        let r = lay_foremost turned is count letters inner rise initials finals layers start steps l final_free in
-        let s = follows_descends (Way words n back force) (SetsRise back force) rise layers start steps w f r.0 r.1 in
-        let h : Found = record { start = start; walk = r.0 } in
-        record {
-          best = λ e. rw (f.begins, s.0, s.1) (leading_best h (stepping_foremost rows (λ c. c among claims) all_mask (λ s. s ∈ initials) (λ s. s ∈ finals) unmet h r.2));
-          none = λ e. absurd (not_both f.found e);
-        }
+        let r = lay_foremost turned is count letters inner rise initials finals layers start steps laid final_free in
+        let s = follows_descends (Way words n back force) (SetsRise back force) rise layers steps start l r.0 f r.1 in
+        rw s (leading_best (record { start = start; walk = r.0 }) (stepping_foremost rows (λ c. c among claims) all_mask (λ s. s ∈ initials) (λ s. s ∈ finals) unmet (record { start = start; walk = r.0 }) r.2))
 
 -- the walk found is the one that the definition computes
-pub answers_some : (rows : List Row) (claims : List Claim) (w : FoundWalk) → Answers rows claims w → w.found ≡ true → shortest rows claims ≡ some (as_found w)
-answers_some rows claims w a e =
-    let r = shortest_best rows claims (as_found w) (a.best e).is in
-    r.1 ∙ ap some (best_unique rows claims r.0 (as_found w) r.2 (a.best e))
+pub answers_some : (rows : List Row) (claims : List Claim) (w : FoundWalk) → Answers rows claims (Some w) → shortest rows claims ≡ some (as_found w)
+answers_some rows claims w best =
+    let r = shortest_best rows claims (as_found w) best.is in
+    r.1 ∙ ap some (best_unique rows claims r.0 (as_found w) r.2 best)
 
-pub answers_none : (rows : List Row) (claims : List Claim) (w : FoundWalk) → Answers rows claims w → w.found ≡ false → shortest rows claims ≡ none
-answers_none rows claims w a e = go (shortest rows claims) refl
+pub answers_none : (rows : List Row) (claims : List Claim) → Answers rows claims None → shortest rows claims ≡ none
+answers_none rows claims a = go (shortest rows claims) refl
   where
     go : (o : Option Found) → shortest rows claims ≡ o → o ≡ none
     go none q = refl
-    go (some f) q = absurd (a.none e f (shortest_some rows claims f q).is)
+    go (some f) q = absurd (a f (shortest_some rows claims f q).is)

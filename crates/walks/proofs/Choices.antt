@@ -1,37 +1,42 @@
--- The first step of one kind (`pass_first`, `pass_end`), and the first of all: of the first kind that has one (`choose_letter`, `choose_omega`,
--- `choose_back`, `choose_mix`); where no letter leads there, the first by a claim (`after_letters`).
-use Prim.Native.Nat.{ℕ, ◌≤◌, ◌<◌}
-use mathlib.Core.Path.{◌≡◌, refl, subst}
+-- The first step of one kind (`pass_first`, `pass_end`), and the first of all: kind after kind, each where those before have none (`with_letters`,
+-- `with_omegas`, `with_backs`, `with_mixes`, `is_first`).
+use Prim.Native.Nat.{ℕ, suc, ◌≤◌, ◌<◌}
+use mathlib.Core.Path.{◌≡◌, refl, ap, sym, subst, ◌∙◌}
 use mathlib.Core.Logic.{◌⊎◌, inl, inr, ⊎_elim, ◌↔◌}
 use mathlib.Core.List.{List, [], ◌∷◌}
 use native.Mathlib.Omega.{arith}
 use lib.ListN.{get_or}
+use Rattle.std.specs.Prelude.{Option, None, Some}
 use Rattle.lists.specs.Order.{◌≺◌}
 use Rattle.lists.proofs.Sorting.{before_decides, ≺_irreflexive}
 use Rattle.masks.specs.Mask.{◌∈◌}
 use Rattle.masks.proofs.Member.{lt_or_le, in_none}
 use Rattle.masks.proofs.Gathering.{Gathered, gather_end}
 use Rattle.orderings.specs.Steps.{Label, letter, ω, back, mix}
+use Rattle.machine.specs.declared.StepLabel.{StepLabel}
+use Rattle.machine.specs.declared.StepLabel.TheVariants.{Letter, Omega, Back, Mix}
+use Rattle.machine.specs.declared.Step.{Step}
+use Rattle.machine.specs.Labels.{label_of}
 use Rattle.machine.specs.Order.{kind, value}
+use Rattle.machine.proofs.Walks.{label_same}
 use Rattle.search.specs.declared.Claims.{Claims}
 use Rattle.search.specs.Graph.{Graph}
 use Rattle.row_table.specs.Letters.{LetterAt}
-use Rattle.walks.specs.declared.Choice.{Choice}
-use Rattle.walks.specs.declared.Choice.TheVariants.{Taken, Nothing}
-use Rattle.walks.specs.Choices.{named, PassAt, Way, ClaimWay, RisingAt, First, Picked, Chooses}
+use Rattle.walks.specs.Choices.{PassAt, Way, RisingAt, Picked, SetsRise, Chooses}
 
 module _ (layers here there : List ℕ) (places a layer : ℕ) where
   -- a step by the place i leads to t
   abbrev pub Enters : ℕ → ℕ → Type 0
   Enters i t = (a ∈ get_or here i 0) × (t ∈ get_or there i 0) × (t ∈ layer)
 
-  pub pass_end : (rest : ℕ) → Gathered Enters places rest 0 → rest ≡ 0 → First layer (PassAt layers here there places a) Nothing
+  pub pass_end : (rest : ℕ) → Gathered Enters places rest 0 → rest ≡ 0 → (P t : ℕ) → PassAt layers here there places a P t → t ∈ layer → ⊥
   pass_end rest g z P t r m = in_none t ((gather_end g z t).1 (r.0, r.1, (r.3, r.4, m)))
 
   -- the lowest place left with a step, and its lowest target
-  pub pass_first : (rest i met t k : ℕ) → Gathered Enters places rest 0 → i ∈ rest → ((j : ℕ) → j ∈ rest → i ≤ j) → ((u : ℕ) → (u ∈ met) ↔ Enters i u)
-      → ((u : ℕ) → u ∈ met → t ≤ u) → RisingAt layers places → First layer (PassAt layers here there places a) (Taken k (get_or layers i 0) t)
-  pass_first rest i met t k g is_i low is_met low_t rising P u r m = ⊎_elim
+  pub pass_first : (rest i met t : ℕ) → Gathered Enters places rest 0 → i ∈ rest → ((j : ℕ) → j ∈ rest → i ≤ j) → ((u : ℕ) → (u ∈ met) ↔ Enters i u)
+      → ((u : ℕ) → u ∈ met → t ≤ u) → RisingAt layers places
+      → (P u : ℕ) → PassAt layers here there places a P u → u ∈ layer → (get_or layers i 0 < P) ⊎ ((get_or layers i 0 ≡ P) × (t ≤ u))
+  pass_first rest i met t g is_i low is_met low_t rising P u r m = ⊎_elim
       (λ h. ⊎_elim
       (λ l. inl (rw r.2 (rising i r.0 (g.through.left i is_i) r.1 l)))
       (λ l. let e : r.0 ≡ i = omega (arith, low r.0 h) in
@@ -39,9 +44,6 @@ module _ (layers here there : List ℕ) (places a layer : ℕ) where
       (lt_or_le i r.0))
       (λ f. absurd (in_none u (f u (r.3, r.4, m))))
       (g.through.passed r.0 r.1)
-
-pub not_nothing : {r : Choice} {k v t : ℕ} → r ≡ Taken k v t → r ≡ Nothing → ⊥
-not_nothing e n = let z : ◌≡◌ {A = ℕ} 0 1 = cc in omega arith
 
 -- the key with kind k, value v and target t is not after that of a label and a target
 abbrev pub Rank : ℕ → ℕ → ℕ → ℕ → ℕ → ℕ → Type 0
@@ -68,98 +70,75 @@ not_before k v t k' v' t' h p = ⊎_elim (λ (l : k' < k). kinds l h)
     targets e d l (inr (f, inl g)) = omega arith
     targets e d l (inr (f, inr g)) = omega (arith, g.1)
 
+four : (l : Label) → kind l < 4
+four (letter x) = omega arith
+four (ω x) = omega arith
+four (back x) = omega arith
+four (mix x) = omega arith
+
 module _ (layer : ℕ) (W : Label → ℕ → Type 0) (Ordered : Type 0) where
-  -- no step of a kind leads into the layer
-  abbrev pub Lacks : ℕ → Type 0
-  Lacks k = (v t : ℕ) → W (named k v) t → t ∈ layer → ⊥
+  -- a step of one of the kinds below k
+  abbrev Below : ℕ → Label → ℕ → Type 0
+  Below k l t = (kind l < k) × W l t
 
-  -- where nothing is chosen, there is none
-  pub lacks : (k : ℕ) {O : Type 0} {r : Choice} → r ≡ Nothing → Picked layer (λ v t. W (named k v) t) k O r → O → Lacks k
-  lacks k e p o = subst (First layer (λ v t. W (named k v) t)) e (p.first o)
+  -- no kind is below the first
+  choose_none : Chooses layer (Below 0) Ordered None
+  choose_none ord l u x y = omega (arith, x.0)
 
-  -- a step of a kind that comes before all others
-  abbrev Leads_all : ℕ → ℕ → ℕ → Type 0
-  Leads_all k v t = (l : Label) (u : ℕ) → W l u → u ∈ layer → Rank k v t (kind l) (value l) u
+  -- where the kinds below k have no step, the first of kind k is that of the kinds up to k
+  choose_more : (k : ℕ) (label : ℕ → Label) → ((v : ℕ) → (kind (label v) ≡ k) × (value (label v) ≡ v)) → {Named : ℕ → StepLabel → Type 0} → ((v : ℕ) (l : StepLabel) → Named v l → label_of l ≡ label v)
+      → {O : Type 0} → (Ordered → O) → (r : Option Step) → Chooses layer (Below k) Ordered None → Picked layer (λ v t. W (label v) t) Named O r → Chooses layer (Below (suc k)) Ordered r
+  choose_more k label is {Named} named {O} o r none p = by r p
+    where
+      -- a step of kind k
+      here : {C : Type 0} (l : Label) (u : ℕ) → Ordered → Below (suc k) l u → u ∈ layer → (W (label (value l)) u → kind l ≡ k → C) → C
+      here l u ord (h, w) m then = ⊎_elim (λ (g : kind l < k). absurd (none ord l u (g, w) m))
+          (λ (g : k ≤ kind l). let e : kind l ≡ k = omega arith in
+          then (subst (λ (x : Label). W x u) (label_same l (label (value l)) (e ∙ sym (is (value l)).0) (sym (is (value l)).1)) w) e)
+          (lt_or_le (kind l) k)
 
-  choose : (k : ℕ) → ((v : ℕ) → (kind (named k v) ≡ k) × (value (named k v) ≡ v)) → (r : Choice) → (r ≡ Nothing → ⊥) → {O : Type 0} → (Ordered → O)
-      → Picked layer (λ v t. W (named k v) t) k O r → ((v t : ℕ) → Ordered → First layer (λ v t. W (named k v) t) (Taken k v t) → Leads_all k v t) → Chooses layer W Ordered r
-  choose k is Nothing n o p all = absurd (n refl)
-  choose k is (Taken k' v t) n o p all = rw p.is.0 (
-    p.is.1,
-    p.is.2,
-    λ ord l u w m. rw ((is v).0, (is v).1) (not_before k v t (kind l) (value l) u (all v t ord (p.first (o ord)) l u w m)),
+      by : (r : Option Step) → Picked layer (λ v t. W (label v) t) Named O r → Chooses layer (Below (suc k)) Ordered r
+      by None p = λ ord l u x m. here l u ord x m (λ w e. p (o ord) (value l) u w m)
+      by (Some t) (v, n, w, m, first) = rw (named v t.label n, (is v).0, (is v).1) (
+        (omega arith, w),
+        m,
+        λ ord l u x y. here l u ord x y (λ g e. not_before k v t.to (kind l) (value l) u (inr (sym e, first (o ord) (value l) u g y))),
+      )
+
+  -- it is the first of all
+  choose_all : (k : ℕ) (t : Step) → Chooses layer (Below k) Ordered (Some t) → Chooses layer W Ordered (Some t)
+  choose_all k t ((h, w), m, first) = (
+    w,
+    m,
+    λ ord l u x y. ⊎_elim (λ (g : kind l < k). first ord l u (g, x) y)
+        (λ (g : k ≤ kind l). not_before (kind (label_of t.label)) (value (label_of t.label)) t.to (kind l) (value l) u (inl (omega arith)))
+        (lt_or_le (kind l) k),
   )
 
-  pub choose_letter : (r : Choice) → (r ≡ Nothing → ⊥) → {O : Type 0} → (Ordered → O) → Picked layer (λ v t. W (letter v) t) 0 O r → Chooses layer W Ordered r
-  choose_letter r n o p = choose 0 (λ v. (refl, refl)) r n o p all
-    where
-      all : (v t : ℕ) → Ordered → First layer (λ v t. W (letter v) t) (Taken 0 v t) → Leads_all 0 v t
-      all v t ord f (letter x) u w m = inr (refl, f x u w m)
-      all v t ord f (ω x) u w m = inl (omega arith)
-      all v t ord f (back x) u w m = inl (omega arith)
-      all v t ord f (mix x) u w m = inl (omega arith)
+  -- and where there is none of four kinds, there is none
+  choose_last : (r : Option Step) → Chooses layer (Below 4) Ordered r → Chooses layer W Ordered r
+  choose_last None c = λ ord l u w m. c ord l u (four l, w) m
+  choose_last (Some t) c = choose_all 4 t c
 
-  pub choose_omega : (Ordered → Lacks 0) → (r : Choice) → (r ≡ Nothing → ⊥) → {O : Type 0} → (Ordered → O) → Picked layer (λ v t. W (ω v) t) 1 O r → Chooses layer W Ordered r
-  choose_omega no_letter r n o p = choose 1 (λ v. (refl, refl)) r n o p all
-    where
-      all : (v t : ℕ) → Ordered → First layer (λ v t. W (ω v) t) (Taken 1 v t) → Leads_all 1 v t
-      all v t ord f (letter x) u w m = absurd (no_letter ord x u w m)
-      all v t ord f (ω x) u w m = inr (refl, f x u w m)
-      all v t ord f (back x) u w m = inl (omega arith)
-      all v t ord f (mix x) u w m = inl (omega arith)
+-- ---- the four kinds
 
-  pub choose_back : (Ordered → Lacks 0) → (Ordered → Lacks 1) → (r : Choice) → (r ≡ Nothing → ⊥) → {O : Type 0} → (Ordered → O) → Picked layer (λ v t. W (back v) t) 2 O r → Chooses layer W Ordered r
-  choose_back no_letter no_omega r n o p = choose 2 (λ v. (refl, refl)) r n o p all
-    where
-      all : (v t : ℕ) → Ordered → First layer (λ v t. W (back v) t) (Taken 2 v t) → Leads_all 2 v t
-      all v t ord f (letter x) u w m = absurd (no_letter ord x u w m)
-      all v t ord f (ω x) u w m = absurd (no_omega ord x u w m)
-      all v t ord f (back x) u w m = inr (refl, f x u w m)
-      all v t ord f (mix x) u w m = inl (omega arith)
+module _ (words : List ℕ) (n : ℕ) (b : Graph) (force : Claims) (a layer : ℕ) where
+  -- of the kinds below k
+  abbrev Upto : ℕ → Option Step → Type 0
+  Upto k r = Chooses layer (Below layer (Way words n b force a) (SetsRise b force) k) (SetsRise b force) r
 
-  pub choose_mix : (Ordered → Lacks 0) → (Ordered → Lacks 1) → (Ordered → Lacks 2) → (r : Choice) → {O : Type 0} → (Ordered → O) → Picked layer (λ v t. W (mix v) t) 3 O r → Chooses layer W Ordered r
-  choose_mix no_letter no_omega no_back Nothing o p = all
-    where
-      all : Ordered → (l : Label) (u : ℕ) → W l u → u ∈ layer → ⊥
-      all ord (letter x) u w m = no_letter ord x u w m
-      all ord (ω x) u w m = no_omega ord x u w m
-      all ord (back x) u w m = no_back ord x u w m
-      all ord (mix x) u w m = p.first (o ord) x u w m
-  choose_mix no_letter no_omega no_back (Taken k v t) o p = choose 3 (λ v. (refl, refl)) (Taken k v t) (λ e. let z : ◌≡◌ {A = ℕ} 0 1 = cc in omega arith) o p all
-    where
-      all : (v t : ℕ) → Ordered → First layer (λ v t. W (mix v) t) (Taken 3 v t) → Leads_all 3 v t
-      all v t ord f (letter x) u w m = absurd (no_letter ord x u w m)
-      all v t ord f (ω x) u w m = absurd (no_omega ord x u w m)
-      all v t ord f (back x) u w m = absurd (no_back ord x u w m)
-      all v t ord f (mix x) u w m = inr (refl, f x u w m)
+  pub with_letters : (r : Option Step) → Picked layer (LetterAt words n a) (λ x l. l ≡ Letter x) (Unit {0}) r → Upto 1 r
+  with_letters r p = choose_more layer (Way words n b force a) (SetsRise b force) 0 letter (λ v. (refl, refl)) (λ v l e. ap label_of e) (λ o. tt) r (choose_none layer (Way words n b force a) (SetsRise b force)) p
 
--- ---- letters first
+  pub with_omegas : (r : Option Step) → Upto 1 None → Picked layer (PassAt b.sets b.sets b.rights force.loops a) (λ v l. l ≡ Omega v) (RisingAt b.sets force.loops) r → Upto 2 r
+  with_omegas r none p = choose_more layer (Way words n b force a) (SetsRise b force) 1 ω (λ v. (refl, refl)) (λ v l e. ap label_of e) (λ o. o.0) r none p
 
--- a step by a claim is a step
-claim_way : (words : List ℕ) (n : ℕ) (b : Graph) (force : Claims) (a : ℕ) (l : Label) (t : ℕ) → ClaimWay b force a l t → Way words n b force a l t
-claim_way words n b force a (letter x) t w = absurd (omega (arith, w.1))
-claim_way words n b force a (ω P) t w = w
-claim_way words n b force a (back P) t w = w
-claim_way words n b force a (mix P) t w = w
+  pub with_backs : (r : Option Step) → Upto 2 None → Picked layer (PassAt b.sets b.lefts b.sets force.loops a) (λ v l. l ≡ Back v) (RisingAt b.sets force.loops) r → Upto 3 r
+  with_backs r none p = choose_more layer (Way words n b force a) (SetsRise b force) 2 back (λ v. (refl, refl)) (λ v l e. ap label_of e) (λ o. o.0) r none p
 
--- no step by a claim is one by a letter
-pub no_letters : {O : Type 0} (b : Graph) (force : Claims) (a layer : ℕ) → O → Lacks layer (ClaimWay b force a) O 0
-no_letters b force a layer o v t w m = absurd (omega (arith, w.1))
+  pub with_mixes : (r : Option Step) → Upto 3 None → Picked layer (PassAt b.sets b.lefts b.rights force.mixes a) (λ v l. l ≡ Mix v) (RisingAt b.sets force.mixes) r → Chooses layer (Way words n b force a) (SetsRise b force) r
+  with_mixes r none p = choose_last layer (Way words n b force a) (SetsRise b force) r
+      (choose_more layer (Way words n b force a) (SetsRise b force) 3 mix (λ v. (refl, refl)) (λ v l e. ap label_of e) (λ o. o.1) r none p)
 
--- where no letter leads into the layer, the first step by a claim is the first of all
-pub after_letters : (words : List ℕ) (n : ℕ) (b : Graph) (force : Claims) (a layer : ℕ) {Ordered O : Type 0} → (Ordered → O) → (Ordered → First layer (LetterAt words n a) Nothing)
-    → (r : Choice) → Chooses layer (ClaimWay b force a) O r → Chooses layer (Way words n b force a) Ordered r
-after_letters words n b force a layer {Ordered} {O} o none Nothing c = all
-  where
-    all : Ordered → (l : Label) (u : ℕ) → Way words n b force a l u → u ∈ layer → ⊥
-    all ord (letter x) u w m = none ord x u w m
-    all ord (ω P) u w m = c (o ord) (ω P) u w m
-    all ord (back P) u w m = c (o ord) (back P) u w m
-    all ord (mix P) u w m = c (o ord) (mix P) u w m
-after_letters words n b force a layer {Ordered} {O} o none (Taken k v t) c = (claim_way words n b force a (named k v) t c.0, c.1, all)
-  where
-    all : Ordered → (l : Label) (u : ℕ) → Way words n b force a l u → u ∈ layer → ¬ ((kind l ∷ value l ∷ u ∷ []) ≺ (kind (named k v) ∷ value (named k v) ∷ t ∷ []))
-    all ord (letter x) u w m = absurd (none ord x u w m)
-    all ord (ω P) u w m = c.2 (o ord) (ω P) u w m
-    all ord (back P) u w m = c.2 (o ord) (back P) u w m
-    all ord (mix P) u w m = c.2 (o ord) (mix P) u w m
+  pub is_first : (k : ℕ) (t : Step) → Upto k (Some t) → Chooses layer (Way words n b force a) (SetsRise b force) (Some t)
+  is_first k t c = choose_all layer (Way words n b force a) (SetsRise b force) k t c

@@ -9,6 +9,7 @@ use mathlib.Core.List.{List, [], ◌∷◌}
 use native.Mathlib.Omega.{arith}
 use lib.Dec.{eqb}
 use lib.ListN.{length, get_or}
+use Rattle.std.specs.Prelude.{None, Some}
 use Rattle.lists.specs.Tests.{◌among◌, keep, gather}
 use Rattle.lists.specs.Order.{◌≺◌}
 use Rattle.lists.proofs.Deciding.{eqb_decides, and_decides, test_decides, keep_decides}
@@ -22,6 +23,10 @@ use Rattle.orderings.specs.Decide.{step, steps_in}
 use Rattle.orderings.proofs.Deciding.{steps_allowed, inside_iff}
 use Rattle.orderings.proofs.Steps.{Runs}
 use Rattle.orderings.proofs.Struck.{step_unstruck}
+use Rattle.machine.specs.declared.StepLabel.{StepLabel}
+use Rattle.machine.specs.declared.StepLabel.TheVariants.{Letter, Omega, Back, Mix}
+use Rattle.machine.specs.declared.Step as Coded
+use Rattle.machine.specs.Labels.{label_of, step_from}
 use Rattle.machine.specs.Order.{kind, value, step_key, Found, Foremost}
 use Rattle.machine.proofs.Nearest.{split_three}
 use Rattle.search.specs.declared.Claims.{Claims}
@@ -29,10 +34,8 @@ use Rattle.search.specs.Graph.{Graph, TurnedGraph}
 use Rattle.search.specs.Hops.{InnerClaims}
 use Rattle.search.specs.Promises.{Stands}
 use Rattle.row_table.specs.Letters.{LettersIn}
-use Rattle.walks.specs.declared.Choice.TheVariants.{Taken}
-use Rattle.walks.specs.declared.Course.TheVariants.{From, Nowhere}
-use Rattle.walks.specs.Layers.{Ahead, Layered, Lays}
-use Rattle.walks.specs.Choices.{named, Way, Chooses}
+use Rattle.walks.specs.Layers.{Ahead, Layered, LaidFrom, Lays}
+use Rattle.walks.specs.Choices.{Way, Chooses}
 use Rattle.walks.specs.Walks.{Courses, Descends}
 use Rattle.walks.proofs.Standing.{Can, Free, way_can, can_way, can_ahead, ahead_can}
 use Rattle.walks.proofs.Descending.{descends_more}
@@ -49,9 +52,15 @@ module _ (rows : List Row) (claims : List Claim) (p : ℕ) where
       let h = (steps_allowed rows claims (t ∷ [])).0 r.0 in
       (h.0, h.1, r.1.0)
 
+abbrev made : Label → StepLabel
+made (letter x) = Letter x
+made (ω x) = Omega x
+made (back x) = Back x
+made (mix x) = Mix x
+
 -- the step with a label is the one that is taken
 taken : (layer : ℕ) (W : Label → ℕ → Type 0) (Ordered : Type 0) (l : Label) (t : ℕ) → W l t → t ∈ layer
-    → (Ordered → (l' : Label) (u : ℕ) → W l' u → u ∈ layer → ¬ ((kind l' ∷ value l' ∷ u ∷ []) ≺ (kind l ∷ value l ∷ t ∷ []))) → Chooses layer W Ordered (Taken (kind l) (value l) t)
+    → (Ordered → (l' : Label) (u : ℕ) → W l' u → u ∈ layer → ¬ ((kind l' ∷ value l' ∷ u ∷ []) ≺ (kind l ∷ value l ∷ t ∷ []))) → Chooses layer W Ordered (Some (record { label = made l; to = t }))
 taken layer W Ordered (letter x) t w m first = (w, m, first)
 taken layer W Ordered (ω x) t w m first = (w, m, first)
 taken layer W Ordered (back x) t w m first = (w, m, first)
@@ -81,7 +90,7 @@ module _ {g back : Graph} (turned : TurnedGraph g back) {all force : Claims} {ro
   others a b t w r = (r.0.1, r.1.2, r.2.1)
 
   -- a set with the ends that no step enters, and no step from one of the starts
-  pub lay_none : (starts ends : ℕ) (layers : List ℕ) → Lays E starts ends layers Nowhere → (f : Found) → ¬ Courses rows claims p starts ends f
+  pub lay_none : (starts ends : ℕ) (layers : List ℕ) → Lays E starts ends layers None → (f : Found) → ¬ Courses rows claims p starts ends f
   lay_none starts ends layers (seen, base, closed, unmet) f c = meets f.walk c.4 (c.1.2, c.3, c.2)
     where
       inside : (w : Walk) (a b : ℕ) → b ∈ ends → Inner a w b → a ∈ seen
@@ -125,7 +134,7 @@ module _ {g back : Graph} (turned : TurnedGraph g back) {all force : Claims} {ro
     at_free (suc i) a (t, e, m) = let c = ahead_can turned is count letters inner a t e in (e.end, (step_unstruck rows a c.0 t c.1.0).0)
 
     -- of the steps into the layer below, one is the first
-    first_into : (i a : ℕ) → i ≤ d → At (suc i) a → (kind : ℕ) × (value : ℕ) × (to : ℕ) × Chooses (get_or layers i 0) (W a) Ordered (Taken kind value to)
+    first_into : (i a : ℕ) → i ≤ d → At (suc i) a → (t : Coded.Step) × Chooses (get_or layers i 0) (W a) Ordered (Some t)
     first_into i a h (t, e, m) =
         let layer = get_or layers i 0 in
         let into : (s : Step) → s among keep (λ (s : Step). eqb s.from a && member s.to layer) (steps_in rows claims p) ↔ (s among steps_in rows claims p × ((s.from ≡ a) × (s.to ∈ layer))) =
@@ -134,9 +143,7 @@ module _ {g back : Graph} (turned : TurnedGraph g back) {all force : Claims} {ro
         let r = least_of step_key _ (step a c.0 t) ((into (step a c.0 t)).1 (listed rows claims p a c.0 t c.1, (refl, m))) in
         let z = (into r.0).0 r.1 in
         let can : Can rows claims p a r.0.label r.0.to = subst (λ (x : ℕ). Can rows claims p x r.0.label r.0.to) z.1.0 (listed_can rows claims p r.0 z.0) in (
-          kind r.0.label,
-          value r.0.label,
-          r.0.to,
+          record { label = made r.0.label; to = r.0.to },
           taken layer (W a) Ordered r.0.label r.0.to (can_way turned is count letters inner a r.0.label r.0.to can) z.1.1
               (λ o l u w q. r.2 (step a l u) ((into (step a l u)).1
               (listed rows claims p a l u (way_can turned is count letters inner a l u (at_free (suc i) a (t, e, m)) (at_free i u (at_in i u h q)) w), (refl, q)))),
@@ -147,17 +154,17 @@ module _ {g back : Graph} (turned : TurnedGraph g back) {all force : Claims} {ro
     falls zero a h m = ([], refl)
     falls (suc i) a h m =
         let c = first_into i a (omega arith) m in
-        let r = falls i c.2 (omega arith) (at_in i c.2 (omega arith) c.3.1) in
-        (step a (named c.0 c.1) c.2 ∷ r.0, descends_more W Ordered layers a i c.0 c.1 c.2 r.0 c.3 r.1)
+        let r = falls i c.0.to (omega arith) (at_in i c.0.to (omega arith) c.1.1) in
+        (step_from a c.0 ∷ r.0, descends_more W Ordered layers a i c.0 r.0 c.1 r.1)
 
     -- what goes down leads to an end
     leads : (i a : ℕ) (w : Walk) → i ≤ suc d → At i a → Descends W Ordered layers a i w → (b : ℕ) × (b ∈ ends) × Inner a w b × (length w ≡ i)
     unfolding Descends
     leads zero a w h m e = (a, subst (λ (x : ℕ). a ∈ x) lay.base m, rw e (refl, tt, tt), rw e refl)
-    leads (suc i) a w h m (kind', value', to, v, e, c, rest) =
-        let there = at_in i to (omega arith) c.1 in
-        let r = leads i to v (omega arith) there rest in
-        let can = way_can turned is count letters inner a (named kind' value') to (at_free (suc i) a m) (at_free i to there) c.0 in
+    leads (suc i) a w h m (t, v, e, c, rest) =
+        let there = at_in i t.to (omega arith) c.1 in
+        let r = leads i t.to v (omega arith) there rest in
+        let can = way_can turned is count letters inner a (label_of t.label) t.to (at_free (suc i) a m) (at_free i t.to there) c.0 in
         (r.0, r.1, rw e ((refl, r.2.0), (can.0, can.1, r.2.1), (can.2, r.2.2)), rw e (ap suc r.3))
 
     -- and no walk of as many steps comes before it
@@ -167,17 +174,17 @@ module _ {g back : Graph} (turned : TurnedGraph g back) {all force : Claims} {ro
     least zero a w h far e [] b m r l q = ≺_irreflexive [] (rw e at q)
     least zero a w h far e (t ∷ v) b m r l q = absurd (omega arith)
     least (suc i) a w h far c [] b m r l q = absurd (omega arith)
-    least (suc i) a w h far (kind', value', to, u, e, c, rest) (t ∷ v) b m r l q =
-        let y = named kind' value' in
+    least (suc i) a w h far (s, u, e, c, rest) (t ∷ v) b m r l q =
+        let y = label_of s.label in
         let low = down v t.to b m (others a b t v r) (omega arith) in
         let there : t.to ∈ get_or layers i 0 = ⊎_elim (λ (g : low.0 < i). absurd (far low.0 t.to (omega arith) (first_edge a b t v r) low.2))
         (λ (g : i ≤ low.0). let z : low.0 ≡ i = omega (arith, low.1) in subst (λ (x : ℕ). t.to ∈ get_or layers x 0) z low.2) (lt_or_le low.0 i) in
         ⊎_elim
         (c.2 ordered t.label t.to (can_way turned is count letters inner a t.label t.to (first_can a b t v r)) there)
-        (λ s. least i to u (omega arith) (far_in i to (omega arith) c.1) rest v b m (subst (λ (x : ℕ). Inner x v b) s.0 (others a b t v r)) (omega arith) s.1)
-        (split_three (kind t.label) (value t.label) t.to (kind y) (value y) to (gather step_key v) (gather step_key u) (rw e at q))
+        (λ n. least i s.to u (omega arith) (far_in i s.to (omega arith) c.1) rest v b m (subst (λ (x : ℕ). Inner x v b) n.0 (others a b t v r)) (omega arith) n.1)
+        (split_three (kind t.label) (value t.label) t.to (kind y) (value y) s.to (gather step_key v) (gather step_key u) (rw e at q))
 
-  module _ (starts ends : ℕ) (layers : List ℕ) (start steps : ℕ) (laid : Lays E starts ends layers (From start steps)) (free : (s : ℕ) → s ∈ ends → Free rows p s) where
+  module _ (starts ends : ℕ) (layers : List ℕ) (start steps : ℕ) (laid : LaidFrom E starts ends layers start steps) (free : (s : ℕ) → s ∈ ends → Free rows p s) where
     abbrev d : ℕ
     d = steps - 1
 

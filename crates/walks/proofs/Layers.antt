@@ -14,8 +14,8 @@ use Rattle.masks.proofs.Count.{ones_grows}
 use Rattle.masks.proofs.Member.{lt_or_le, true_or_false, not_both, member_lt, in_none, intersection_left, intersection_right, intersection_both, union_left, union_right, union_cases, difference_left, difference_not, difference_cases, none}
 use Rattle.search.specs.Hops.{Onward, all_mask}
 use Rattle.search.proofs.Accepting.{has_all}
-use Rattle.walks.specs.declared.Course.TheVariants.{From, Nowhere}
-use Rattle.walks.specs.Layers.{Layered, Unmet, Lays}
+use Rattle.std.specs.Prelude.{None}
+use Rattle.walks.specs.Layers.{Layered, Unmet, LaidFrom, Lays}
 
 -- below the next number: below this one, or this one
 upto : (j k : ℕ) → j < suc k → (j < k) ⊎ (j ≡ k)
@@ -73,7 +73,7 @@ module _ {E : ℕ → ℕ → Type 0} {starts ends : ℕ} (layers : List ℕ) (k
       omega (arith, ones-le 64 all_mask (lit< tt))
 
   -- the lowest of the starts that have a step to the last layer
-  pub laying_met : (start : ℕ) → start ∈ met → ((s : ℕ) → s ∈ met → start ≤ s) → seen < 2 ^ 64 → k < ones seen → Lays E starts ends layers (From start (k + 1))
+  pub laying_met : (start : ℕ) → start ∈ met → ((s : ℕ) → s ∈ met → start ≤ s) → seen < 2 ^ 64 → k < ones seen → LaidFrom E starts ends layers start (k + 1)
   laying_met start h low fits count =
       let z : (k + 1) - 1 ≡ k = omega arith in
       let m = intersection_right near starts met is_met start h in
@@ -107,7 +107,7 @@ module _ {E : ℕ → ℕ → Type 0} {starts ends : ℕ} (layers : List ℕ) (k
         (upto j k h)
 
     -- where there is none, no step enters what is seen
-    pub laying_end : (all : List ℕ) → next ≡ 0 → Lays E starts ends all Nowhere
+    pub laying_end : (all : List ℕ) → next ≡ 0 → Lays E starts ends all None
     laying_end all z = (
       seen,
       (λ s h. now.in_seen 0 s (omega arith) (subst (λ (x : ℕ). s ∈ x) (sym now.is.base) h)),

@@ -1,7 +1,7 @@
 -- Arrays that stand for rows and claims: their order (`sets_rise_in`), keys as words of letter rows (`keyed_letters`), and the steps
 -- inside a set that they have (`way_can`, `can_way`, `can_ahead`, `ahead_can`).
 use Prim.Native.Nat.{ℕ, ◌<◌}
-use mathlib.Core.Path.{◌≡◌, refl, sym, subst, ◌∙◌}
+use mathlib.Core.Path.{◌≡◌, refl, ap, sym, subst, ◌∙◌}
 use mathlib.Core.Logic.{⊎_elim, ◌↔◌}
 use mathlib.Core.List.Memᴰ
 use mathlib.Core.List.{List, [], ◌∷◌, map}
@@ -9,8 +9,10 @@ use native.Mathlib.Omega.{arith}
 use lib.ListN.{length, get_or, length-map}
 use Rattle.lists.specs.Tests.{◌among◌}
 use Rattle.lists.proofs.Deciding.{map_in}
-use Rattle.lists.proofs.Places.{get_or_among, place_of, held_at}
+use Rattle.lists.proofs.Places.{get_or_among, get_or_map, place_of}
 use Rattle.masks.specs.Mask.{◌∈◌, ◌⊆◌}
+use Rattle.sorted_keys.specs.declared.Key.{Key}
+use Rattle.sorted_keys.specs.Keys.{key_at}
 use Rattle.rows.specs.declared.Row.{Row}
 use Rattle.rows.specs.declared.Row.TheVariants.{Successor, LeftLimit, RightLimit}
 use Rattle.rows.specs.Rows.{SetOf, standing_sets}
@@ -30,7 +32,7 @@ use Rattle.search.proofs.Hops.{hop_back, hop_turn}
 use Rattle.search.proofs.Steps.{mix_rows, set_in, and_in, hop_step, step_hop}
 use Rattle.row_table.specs.Arrays.{Keyed}
 use Rattle.row_table.specs.Letters.{LetterAt, LettersIn}
-use Rattle.row_table.proofs.Keys.{none, row_at}
+use Rattle.row_table.proofs.Keys.{none, held_key, row_there}
 use Rattle.walks.specs.Layers.{Ahead}
 use Rattle.walks.specs.Choices.{Way, SetsRise}
 
@@ -46,19 +48,21 @@ both_unstruck : (rows : List Row) (a t : ℕ) → ¬ Struck rows a → ¬ Struck
 both_unstruck rows a t f g s m = ⊎_elim (λ e. subst (λ (x : ℕ). ¬ Struck rows x) (sym e) f)
     (λ k. subst (λ (x : ℕ). ¬ Struck rows x) (sym (Memᴰ.eq_of_singleton k)) g) (Memᴰ.cases_cons m)
 
--- the keys of rows are words of their letter rows
-pub keyed_letters : {rows : List Row} {highs lows : List ℕ} {n : ℕ} → Keyed rows highs lows n → Table rows → LettersIn rows highs n
-keyed_letters {rows} {highs} {lows} {n} keyed table = record { letter_iff = λ a x t. (to a x t, of a x t) }
+-- the first words of the keys of rows are words of their letter rows
+pub keyed_letters : {rows : List Row} {keys : List Key} {words : List ℕ} {n : ℕ} → Keyed rows keys n → Table rows → ((j : ℕ) → j < n → get_or words j 0 ≡ (key_at keys j).high) → LettersIn rows words n
+keyed_letters {rows} {keys} {words} {n} keyed table high_at = record { letter_iff = λ a x t. (to a x t, of a x t) }
   where
-    to : (a x t : ℕ) → LetterAt highs n a x t → Successor a x t among rows
-    to a x t (j, hj, e) = let r = (row_at rows highs lows n keyed table j hj).0 in
-        subst (λ (y : Row). y among rows) (sym r ∙ letter_low (get_or highs j 0) (get_or lows j 0) e) (get_or_among rows j none (omega (arith, keyed.count)))
+    to : (a x t : ℕ) → LetterAt words n a x t → Successor a x t among rows
+    to a x t (j, hj, e) = let r = row_there rows keys n keyed table.fit j hj in
+        subst (λ (y : Row). y among rows) (sym r ∙ letter_low (key_at keys j).high (key_at keys j).low (rw (high_at j hj) at e)) (get_or_among rows j none (omega (arith, keyed.count)))
 
-    of : (a x t : ℕ) → Successor a x t among rows → LetterAt highs n a x t
+    of : (a x t : ℕ) → Successor a x t among rows → LetterAt words n a x t
     of a x t m =
         let r = place_of (map high rows) (high (Successor a x t)) (map_in high m) in
-        let l : r.0 < n = omega (arith, r.1, length-map rows high, keyed.count) in
-        (r.0, l, rw (held_at n highs (map high rows) keyed.highs_are r.0 0 l ∙ r.2) (letter_back a x t (table.fit (Successor a x t) m)))
+        let long : r.0 < length rows = omega (arith, r.1, length-map rows high) in
+        let l : r.0 < n = omega (arith, keyed.count) in
+        let e : get_or words r.0 0 ≡ high (Successor a x t) = high_at r.0 l ∙ ap (λ (k : Key). k.high) (held_key rows keys n keyed r.0 l) ∙ sym (get_or_map high rows r.0 none 0 long) ∙ r.2 in
+        (r.0, l, rw e (letter_back a x t (table.fit (Successor a x t) m)))
 
 -- the arrays have all claims of the list; the claims in force are those about parts of p
 module _ {g b : Graph} (turned : TurnedGraph g b) {all force : Claims} {rows : List Row} {claims : List Claim} {k : ℕ}

@@ -1,11 +1,10 @@
 -- States by their distance from some ends, counted in steps, and where a walk of one or more steps to them starts.
-use Rattle.std.specs.Prelude.{ℕ, suc, ◌-◌, ◌≤◌, ◌<◌, ◌≡◌, ◌⊎◌, List, get_or}
+use Rattle.std.specs.Prelude.{ℕ, suc, ◌-◌, ◌≤◌, ◌<◌, ◌≡◌, ◌⊎◌, List, get_or, Option, None, Some}
 use Rattle.masks.specs.Mask.{◌∈◌, ◌⊆◌}
 use Rattle.search.specs.declared.Claims.{Claims}
 use Rattle.search.specs.Graph.{Graph}
 use Rattle.search.specs.Hops.{Hop}
-use Rattle.walks.specs.declared.Course.{Course}
-use Rattle.walks.specs.declared.Course.TheVariants.{From, Nowhere}
+use Rattle.walks.specs.declared.found.Leg.{Leg}
 
 -- a step inside p from s to t, as the graph turned round has it
 abbrev pub Ahead : Graph → Claims → ℕ → ℕ → ℕ → Type 0
@@ -38,6 +37,6 @@ pub record LaidFrom (E : ℕ → ℕ → Type 0) (starts ends : ℕ) (layers : L
   pub lowest : (s t : ℕ) → s ∈ starts → E s t → t ∈ get_or layers (steps - 1) 0 → start ≤ s
 
 -- or a set with the ends that no step enters, and no step from one of the starts
-abbrev pub Lays : (ℕ → ℕ → Type 0) → ℕ → ℕ → List ℕ → Course → Type 0
-Lays E starts ends layers (From start steps) = LaidFrom E starts ends layers start steps
-Lays E starts ends layers Nowhere = (seen : ℕ) × (ends ⊆ seen) × ((s t : ℕ) → E s t → t ∈ seen → s ∈ seen) × ((s t : ℕ) → s ∈ starts → E s t → t ∈ seen → ⊥)
+abbrev pub Lays : (ℕ → ℕ → Type 0) → ℕ → ℕ → List ℕ → Option Leg → Type 0
+Lays E starts ends layers (Some leg) = LaidFrom E starts ends layers leg.start leg.steps
+Lays E starts ends layers None = (seen : ℕ) × (ends ⊆ seen) × ((s t : ℕ) → E s t → t ∈ seen → s ∈ seen) × ((s t : ℕ) → s ∈ starts → E s t → t ∈ seen → ⊥)

@@ -1,6 +1,7 @@
 -- The masks of a table that arrays hold.
 use Prim.Native.Nat.{ℕ}
 use mathlib.Core.List.{List}
+use Rattle.sorted_keys.specs.declared.Key.{Key}
 use Rattle.rows.specs.declared.Row.{Row}
 use Rattle.machine.specs.WellFormed.{Table}
 use Rattle.row_table.specs.Arrays.{SetsIn, Filed}
@@ -13,7 +14,7 @@ use Rattle.rounds.specs.Promises.{Given}
 
 module _ {rows : List Row} (t : Table rows) {sets : List ℕ} {k : ℕ} {a : Automaton} where
   -- from its keys
-  pub gives_filed : {highs lows : List ℕ} {n : ℕ} → Filed highs lows sets n k rows → GivesKeyed highs lows n sets k a → Gives rows sets k a
+  pub gives_filed : {keys : List Key} {n : ℕ} → Filed keys sets n k rows → GivesKeyed keys n sets k a → Gives rows sets k a
   gives_filed f g = g rows t.fit f.0 f.1.count (sets_in_held rows sets k f.1)
 
   -- as the rounds are given them

@@ -1,217 +1,151 @@
-// The sheet of a settled automaton, written from its keys, its sets, its masks and its rounds into a lent buffer; in `saved`, its rows.
+// The sheet of a settled automaton, written from its letter rows, its graph and its rounds into a lent buffer; in `saved`, its rows.
 #![tactic(auto)]
 
 pub mod saved;
+pub mod told;
 
-ghost use Rattle.std.specs.Prelude.{◌≡◌, ◌≤◌, ◌+◌, length};
-ghost use Rattle.std.proofs.Math.Option.{some};
-ghost use Rattle.lists.specs.Tests.{gather, Decides};
-ghost use Rattle.lists.specs.Writing.{Wrote, WroteAt};
-ghost use Rattle.machine.specs.declared.Verdict.TheVariants.{Empty};
-ghost use Rattle.machine.specs.Sheet.{opening_line, walk_lines};
-ghost use Rattle.machine.specs.Calls.{TellsText};
-ghost use Rattle.search.specs.Graph.{graph_of, BothWays};
-ghost use Rattle.automaton.specs.Promise.{automaton_of};
-ghost use Rattle.walks.specs.Walks.{as_found, Bounded};
-ghost use Rattle.sheet_parts.specs.Openings.{openings_in};
-ghost use Rattle.whole_sheet.specs.Text.{head_text, walked_text};
+ghost use Rattle.std.specs.Prelude.{◌≡◌, ◌⊎◌, ◌≤◌, ◌<◌, length, None};
+ghost use Rattle.std.specs.Option.{option_copied};
+ghost use Rattle.machine.specs.declared.Verdict.TheVariants.{NonEmpty};
+ghost use Rattle.machine.specs.Sheet.{verdict_line};
+ghost use Rattle.sheet_lines.specs.Lines.{line_text};
+ghost use Rattle.sheet_parts.specs.Lines.{walk_text};
+ghost use Rattle.whole_sheet.specs.Text.{sheet_text};
 ghost use Rattle.whole_sheet.specs.Promise.{FindsWalk, PrintsSheet, PrintsVain};
 
-use machine::{Answer, LONGEST_SHEET, MOST_ROWS, MOST_SETS, Verdict};
-use masks::Set;
+use machine::{Answer, MOST_ROWS, Verdict};
 use rounds::Progress;
-use search::Claims;
-use search::graphs::{LEFTS, Masks, SETS};
+use search::{Claims, Endpoints, TwoWayGraph};
+use sheet_lines::Line;
+use sheet_parts::{OpeningLines, WalkLines};
+use texts::Written;
+use told::Told;
 use walks::FoundWalk;
 
-// Writes the lines of the openings from `at` on, and returns the next place.
-fn openings_at(
-    buf: &mut [u8],
-    at: usize,
-    looped: &[u8; MOST_SETS],
-    mixed: &[u8; MOST_SETS],
-    sets: &[Set],
-    set_count: usize,
-    count: u8,
-) -> usize
-    requires { (set_count ≤ 64) × (64 ≤ length sets.now)
-        × (at + length (gather opening_line (openings_in looped.now mixed.now sets.now set_count count))
-        ≤ length buf.old) }
-    ensures { WroteAt
-        (gather opening_line
-        (openings_in looped.now mixed.now sets.now set_count count))
-        buf.old buf.new at result }
-{
-    at + sheet_parts::put_openings(&mut buf[at..], looped, mixed, sets, set_count, count)
+// No lines of openings are longer.
+const LONGEST_OPENINGS: usize = 3968;
+
+// The lines of the verdict, of the openings and of the walk, if there is one.
+#[derive(Clone, Copy)]
+struct Sheet<'a, 'w> {
+    verdict: Verdict,
+    openings: OpeningLines<'a>,
+    walk: Option<&'w FoundWalk>,
 }
 
-// Writes the lines of a walk from `at` on, and returns the next place.
-fn walk_at(buf: &mut [u8], at: usize, walk: FoundWalk) -> usize
-    requires { Bounded walk × (at + length (walk_lines (some (as_found walk))) ≤ length buf.old) }
-    ensures { WroteAt (walk_lines (some (as_found walk))) buf.old buf.new at result }
-{
-    at + sheet_parts::put_walk(&mut buf[at..], walk)
-}
-
-// How long the lines of the verdict and of the openings are.
-fn head_len(v: Verdict, sets: &[Set], set_count: usize, rounds: Progress) -> usize
-    requires { (set_count ≤ 64) × (64 ≤ length sets.now) }
-    ensures { (result ≡ length (head_text v sets.now set_count rounds)) × (result ≤ 3996) }
-{
-    let looped = rounds.loop_rounds;
-    let mixed = rounds.mix_rounds;
-    let count = rounds.rounds;
-    let first = sheet_lines::verdict_line_len(v, count as u64);
-    first + sheet_parts::openings_len(&looped, &mixed, sets, set_count, count)
-}
-
-// Has a buffer of this size room for these lines? No sheet is longer than 6,400 bytes: so much room is not measured.
-fn head_fits(size: usize, v: Verdict, sets: &[Set], set_count: usize, rounds: Progress) -> bool
-    requires { (set_count ≤ 64) × (64 ≤ length sets.now) }
-    ensures { Decides result (length (head_text v sets.now set_count rounds) ≤ size) }
-{
-    if LONGEST_SHEET <= size {
-        return true;
+impl<'a, 'w> Sheet<'a, 'w> {
+    // The line of the verdict.
+    fn line(&self) -> Line
+        ensures text { line_text result ≡ verdict_line self.now.verdict self.now.openings.progress.now.rounds }
+        ensures byte { self.now.openings.progress.now.rounds < 256 }
+    {
+        Line::Verdict(self.verdict, self.openings.progress.rounds as u64)
     }
-    head_len(v, sets, set_count, rounds) <= size
-}
 
-// The same with the lines of a walk.
-fn walked_fits(
-    size: usize,
-    sets: &[Set],
-    set_count: usize,
-    rounds: Progress,
-    walk: FoundWalk,
-) -> bool
-    requires { (set_count ≤ 64) × (64 ≤ length sets.now) × Bounded walk }
-    ensures { Decides result (length (walked_text sets.now set_count rounds walk) ≤ size) }
-{
-    if LONGEST_SHEET <= size {
-        return true;
+    // How long the lines of the walk are.
+    fn walk_len(&self) -> usize
+        ensures { (result ≡ length (walk_text (option_copied self.now.walk))) × (result ≤ 2400) }
+    {
+        match self.walk {
+            Some(walk) => WalkLines(walk).len(),
+            None => 0,
+        }
     }
-    let head = head_len(Verdict::NonEmpty, sets, set_count, rounds);
-    head + sheet_parts::walk_len(walk) <= size
 }
 
-// Writes the lines of the verdict and of the openings.
-fn put_head(
-    buffer: &mut [u8],
-    v: Verdict,
-    sets: &[Set],
-    set_count: usize,
-    rounds: Progress,
-) -> usize
-    requires { (set_count ≤ 64) × (64 ≤ length sets.now)
-        × (length (head_text v sets.now set_count rounds) ≤ length buffer.old) }
-    ensures { Wrote (head_text v sets.now set_count rounds)
-        buffer.old buffer.new result }
-{
-    let looped = rounds.loop_rounds;
-    let mixed = rounds.mix_rounds;
-    let count = rounds.rounds;
-    let at = sheet_lines::put_verdict_line(buffer, v, count as u64);
-    openings_at(buffer, at, &looped, &mixed, sets, set_count, count)
+impl<'a, 'w> Written for Sheet<'a, 'w> {
+    ghost text_of = { λ s. sheet_text s.verdict
+        s.openings.progress.now s.openings.sets.now s.openings.set_count (option_copied s.walk) };
+
+    fn put(&self, buf: &mut [u8]) -> usize {
+        let at = (self.line(), self.openings).put(buf);
+        match self.walk {
+            Some(walk) => WalkLines(walk).put_at(buf, at),
+            None => at,
+        }
+    }
 }
 
-// The first of the shortest walks from an initial to a final state, with the claims that are open.
-fn first_walk(
+impl<'a, 'w> Told for Sheet<'a, 'w> {
+    // Where there is room for the longest openings, they are not measured.
+    fn fits(&self, size: usize) -> bool {
+        let others = self.line().len() + self.walk_len();
+        LONGEST_OPENINGS + others <= size || self.openings.len() + others <= size
+    }
+}
+
+// The walk of the sheet: of a non-empty automaton the first of the shortest from an initial to a final state, with the claims that are open.
+fn last_walk(
+    verdict: Verdict,
     words: &[u64; MOST_ROWS],
     count: usize,
     set_count: usize,
-    graph: &Masks,
-    back: &Masks,
-    initials: Set,
-    finals: Set,
-    rounds: Progress,
-) -> FoundWalk
-    requires { (count ≤ 256) × (set_count ≤ 64) × BothWays graph.now back.now }
-    ensures bounded { Bounded result }
-    ensures finds { FindsWalk words.now count set_count
-        (automaton_of graph.now initials finals) rounds result }
+    graph: &TwoWayGraph,
+    points: Endpoints,
+    progress: &Progress,
+) -> Option<FoundWalk>
+    requires { (count ≤ 256) × (set_count ≤ 64) }
+    ensures { FindsWalk verdict words.now count set_count graph.now points progress.now result }
 {
-    let looped = rounds.loop_rounds;
-    let mixed = rounds.mix_rounds;
-    let loops = rounds::open_mask(&looped, set_count);
-    let mixes = rounds::open_mask(&mixed, set_count);
-    let force = Claims { loops, mixes };
-    walks::first_walk(words, count, back, force, initials, finals)
+    match verdict {
+        Verdict::Empty => None,
+        Verdict::NonEmpty => {
+            let force = Claims {
+                loops: rounds::open_mask(&progress.loop_rounds, set_count),
+                mixes: rounds::open_mask(&progress.mix_rounds, set_count),
+            };
+            walks::first_walk(words, count, graph.back(), force, points)
+        }
+    }
 }
 
-// The sheet of an empty automaton: the verdict and the openings.
-fn print_empty(buffer: &mut [u8], graph: &[Set], set_count: usize, rounds: Progress) -> Answer
-    requires { (set_count ≤ 64) × (448 ≤ length graph.now) }
-    ensures { TellsText (head_text Empty (graph_of graph.now).sets set_count rounds)
-        buffer.old buffer.new result }
+// The walk that the sheet tells. Calls make no record that is non-empty without a walk; one that is tells the walk of no steps from 0.
+fn told_walk(verdict: Verdict, found: Option<FoundWalk>) -> Option<FoundWalk>
+    ensures { (result ≡ found) ⊎ ((verdict ≡ NonEmpty) × (found ≡ None)) }
 {
-    let sets = &graph[SETS..LEFTS];
-    let fits = head_fits(buffer.len(), Verdict::Empty, sets, set_count, rounds);
-    if !fits {
-        return Answer::Refused(12, 0);
+    match found {
+        Some(walk) => Some(walk),
+        None => match verdict {
+            Verdict::Empty => None,
+            Verdict::NonEmpty => Some(FoundWalk::staying(0)),
+        },
     }
-    let wrote = put_head(buffer, Verdict::Empty, sets, set_count, rounds);
-    Answer::Wrote(wrote)
 }
 
 // The sheet of one that a first round settled as empty, which opened nothing: the verdict alone.
 pub fn print_vain(buffer: &mut [u8]) -> Answer
     ensures { PrintsVain buffer.old buffer.new result }
 {
-    let len = sheet_lines::verdict_line_len(Verdict::Empty, 1);
-    if buffer.len() < len {
-        return Answer::Refused(12, 0);
-    }
-    let wrote = sheet_lines::put_verdict_line(buffer, Verdict::Empty, 1);
-    Answer::Wrote(wrote)
-}
-
-// The sheet of a non-empty one: the verdict, the openings and the walk.
-fn print_nonempty(
-    buffer: &mut [u8],
-    graph: &[Set],
-    set_count: usize,
-    rounds: Progress,
-    walk: FoundWalk,
-) -> Answer
-    requires { (set_count ≤ 64) × (448 ≤ length graph.now) × Bounded walk }
-    ensures { TellsText (walked_text (graph_of graph.now).sets set_count rounds walk)
-        buffer.old buffer.new result }
-{
-    let sets = &graph[SETS..LEFTS];
-    let fits = walked_fits(buffer.len(), sets, set_count, rounds, walk);
-    if !fits {
-        return Answer::Refused(12, 0);
-    }
-    let at = put_head(buffer, Verdict::NonEmpty, sets, set_count, rounds);
-    let wrote = walk_at(buffer, at, walk);
-    Answer::Wrote(wrote)
+    Line::Verdict(Verdict::Empty, 1).tell(buffer)
 }
 
 // The sheet of the automaton, settled with the verdict, into the buffer; nothing where the buffer is too short. The letter rows are among the
-// first `count` words, in any order. `back` is the graph turned round.
-pub fn print(
+// first `count` words, in any order.
+pub fn print<'x>(
     buffer: &mut [u8],
     verdict: Verdict,
     words: &[u64; MOST_ROWS],
     count: usize,
     set_count: usize,
-    graph: &Masks,
-    back: &Masks,
-    initials: Set,
-    finals: Set,
-    rounds: Progress,
+    graph: &TwoWayGraph<'x>,
+    points: Endpoints,
+    progress: &'x Progress,
 ) -> Answer
-    requires { (count ≤ 256) × (set_count ≤ 64) × BothWays graph.now back.now }
-    ensures { PrintsSheet verdict words.now count set_count
-        (automaton_of graph.now initials finals) rounds buffer.old buffer.new result }
+    requires { (count ≤ 256) × (set_count ≤ 64) }
+    ensures { PrintsSheet verdict words.now count set_count graph.now points progress.now buffer.old buffer.new result }
 {
-    match verdict {
-        Verdict::NonEmpty => {
-            let walk = first_walk(
-                words, count, set_count, graph, back, initials, finals, rounds,
-            );
-            print_nonempty(buffer, graph, set_count, rounds, walk)
-        }
-        Verdict::Empty => print_empty(buffer, graph, set_count, rounds),
-    }
+    let found = last_walk(verdict, words, count, set_count, graph, points, progress);
+    let told = told_walk(verdict, found);
+    let walk = told.as_ref();
+    let openings = OpeningLines {
+        progress,
+        sets: graph.forth().sets(),
+        set_count,
+    };
+    let sheet = Sheet {
+        verdict,
+        openings,
+        walk,
+    };
+    sheet.tell(buffer)
 }

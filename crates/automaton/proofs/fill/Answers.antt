@@ -1,60 +1,47 @@
--- `fill` meets its contract. The loop's invariant: where the graph had the sets and nothing else, the masks are those of the rows below i.
-use mathlib.Core.Path.{◌≡◌, refl, sym, ◌∙◌}
-use mathlib.Core.Logic.{inl, inr}
+-- `fill` meets its contract. The loop's invariant: where the graph had the sets and nothing else, the masks are those of the rows before the key.
+use Prim.Native.Nat.{◌≤◌, ◌<◌}
+use mathlib.Core.Path.{◌≡◌, ap, subst, ◌∙◌}
 use native.Mathlib.Omega.{arith}
-use native.Mathlib.Numerals.{add-one}
-use lib.ListN.{take, get_or}
-use lib.Seq.{take-suc, take_all}
-use Rattle.rows.specs.declared.Row.TheVariants.{Initial}
+use lib.ListN.{length, take, length-take, length-map}
+use lib.Seq.{take-take, take_all, length-take-le}
+use Rattle.std.proofs.lemmas.List.{get_or-take}
+use Rattle.sorted_keys.specs.declared.Key.{Key}
+use Rattle.sorted_keys.specs.Keys.{key_at}
+use Rattle.rows.specs.Keys.{key_of, row_of}
 use Rattle.rows.proofs.Sets.{sets_rise}
-use Rattle.row_table.proofs.Keys.{row_there}
-use Rattle.automaton.proofs.Passing.{grown_last, none_passed, pass_initial, pass_final, pass_step, pass_left, pass_right, pass_strike, none_unindexed, letter_unindexed, limit_unindexed}
+use Rattle.search.specs.Graph.{Unindexed}
+use Rattle.row_table.proofs.Keys.{row_next}
+use Rattle.automaton.proofs.Passing.{none_passed, none_unindexed, passed_front}
 use Rattle.automaton.proofs.Giving.{finished, finished_indexed}
-use Rattle.automaton.proofs.fill.Goals.{in-Initial, in-Final, in-Successor, in-LeftLimit, in-RightLimit, in-Strike}
 use Rattle.automaton.proofs.fill.Goals as goal
 
-pub loop-i-init : goal.loop-i-init
-loop-i-init c = (omega arith, none_unindexed _ _ _ c.requires.1, λ has rows f key. none_passed _ _ _ _ c.requires.1 has)
+pub loop-key-init : goal.loop-key-init
+loop-key-init c has = let few : length (take c.args.sets.now.count c.args.sets.now.sets) ≤ 64 = let s = c.args.sets.now in omega (arith, length-take s.count s.sets, s.few) in record { bare = none_unindexed _ _ _ few has; passed = λ rows f key. none_passed _ _ _ _ few has }
 
-pub loop-i-preserved : goal.loop-i-preserved
-loop-i-preserved c =
-    let a = c.args in
-    let few = c.requires.1 in
-    let sets = a.sets.now in
-    let i = c.loop-i.i in (
-      omega arith,
-      λ has. let bare = c.loop-i.invariant.1 has in
-          elim c.match-row.branch [
-            | in-Initial w ↦ rw w.graph-is bare
-            | in-Final w ↦ rw w.graph-is bare
-            | in-Successor w ↦ rw w.graph-is (letter_unindexed bare w.put.ensures)
-            | in-LeftLimit w ↦ rw w.graph-is (limit_unindexed bare (inl refl) w.place.ensures.within w.put-in-LeftLimit.ensures)
-            | in-RightLimit w ↦ rw w.graph-is (limit_unindexed bare (inr refl) w.place-in-RightLimit.ensures.within w.put-in-RightLimit.ensures)
-            | in-Strike w ↦ rw w.graph-is bare
-          ],
-      λ has rows f key.
-          let x = get_or rows i (Initial 0) in
-          let p = c.loop-i.invariant.2 has rows f key in
-          let there : x ≡ c.row_of-row.result = sym (c.row_of-row.ensures ∙ row_there rows f a.high.now a.low.now a.row_count key i c.loop-i-test.true) in
-          let last = grown_last (take i rows) x in
-          rw (add-one i, take-suc rows i (Initial 0) (omega (arith, key.count)))
-          (elim c.match-row.branch [
-            | in-Initial w ↦ rw (w.graph-is, w.initials-is, w.finals-is, w.struck-is) (pass_initial _ sets a.set_count few p last (there ∙ w.in-Initial.is) w.add-initials.ensures)
-            | in-Final w ↦ rw (w.graph-is, w.initials-is, w.finals-is, w.struck-is) (pass_final _ sets a.set_count few p last (there ∙ w.in-Final.is) w.add-finals.ensures)
-            | in-Successor w ↦ rw (w.graph-is, w.initials-is, w.finals-is, w.struck-is) (pass_step _ sets a.set_count few p last (there ∙ w.in-Successor.is) w.put.ensures)
-            | in-LeftLimit w ↦ rw (w.graph-is, w.initials-is, w.finals-is, w.struck-is) (pass_left _ sets a.set_count few p last w.place.result (there ∙ w.in-LeftLimit.is) w.place.ensures.is w.put-in-LeftLimit.ensures)
-            | in-RightLimit w ↦ rw (w.graph-is, w.initials-is, w.finals-is, w.struck-is) (pass_right _ sets a.set_count few p last w.place-in-RightLimit.result (there ∙ w.in-RightLimit.is) w.place-in-RightLimit.ensures.is w.put-in-RightLimit.ensures)
-            | in-Strike w ↦ rw (w.graph-is, w.initials-is, w.finals-is, w.struck-is) (pass_strike _ sets a.set_count few p last (there ∙ w.in-Strike.is) w.add-struck.ensures)
-          ]),
-    )
-
-pub returns : goal.returns
-returns c =
-    let l = c.loop-i in
+pub loop-key-preserved : goal.loop-key-preserved
+loop-key-preserved c has =
+    let k = c.args.keys.now in
+    let i = c.loop-key.key-index in
+    let now = c.loop-key.invariant has in
+    let here : i < k.count = omega (arith, length-take k.count k.keys, c.loop-key-test.true) in
+    let row : c.of_key.result ≡ row_of (key_at k.keys i) = c.of_key.ensures ∙ ap (λ (x : Key). row_of x) (get_or-take k.count k.keys i _ here) in
     record {
-      gives = (λ e rows f key count are.
-          finished f count are c.requires.1 (l.invariant.1 (c.put_sets.ensures e)) (sets_rise rows c.args.sets.now c.args.set_count are count)
-          (rw (take_all l.i rows (omega (arith, key.count, c.loop-i-test.false))) at (l.invariant.2 (c.put_sets.ensures e) rows f key))
-          c.finish.ensures c.difference.ensures c.difference-2.ensures);
-      indexed = λ e. finished_indexed c.requires.1 (l.invariant.1 (c.put_sets.ensures e)) c.finish.ensures;
+      bare = c.take_row-seen.ensures.bare now.bare;
+      passed = λ rows f key. rw (row_next rows k.keys k.count key f i here, ← row) (c.take_row-seen.ensures.takes (take i rows) (now.passed rows f key));
     }
+
+pub returns-clause-gives : goal.returns-clause-gives
+returns-clause-gives c e rows f key count are =
+    let s = c.args.sets.now in
+    let k = c.args.keys.now in
+    let now = c.loop-key.invariant (c.put_sets.ensures e) in
+    let few : s.count ≤ length s.sets = omega arith in
+    let end : length rows ≤ c.loop-key.key-index = omega (arith, c.loop-key-test.false, ap length key.keys_are, length-map rows key_of) in
+    finished f count are (omega arith) (subst (Unindexed c.loop-key.graph) (length-take-le s.count s.sets few) now.bare)
+    (sets_rise rows (take s.count s.sets) s.count (take-take s.count s.count s.sets (omega arith) ∙ are) count)
+    (passed_front s.sets s.count few (rw (take_all c.loop-key.key-index rows end) at (now.passed rows f key)))
+    c.finish.ensures c.points.ensures.starts c.points.ensures.ends
+
+pub returns-clause-indexed : goal.returns-clause-indexed
+returns-clause-indexed c e = let s = c.args.sets.now in
+    finished_indexed (omega arith) (subst (Unindexed c.loop-key.graph) (length-take-le s.count s.sets (omega arith)) (c.loop-key.invariant (c.put_sets.ensures e)).bare) c.finish.ensures

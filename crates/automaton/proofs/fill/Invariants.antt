@@ -1,20 +1,16 @@
--- `fill` meets its contract. The loop's invariant: where the graph had the sets and nothing else, the masks are those of the rows below i.
-use Prim.Native.Nat.{◌-◌, ◌≤◌}
+-- `fill` meets its contract. The loop's invariant: where the graph had the sets and nothing else, the masks are those of the rows before the key.
 use mathlib.Core.List.{List}
-use lib.ListN.{take}
+use lib.ListN.{length, take}
 use Rattle.rows.specs.declared.Row.{Row}
 use Rattle.rows.specs.Rows.{AllFit}
-use Rattle.sorted_keys.specs.Keys.{Rising}
 use Rattle.search.specs.Graph.{Unindexed}
 use Rattle.row_table.specs.Arrays.{Keyed}
-use Rattle.automaton.specs.Passed.{Passed}
+use Rattle.automaton.specs.Passed.{SetsPassed}
 use Rattle.automaton.specs.Promise.{HasSets}
 use Rattle.automaton.proofs.fill.Given as goal
 
-abbrev pub invariant-loop-i : goal.invariant-loop-i
-invariant-loop-i l =
-    (l.i ≤ l.row_count) × (HasSets l.sets l.set_count l.initial.graph → Unindexed l.graph l.set_count)
-    × (HasSets l.sets l.set_count l.initial.graph → (rows : List Row) → AllFit rows → Keyed rows l.high l.low l.row_count → Passed (Rising l.sets l.set_count) l.sets l.set_count (take l.i rows) l.graph l.initials l.finals l.struck)
-
-abbrev pub decreases-loop-i : goal.decreases-loop-i
-decreases-loop-i l = l.row_count - l.i
+abbrev pub invariant-loop-key : goal.invariant-loop-key
+invariant-loop-key l = HasSets l.held (length l.held) l.initial.graph → record {
+  bare : Unindexed l.graph (length l.held);
+  passed : (rows : List Row) → AllFit rows → Keyed rows l.keys.keys l.keys.count → SetsPassed l.held (take l.key-index rows) l.graph l.seen;
+}

@@ -7,4 +7,4 @@ use Rattle.automaton.proofs.finish_letters.Goals as goal
 
 pub returns : goal.returns
 returns c rows fit h =
-    letters_all rows fit [] 0 zero-le _ _ _ _ h (automaton_of _ c.difference.result c.difference-2.result) c.strike.ensures c.difference.ensures c.difference-2.ensures
+    letters_all rows fit [] 0 zero-le _ _ _ _ h (automaton_of _ c.points.result.initials c.points.result.finals) c.strike.ensures c.points.ensures.starts c.points.ensures.ends

@@ -1,16 +1,7 @@
--- `put_sets` meets its contract: the sets below i stand in their part.
-use mathlib.Core.Path.{◌≡◌}
+-- `put_sets` meets its contract: the sets are copied into their part.
 use native.Mathlib.Omega.{arith}
-use Rattle.automaton.proofs.Adding.{no_sets, one_set_more}
+use Rattle.automaton.proofs.Adding.{sets_put}
 use Rattle.automaton.proofs.put_sets.Goals as goal
 
-pub loop-i-init : goal.loop-i-init
-loop-i-init c = (omega arith, λ e. rw e (no_sets _))
-
-pub loop-i-preserved : goal.loop-i-preserved
-loop-i-preserved c = (omega arith, λ e. one_set_more c.args.sets.now c.loop-i.graph c.loop-i.i (omega (arith, c.loop-i-test.true, c.requires)) (c.loop-i.invariant.1 e))
-
 pub returns : goal.returns
-returns c e =
-    let f : c.loop-i.i ≡ c.args.set_count = omega arith in
-    rw f at (c.loop-i.invariant.1 e)
+returns c e = rw c.copy_from_slice.ensures.after (sets_put c.args.graph.now c.args.sets.now _ e (omega arith) c.requires)

@@ -5,7 +5,7 @@ use Rattle.candidates.proofs.live.Goals as goal
 
 pub returns : goal.returns
 returns c i =
-    let u = c.union in
+    let u = c.places in
     let b = c.below in
     let f = c.args.force in
     let r = c.difference.result in

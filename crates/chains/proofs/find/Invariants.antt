@@ -1,12 +1,8 @@
--- `find` meets its contract. The loop's invariant: a place of the chain whose word is sought stands in what is left of it.
-use Prim.Native.Nat.{ℕ, ◌≤◌}
-use mathlib.Core.Path.{◌≡◌}
+-- `find` meets its contract: no place that is passed has the word that is sought.
 use lib.ListN.{get_or}
-use Rattle.chains.specs.Chains.{Chained}
+use mathlib.Core.Logic.{◌≢◌}
+use Rattle.chains.proofs.Passing.{Passed}
 use Rattle.chains.proofs.find.Given as goal
 
-abbrev pub invariant-loop-link : goal.invariant-loop-link
-invariant-loop-link l = (l.link ≤ l.first) × ((i : ℕ) → get_or l.words i 0 ≡ l.x → Chained l.next l.first i → Chained l.next l.link i)
-
-abbrev pub decreases-loop-link : goal.decreases-loop-link
-decreases-loop-link l = l.link
+abbrev pub invariant-loop-at : goal.invariant-loop-at
+invariant-loop-at l = Passed (λ i. get_or l.words i 0 ≢ l.x) l.next l.first l.at-iterator

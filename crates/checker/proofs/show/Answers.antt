@@ -1,59 +1,51 @@
 -- `show` meets its contract: by the length of the input, and by the answer of the check.
-use Prim.Native.Nat.{◌≤◌}
+use Prim.Native.Nat.{◌<◌, ◌≤◌, ◌^◌}
 use native.Mathlib.Omega.{arith}
-use mathlib.Core.Path.{◌≡◌, ap, subst}
+use borrow.Author.Rules.{rules}
+use mathlib.Core.Path.{◌≡◌, ap}
 use lib.ListN.{length}
-use Rattle.machine.specs.declared.Answer.{Answer}
 use Rattle.machine.specs.Program.{refusal_line}
+use Rattle.rows.specs.Rows.{Bytes}
 use Rattle.rows.proofs.Reading.{all_bytes}
-use Rattle.checker.specs.Promise.{Checks}
 use Rattle.texts.proofs.Digits.{refusal_short}
 use Rattle.checker.proofs.Outcomes.{kept_buffer, shows_long, shows_done, shows_wrote, shows_decided, shows_refused}
 use Rattle.checker.proofs.show.Goals.{After-check}
 use Rattle.checker.proofs.show.Goals as goal
 
--- the check, with the answer that was told
-told : (k : After-check) {r : Answer} → k.check.result ≡ r
-    → let a = k.args in Checks a.input.now a.out.now k.check.new.sheet r
-told k e = let a = k.args in subst (λ r. Checks a.input.now a.out.now k.check.new.sheet r) e k.check.ensures
+-- the input is bytes
+bytes : (k : After-check) → Bytes k.args.input.now
+bytes k = all_bytes k.args.input.now (λ i. omega (arith, k.type_inv.input i))
 
 pub returns-then-input-gt-LONGEST_BATCH : goal.returns-then-input-gt-LONGEST_BATCH
-returns-then-input-gt-LONGEST_BATCH c =
-    let a = c.args in
-    shows_long a.input.now a.out.now _ _ (omega arith) c.put_text.ensures
+returns-then-input-gt-LONGEST_BATCH c = shows_long c.args.input.now c.args.out.now _ _ (omega arith) c.put.ensures
 
-pub put_refusal_line-requires : goal.put_refusal_line-requires
-put_refusal_line-requires c =
+pub put-requires-in-Err : goal.put-requires-in-Err
+put-requires-in-Err c =
     let a = c.args in
-    let n = c.in-Refused.n in
-    let place = c.in-Refused.place in
+    let r = c.in-Err.field-0 in
     let h : 6400 ≤ length a.out.now = omega arith in
-    let mid = c.check.new.sheet in
-    let e : length mid ≡ length a.out.now = ap length (kept_buffer a.input.now a.out.now mid n place (told (goal.at.put_refusal_line-requires c).After-check c.in-Refused.is)) in
-    let l = refusal_short n place (omega arith) (omega arith) in
-    let g : length (refusal_line n place) ≤ length mid = omega arith in
+    let e : length c.check.new.sheet ≡ length a.out.now = ap length (kept_buffer a.input.now a.out.now c.check.new.sheet r c.in-Err.ensures) in
+    let low : r.place < 2 ^ 64 = search rules in
+    let short : length (refusal_line c.from.result r.place) ≤ 53 = refusal_short c.from.result r.place (omega arith) (omega arith) in
+    let g : length (refusal_line c.from.result r.place) ≤ length c.check.new.sheet = omega arith in
     g
 
-pub returns-in-Done : goal.returns-in-Done
-returns-in-Done c =
-    let a = c.args in
-    shows_done a.input.now a.out.now (all_bytes a.input.now (λ i. omega (arith, c.type_inv.input i))) (omega arith) (omega arith) _
-    (told (goal.at.returns-in-Done c).After-check c.in-Done.is)
+pub returns-in-Ok-Done : goal.returns-in-Ok-Done
+returns-in-Ok-Done c =
+    shows_done c.args.input.now c.args.out.now (bytes (goal.at.returns-in-Ok-Done c).After-check) (omega arith) (omega arith) _
+    (rw c.in-Ok-Done.field-0-is at c.in-Ok-Done.ensures)
 
-pub returns-in-Wrote : goal.returns-in-Wrote
-returns-in-Wrote c =
-    let a = c.args in
-    shows_wrote a.input.now a.out.now (all_bytes a.input.now (λ i. omega (arith, c.type_inv.input i))) (omega arith) (omega arith) _ _
-    (told (goal.at.returns-in-Wrote c).After-check c.in-Wrote.is)
+pub returns-in-Ok-Wrote : goal.returns-in-Ok-Wrote
+returns-in-Ok-Wrote c =
+    shows_wrote c.args.input.now c.args.out.now (bytes (goal.at.returns-in-Ok-Wrote c).After-check) (omega arith) (omega arith) c.in-Ok-Wrote.n _
+    (rw c.in-Ok-Wrote.field-0-is at c.in-Ok-Wrote.ensures)
 
-pub returns-in-Decided : goal.returns-in-Decided
-returns-in-Decided c =
-    let a = c.args in
-    shows_decided a.input.now a.out.now (all_bytes a.input.now (λ i. omega (arith, c.type_inv.input i))) (omega arith) (omega arith) _ _ (told (goal.at.returns-in-Decided c).After-check c.in-Decided.is)
+pub returns-in-Ok-Decided : goal.returns-in-Ok-Decided
+returns-in-Ok-Decided c =
+    shows_decided c.args.input.now c.args.out.now (bytes (goal.at.returns-in-Ok-Decided c).After-check) (omega arith) (omega arith) c.in-Ok-Decided.field-0-0 _
+    (rw c.in-Ok-Decided.field-0-is at c.in-Ok-Decided.ensures)
 
-pub returns-in-Refused : goal.returns-in-Refused
-returns-in-Refused c =
-    let a = c.args in
-    shows_refused a.input.now a.out.now (all_bytes a.input.now (λ i. omega (arith, c.type_inv.input i))) (omega arith) (omega arith)
-    c.in-Refused.n c.in-Refused.place c.check.new.sheet _ _
-    (told (goal.at.returns-in-Refused c).After-check c.in-Refused.is) c.put_refusal_line.ensures
+pub returns-in-Err : goal.returns-in-Err
+returns-in-Err c =
+    shows_refused c.args.input.now c.args.out.now (bytes (goal.at.returns-in-Err c).After-check) (omega arith) (omega arith) c.in-Err.field-0 c.check.new.sheet _ _
+    c.in-Err.ensures (rw c.from.ensures at c.put-in-Err.ensures)

@@ -1,5 +1,5 @@
 -- `with_text` meets its contract: by the word.
-use Rattle.commands.proofs.Seeking.{extends_change, extends_report, extends_name, extends_other}
+use Rattle.commands.proofs.Words.{extends_change, extends_report, extends_name, extends_move}
 use lib.ListN.{length}
 use Rattle.commands.proofs.with_text.Goals as goal
 
@@ -18,8 +18,5 @@ returns-in-Names c = λ meant asks.
     let a = c.args in
     extends_name meant (length a.batch.now) a.text.now a.word _ _ c.with_name.new.batch c.with_name.result c.in-Names.is asks c.with_name.ensures
 
-pub returns-in_default : goal.returns-in_default
-returns-in_default c = λ meant asks.
-    let a = c.args in
-    let o = c.in_default in
-    extends_other meant (length a.batch.now) a.text.now a.word o.not-Changes o.not-Reports o.not-Names asks
+pub returns-in-Moves : goal.returns-in-Moves
+returns-in-Moves c = λ meant asks. extends_move meant (length c.args.batch.now) c.args.text.now c.args.word _ c.in-Moves.is asks

@@ -1,21 +1,12 @@
 -- `convert` meets its contract, by what the file tells.
-use mathlib.Core.Path.{◌≡◌, subst}
-use Rattle.hoa_files.specs.declared.ReadFile.{ReadFile}
-use Rattle.hoa_files.specs.Reading.{TellsFile}
-use Rattle.hoa_files.proofs.Converting.{read_few, converts_read, converts_refused}
-use Rattle.hoa_files.proofs.convert.Goals.{After-read}
+use Rattle.std.proofs.lemmas.Result.{err_from_is_err_and}
+use Rattle.hoa_files.proofs.Converting.{converts_read, converts_refused}
 use Rattle.hoa_files.proofs.convert.Goals as goal
 
--- what was read, as it was told
-told : (c : After-read) {r : ReadFile} → c.read.result ≡ r → TellsFile c.args.file.now r
-told c e = subst (TellsFile _) e c.read.ensures
+pub returns-in_err-automaton : goal.returns-in_err-automaton
+returns-in_err-automaton c =
+    let p = err_from_is_err_and c.from_residual.result c.from_residual.ensures.1 in
+    rw (p.1, p.2) (converts_refused _ _ _ c.in_err-automaton.ensures)
 
-pub write-requires : goal.write-requires
-write-requires c = read_few _ _ (told (goal.at.write-requires c).After-read c.in-Read.is)
-
-pub returns-in-Read : goal.returns-in-Read
-returns-in-Read c =
-    converts_read _ _ _ _ _ (told (goal.at.returns-in-Read c).After-read c.in-Read.is) c.write.ensures
-
-pub returns-in-Refused : goal.returns-in-Refused
-returns-in-Refused c = converts_refused _ _ _ _ (told (goal.at.returns-in-Refused c).After-read c.in-Refused.is)
+pub returns : goal.returns
+returns c = converts_read _ _ _ _ _ c.in_ok-automaton.ensures c.write.ensures

@@ -1,12 +1,8 @@
 -- `masks::transpose` meets its contract. The loop's invariant: the edges from the states below i are turned round.
-use Prim.Native.Nat.{◌-◌, ◌≤◌}
 use mathlib.Core.Path.{◌≡◌}
 use lib.ListN.{length}
 use Rattle.masks.proofs.Turning.{Sources}
 use Rattle.masks.proofs.transpose.Given as goal
 
 abbrev pub invariant-loop-i : goal.invariant-loop-i
-invariant-loop-i l = (l.i ≤ 64) × (length l.back ≡ 64) × Sources l.succ l.back l.i
-
-abbrev pub decreases-loop-i : goal.decreases-loop-i
-decreases-loop-i l = 64 - l.i
+invariant-loop-i l = (length l.back ≡ 64) × Sources l.succ l.back l.i

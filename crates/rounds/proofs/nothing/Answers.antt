@@ -9,12 +9,12 @@ use Rattle.rounds.proofs.nothing.Goals as goal
 
 pub returns : goal.returns
 returns c =
-    let a = c.args.a in
-    let b = c.args.b in
-    let r : ℕ = c.union.result in
-    let is = c.union.ensures in
+    let a = c.args.new.loops in
+    let b = c.args.new.mixes in
+    let r : ℕ = c.places.result in
+    let is = c.places.ensures in
     record {
       to = λ e t. let z : r ≡ 0 = eqb-true r 0 e in
           ((λ k. in_none t (subst (λ (x : ℕ). t ∈ x) z (union_left a b r is t k))), λ k. in_none t (subst (λ (x : ℕ). t ∈ x) z (union_right a b r is t k)));
-      of = λ h. eq-eqb r 0 (none r c.union.type_inv (λ t k. ⊎_elim (h t).0 (h t).1 (union_cases a b r is t k)));
+      of = λ h. eq-eqb r 0 (none r c.places.type_inv (λ t k. ⊎_elim (h t).0 (h t).1 (union_cases a b r is t k)));
     }

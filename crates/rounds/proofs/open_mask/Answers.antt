@@ -5,7 +5,7 @@ use Rattle.rounds.proofs.open_mask.Invariants.{Opened}
 use Rattle.rounds.proofs.open_mask.Goals as goal
 
 pub loop-i-init : goal.loop-i-init
-loop-i-init c = (omega arith, marked_start (Opened c.args.rounds.now))
+loop-i-init c = marked_start (Opened c.args.rounds.now)
 
 pub returns : goal.returns
-returns c = marked_end (Opened c.args.rounds.now) _ _ _ c.loop-i.invariant.1 (omega arith) (omega arith)
+returns c = marked_end (Opened c.args.rounds.now) _ _ _ c.loop-i.invariant (omega arith) (omega arith)

@@ -10,22 +10,23 @@ use Rattle.rounds.proofs.opened.Goals as goal
 all_new : (force : Claims) → WithNew no_claims force force
 all_new force = record { loops_are = λ t. rw (member_none t) refl; mixes_are = λ t. rw (member_none t) refl }
 
-pub both_by_letters-requires : goal.both_by_letters-requires
-both_by_letters-requires c = (c.turn_indexed.ensures refl c.requires.1, c.requires.0)
-
 pub open_next-requires : goal.open_next-requires
 open_next-requires c =
-    let ways = c.turn_indexed.ensures refl c.requires.1 in
+    let both = c.new-both.ensures in
     let force = c.args.force in
-    let places = c.live-live.result in
-    let first = c.both_by_letters.ensures in
-    record {
-      ways = ways;
+    let pieces = c.pieced-pieces.result in
+    let places = c.live-places.result in
+    let supplied = c.supply.ensures in
+    let forward = rw both at c.by_letters-lacks.ensures.forward in
+    let backward = rw both at c.by_letters-lacks.ensures.backward in
+    rw both (record {
       looping = λ i h. absurd (in_none i h);
-      to_lacks = c.supply.ensures.forward.lacks first.forward.length_is no_claims force c.pieced-pieces.result places (all_new force) (λ i h. h) (λ j h. absurd (in_none j h)) (first.forward.lacks refl places);
-      from_lacks = (c.supply.ensures.backward _ ways.turned).lacks first.backward.length_is no_claims force c.pieced-pieces.result places (all_new force) (λ i h. h) (λ j h. absurd (in_none j h)) (first.backward.lacks refl places);
-    }
+      to_lacks = supplied.forward no_claims force pieces places (all_new force) (λ i h. h) (λ j h. absurd (in_none j h)) (forward places);
+      from_lacks = λ back turned.
+          supplied.backward back turned no_claims force pieces places (all_new force) (λ i h. h) (λ j h. absurd (in_none j h)) (backward back turned places);
+    })
 
 pub returns : goal.returns
 returns c paired =
-    opens_below ((c.open_next.ensures _ c.pieced-pieces.ensures (λ i h. ((c.live-live.ensures i).0 h).0)).opens (awaited_all c.live-live.result paired c.live-live.ensures))
+    let opens = rw c.new-both.ensures at c.open_next.ensures in
+    opens_below ((opens _ c.pieced-pieces.ensures (λ i h. ((c.live-places.ensures i).0 h).0)).opens (awaited_all c.live-places.result paired c.live-places.ensures))

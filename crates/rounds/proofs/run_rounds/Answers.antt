@@ -1,95 +1,76 @@
 -- `run_rounds` meets its contract. The loop's invariant: what is lacking is so with the claims in force, and of any rows that the automaton may be
 -- of, the arrays are those of the machine after as many rounds, and what the next one opens is awaited at the places.
 use Prim.Native.Nat.{◌+◌}
-use mathlib.Core.Path.{◌≡◌, refl, sym, subst, ◌∙◌}
+use mathlib.Core.Path.{◌≡◌, refl}
 use mathlib.Core.Bool.{false}
 use mathlib.Core.Logic.{inl, inr}
 use Rattle.std.proofs.lemmas.Bool.{not_from_false}
 use native.Mathlib.Omega.{arith}
 use Rattle.lists.proofs.Deciding.{denied}
-use Rattle.machine.specs.declared.Phase.{Phase}
-use Rattle.search.specs.Graph.{graph_of}
 use Rattle.candidates.proofs.Awaiting.{awaited_all, awaited_next}
 use Rattle.candidates.proofs.Holding.{opens_below}
-use Rattle.rounds.proofs.Settled.{Stage, tracked_start, tracked_low, tracked_more, stage_start, stage_paired, stage_more, stage_end}
+use Rattle.rounds.proofs.Settled.{Stage, handed, tracked_start, tracked_low, tracked_more, stage_start, stage_paired, stage_more, stage_end}
+use mathlib.Core.List.{List}
+use Rattle.rows.specs.declared.Row.{Row}
+use Rattle.rounds.specs.Promises.{Given}
+use Rattle.rounds.proofs.run_rounds.Goals.{After-is_running}
 use Rattle.rounds.proofs.run_rounds.Goals as goal
 
-pub both_by_letters-requires : goal.both_by_letters-requires
-both_by_letters-requires c = (c.requires.2, c.requires.0)
-
-pub loop-count-init : goal.loop-count-init
-loop-count-init c =
-    let lacks = c.both_by_letters.ensures in
-    let places = c.live-places.result in (
-      omega arith,
-      lacks.forward.length_is,
-      lacks.backward.length_is,
-      c.requires.2,
-      c.pieced-pieces.ensures,
-      tracked_start places c.live-places.ensures refl refl lacks.forward lacks.backward,
-      c.requires.3.reached_are,
-      λ rows g. let first = stage_start rows g false c.requires.3.tested in (first, awaited_all places (stage_paired rows g first) c.live-places.ensures),
+pub loop-done-init : goal.loop-done-init
+loop-done-init c =
+    let lacks = c.by_letters-lacks.ensures in
+    let places = c.live.result in (
+      rw c.forth-forth.ensures at c.pieced-pieces.ensures,
+      tracked_start c.pieced-pieces.result places c.live.ensures lacks.forward lacks.backward,
+      c.requires.2.reached_are,
+      λ rows g. let first = stage_start rows g false c.requires.2.tested in (first, awaited_all places (stage_paired rows g first) c.live.ensures),
     )
 
 pub open_next-new-requires : goal.open_next-new-requires
-open_next-new-requires c =
-    let inv = c.loop-count.invariant in
-    let now = inv.5 in
-    record { ways = inv.3; looping = now.looping; to_lacks = λ i q h. now.to_lacks i q (now.within i h); from_lacks = λ i q h. now.from_lacks i q (now.within i h) }
-
-pub live-live-requires : goal.live-live-requires
-live-live-requires c = c.requires.0
+open_next-new-requires c = handed c.loop-done.invariant.1
 
 pub reached_more-seen-requires : goal.reached_more-seen-requires
 reached_more-seen-requires c =
-    (c.requires.2.indexed, record { old = c.loop-count.force; with_new = c.with_new-force.ensures; reached = c.loop-count.invariant.6 })
+    rw c.forth-forth.ensures (record { old = c.loop-done.trial.force; with_new = c.with_new-force.ensures; reached = c.loop-done.invariant.2 })
 
-pub overflow_add-count : goal.overflow_add-count
-overflow_add-count c = omega (arith, c.loop-count-test.true, c.requires.1)
+-- a turn, as the machine's next round
+turned : (c : After-is_running) → (rows : List Row) → Given rows c.args.graph.now c.args.ends.initials c.args.ends.finals c.args.set_count
+    → Stage rows c.args.graph.now c.args.set_count c.with_new-force.result c.note.new.rounds c.note-in-loop-done.new.rounds c.judge-phase.result (c.loop-done.done + 1)
+turned c rows g =
+    let inv = c.loop-done.invariant in
+    let stage = inv.3 rows g in
+    let opens = c.open_next-new.ensures c.args.set_count inv.0 (tracked_low inv.1) in
+    let reached = rw c.forth-forth.ensures at c.reached_more-seen.ensures in
+    rw c.judge-phase.ensures (stage_more rows g stage.0 refl (record {
+      opens = opens_below (opens.opens stage.1);
+      with_new = c.with_new-force.ensures;
+      tested = c.accepted.ensures c.args.graph.now c.with_new-force.result reached;
+      vain_iff = c.nothing.ensures;
+      loop_noted = c.note.ensures;
+      mix_noted = c.note-in-loop-done.ensures;
+    }))
 
-pub loop-count-smaller : goal.loop-count-smaller
-loop-count-smaller c = omega (arith, c.loop-count-test.true)
-
-pub loop-count-preserved : goal.loop-count-preserved
-loop-count-preserved c =
-    let a = c.args in
-    let inv = c.loop-count.invariant in
-    let both = c.with_new-force.result in
+pub loop-done-preserved : goal.loop-done-preserved
+loop-done-preserved c =
+    let f = c.forth-forth.ensures in
+    let inv = c.loop-done.invariant in
     let with_new = c.with_new-force.ensures in
-    let forward = c.supply-places.ensures.forward in
-    let backward = c.supply-places.ensures.backward _ inv.3.turned in
-    let above = c.supply-places.ensures.above in
+    let forward = rw f at c.supply-places.ensures.forward in
+    let backward = rw f at c.supply-places.ensures.backward in
+    let above = rw f at c.supply-places.ensures.above in
     let is_live = c.live-live.ensures in
-    let now = inv.5 in
-    let opens = c.open_next-new.ensures a.set_count inv.4 (tracked_low now) in (
-      omega arith,
-      forward.length_is ∙ inv.1,
-      backward.length_is ∙ inv.2,
-      inv.3,
-      inv.4,
-      tracked_more now c.difference-fresh.result c.live-live.result c.supply-places.result inv.3.turned with_new opens c.difference-fresh.ensures is_live inv.1 inv.2 forward backward above,
-      c.reached_more-seen.ensures,
+    let opens = c.open_next-new.ensures c.args.set_count inv.0 (tracked_low inv.1) in (
+      inv.0,
+      tracked_more inv.1 c.difference-fresh.result c.live-live.result c.supply-places.result with_new opens c.difference-fresh.ensures is_live forward backward above,
+      rw f at c.reached_more-seen.ensures,
       λ rows g.
-          let stage = inv.7 rows g in
-          let opened = opens.opens stage.1 in
-          let next = subst (λ (p : Phase). Stage rows (graph_of a.graph.now) a.set_count both c.note.new.rounds c.note-in-loop-count.new.rounds p (c.loop-count.count + 1)) (sym c.judge-phase.ensures)
-          (stage_more rows g stage.0 (c.is_running.ensures.to c.if-not-is_running.false) (record {
-            opens = opens_below opened;
-            with_new = with_new;
-            tested = c.accepted.ensures (graph_of a.graph.now) both c.reached_more-seen.ensures;
-            vain_iff = c.nothing.ensures;
-            loop_noted = c.note.ensures;
-            mix_noted = c.note-in-loop-count.ensures;
-          })) in
-          (next, awaited_next c.live-live.result c.supply-places.result opened with_new (stage_paired rows g next) is_live above),
+          let next = rw (c.is_running.ensures.to c.if-not-is_running.false) at (turned (goal.at.loop-done-preserved c).After-is_running rows g) in
+          (next, awaited_next c.live-live.result c.supply-places.result (opens.opens (inv.3 rows g).1) with_new (stage_paired rows g next) is_live above),
     )
 
-pub returns-after-loop-count : goal.returns-after-loop-count
-returns-after-loop-count c rows g =
-    let all : c.loop-count.count ≡ c.args.most = omega arith in
-    stage_end (c.loop-count.invariant.7 rows g).0 _ c.loop-count.invariant.0 (inl all)
+pub returns : goal.returns
+returns c rows g = let all : c.loop-done.done ≡ c.args.most = omega arith in rw all at (stage_end (c.loop-done.invariant.3 rows g).0 c.args.most (omega arith) (inl all))
 
 pub returns-then-not-is_running : goal.returns-then-not-is_running
 returns-then-not-is_running c rows g =
-    let inv = c.loop-count.invariant in
-    stage_end (inv.7 rows g).0 _ inv.0 (inr (denied c.is_running.ensures (not_from_false _ c.if-not-is_running.true)))
+    stage_end (turned (goal.at.returns-then-not-is_running c).After-is_running rows g) c.args.most (omega arith) (inr (denied c.is_running.ensures (not_from_false _ c.if-not-is_running.true)))

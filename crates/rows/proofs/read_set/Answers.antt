@@ -12,27 +12,24 @@ limit : (s : Start) → let a = s.args in Limit a.rest.now a.state_place a.set_p
 limit s = limit_of _ _ _ _ s.requires
 
 pub returns-then-rest-lt10 : goal.returns-then-rest-lt10
-returns-then-rest-lt10 c = ((limit (goal.at.returns-then-rest-lt10 c).Start).tests ∙ simp (lt-ltb _ _ c.if-rest-lt10.true), λ e. omega arith)
+returns-then-rest-lt10 c = rw ((limit (goal.at.returns-then-rest-lt10 c).Start).tests, lt-ltb _ _ c.if-rest-lt10.true)
 
 pub bounds-rest-state_place : goal.bounds-rest-state_place
 bounds-rest-state_place c = omega (arith, (limit (goal.at.bounds-rest-state_place c).Start).places, c.if-rest-lt10.false)
 
 pub returns-then-rest-state_place-gt-LAST_STATE : goal.returns-then-rest-state_place-gt-LAST_STATE
 returns-then-rest-state_place-gt-LAST_STATE c =
-    ((limit (goal.at.returns-then-rest-state_place-gt-LAST_STATE c).Start).tests ∙ simp (le-ltb _ _ c.if-rest-lt10.false, lt-ltb _ _ c.if-rest-state_place-gt-LAST_STATE.true), λ e. omega arith)
+    rw ((limit (goal.at.returns-then-rest-state_place-gt-LAST_STATE c).Start).tests, le-ltb _ _ c.if-rest-lt10.false, lt-ltb _ _ c.if-rest-state_place-gt-LAST_STATE.true)
 
-pub set_at-set-requires : goal.set_at-set-requires
-set_at-set-requires c = omega (arith, (limit (goal.at.set_at-set-requires c).Start).places, c.if-rest-lt10.false)
+pub set_at-requires : goal.set_at-requires
+set_at-requires c = omega (arith, (limit (goal.at.set_at-requires c).Start).places, c.if-rest-lt10.false)
 
-pub returns-then-set-eq0 : goal.returns-then-set-eq0
-returns-then-set-eq0 c = (
-  (limit (goal.at.returns-then-set-eq0 c).Start).tests
-      ∙ simp (le-ltb _ _ c.if-rest-lt10.false, le-ltb _ _ c.if-rest-state_place-gt-LAST_STATE.false, eq-eqb _ _ (sym c.set_at-set.ensures ∙ c.if-set-eq0.true)),
-  λ e. omega arith,
-)
+pub returns-in-0 : goal.returns-in-0
+returns-in-0 c =
+    let z = eq-eqb (set_at c.args.rest.now c.args.set_place) 0 (sym c.set_at.ensures ∙ c.in-0.is) in
+    rw ((limit (goal.at.returns-in-0 c).Start).tests, le-ltb _ _ c.if-rest-lt10.false, le-ltb _ _ c.if-rest-state_place-gt-LAST_STATE.false, z)
 
-pub returns : goal.returns
-returns c =
-    let a = c.args in
-    let n = ne_eqb (set_at a.rest.now a.set_place) 0 (λ z. c.if-set-eq0.false (c.set_at-set.ensures ∙ z)) in
-    ((limit (goal.at.returns c).Start).tests ∙ simp (le-ltb _ _ c.if-rest-lt10.false, le-ltb _ _ c.if-rest-state_place-gt-LAST_STATE.false, n), c.set_at-set.ensures)
+pub returns-in_default : goal.returns-in_default
+returns-in_default c =
+    let n = ne_eqb (set_at c.args.rest.now c.args.set_place) 0 (λ z. omega arith) in
+    rw ((limit (goal.at.returns-in_default c).Start).tests, le-ltb _ _ c.if-rest-lt10.false, le-ltb _ _ c.if-rest-state_place-gt-LAST_STATE.false, n, c.set_at.ensures)

@@ -1,11 +1,12 @@
 -- `rows::read_state` meets its contract: a row without a cause is that of its kind.
 use Prim.Native.Nat.{ℕ}
-use mathlib.Core.Path.{◌≡◌, refl, sym, ◌∙◌}
+use mathlib.Core.Path.{◌≡◌, refl}
 use native.Mathlib.Omega.{arith}
-use Rattle.rows.specs.declared.ReadRow.TheVariants.{Read}
+use Rattle.std.proofs.Common.{Ok}
+use Rattle.std.proofs.lemmas.Result.{err_from_is_err_and}
 use Rattle.rows.specs.Reading.{width, row_at, read_row, Known}
 use Rattle.rows.proofs.Reading.{by_kind, cause_refuses, cause_none, cause_sound}
-use Rattle.rows.proofs.read_state.Goals.{Else-cause-ne0}
+use Rattle.rows.proofs.read_state.Goals.{In_ok-check_state}
 use Rattle.rows.proofs.read_state.Goals as goal
 
 -- the third of the kinds is 6
@@ -14,30 +15,32 @@ third_kind = by_kind (λ k. width k ≡ 2 → ¬ (k ≡ 1) → ¬ (k ≡ 2) → 
     (λ w a b. absurd (a refl)) (λ w a b. absurd (b refl))
     (λ w a b. absurd (omega arith)) (λ w a b. absurd (omega arith)) (λ w a b. absurd (omega arith)) (λ w a b. refl)
 
-clean : (c : Else-cause-ne0) → let a = c.args in read_row a.rest.now ≡ Read (row_at a.kind a.rest.now) 2
+clean : (c : In_ok-check_state) → let a = c.args in Ok (row_at a.kind a.rest.now, 2) ≡ read_row a.rest.now
 clean c = let p = c.requires in
-    cause_none _ _ p.0 c.state_cause-cause.ensures c.if-cause-ne0.false ∙ rw p.2
+    rw p.2 at (cause_none c.args.rest.now tt c.args.kind p.0 c.in_ok-check_state.ensures)
 
-pub state_cause-cause-requires : goal.state_cause-cause-requires
-state_cause-cause-requires c = let p = c.requires in rw p.0.1 (p.1, p.2)
+pub check_state-requires : goal.check_state-requires
+check_state-requires c = let p = c.requires in rw p.0.1 (p.1, p.2)
 
-pub returns-then-cause-ne0 : goal.returns-then-cause-ne0
-returns-then-cause-ne0 c = sym (cause_refuses _ c.requires.0.0 c.state_cause-cause.ensures c.if-cause-ne0.true)
+pub returns-in_err-check_state : goal.returns-in_err-check_state
+returns-in_err-check_state c =
+    let p = err_from_is_err_and c.from_residual.result c.from_residual.ensures.1 in
+    rw (p.1, p.2) (cause_refuses c.args.rest.now tt c.requires.0.0 c.in_err-check_state.ensures)
 
 pub bounds-rest-1 : goal.bounds-rest-1
 bounds-rest-1 c = let p = c.requires in
-    omega (arith, p.2, (cause_sound c.args.kind c.args.rest.now p.0.1 c.state_cause-cause.ensures c.if-cause-ne0.false).whole)
+    omega (arith, p.2, (cause_sound c.args.rest.now tt c.args.kind p.0.1 c.in_ok-check_state.ensures).0.whole)
 
 pub returns-in-1 : goal.returns-in-1
 unfolding row_at
-returns-in-1 c = sym (clean (goal.at.returns-in-1 c).Else-cause-ne0 ∙ simp c.in-1.is)
+returns-in-1 c = rw c.in-1.is at (clean (goal.at.returns-in-1 c).In_ok-check_state)
 
 pub returns-in-2 : goal.returns-in-2
 unfolding row_at
-returns-in-2 c = sym (clean (goal.at.returns-in-2 c).Else-cause-ne0 ∙ simp c.in-2.is)
+returns-in-2 c = rw c.in-2.is at (clean (goal.at.returns-in-2 c).In_ok-check_state)
 
 pub returns-in_default : goal.returns-in_default
 unfolding row_at
 returns-in_default c =
     let e = third_kind c.args.kind c.requires.1 c.requires.2 c.in_default.in_default-own.rest.0.1 c.in_default.in_default-own.rest.1 in
-    sym (clean (goal.at.returns-in_default c).Else-cause-ne0 ∙ simp e)
+    rw e at (clean (goal.at.returns-in_default c).In_ok-check_state)

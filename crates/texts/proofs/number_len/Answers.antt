@@ -5,14 +5,8 @@ use lib.ListN.{length}
 use Rattle.texts.proofs.Digits.{number_short, number_one, number_longer}
 use Rattle.texts.proofs.number_len.Goals as goal
 
-pub loop-v-init : goal.loop-v-init
-loop-v-init c = omega arith
-
 pub overflow_add-k : goal.overflow_add-k
 overflow_add-k c = omega (arith, number_short c.args.n (omega arith))
-
-pub loop-v-smaller : goal.loop-v-smaller
-loop-v-smaller c = omega arith
 
 pub loop-v-preserved : goal.loop-v-preserved
 loop-v-preserved c = omega (arith, number_longer c.loop-v.v (omega arith))

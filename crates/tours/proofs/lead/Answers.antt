@@ -1,8 +1,8 @@
 -- `tours::lead` meets its contract.
 use Prim.Native.Nat.{◌^◌, ◌<◌}
+use mathlib.Core.Path.{refl}
 use native.Mathlib.Omega.{arith}
 use Rattle.masks.proofs.Leaving.{taken_less}
-use Rattle.search.specs.Graph.{graph_of}
 use Rattle.tours.proofs.Coming.{comes_lead}
 use Rattle.tours.proofs.lead.Goals as goal
 
@@ -13,7 +13,6 @@ returns c =
     let leg = c.leg_of-leg in
     let fits : t.result.rest < 2 ^ 64 = omega arith in
     record {
-      low = record { state = leg.ensures.low.low; stop = t.ensures.small; few = leg.ensures.low.few };
-      fewer = omega (arith, taken_less a.rest t.result.low t.result.rest fits t.ensures, leg.ensures.low.few);
-      comes = comes_lead (graph_of a.back.now) a.frame _ a.before a.state a.rest a.later t.result.low t.result.rest leg.result t.ensures fits leg.ensures.lays;
+      fewer = omega (arith, taken_less a.rest t.result.low t.result.rest fits t.ensures, leg.result.few);
+      comes = comes_lead a.back.now a.frame _ a.before a.state a.rest a.later t.result.low t.result.rest leg.result _ (refl, refl, refl, refl, refl, refl) t.ensures fits leg.ensures;
     }

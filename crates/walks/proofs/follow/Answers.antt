@@ -1,53 +1,50 @@
 -- `walks::follow` meets its contract. The loop's invariant is `Taking`.
-use mathlib.Core.Path.{refl, sym}
-use mathlib.Core.Logic.{inl, inr}
+use mathlib.Core.Path.{◌≡◌, refl, ◌∙◌}
 use native.Mathlib.Omega.{arith}
-use borrow.Author.Rules.{rules}
-use Rattle.search.specs.Graph.{graph_of}
+use lib.ListN.{length-set, take}
+use Rattle.masks.proofs.Member.{member_lt}
 use Rattle.walks.specs.Choices.{Way, SetsRise}
-use Rattle.walks.proofs.Following.{take_more}
+use Rattle.walks.specs.Walks.{Follows}
+use Rattle.walks.proofs.Following.{take_more, take_end, take_stop, lead_low}
+use Rattle.walks.proofs.follow.Goals.{In_default, After-loop-i}
 use Rattle.walks.proofs.follow.Goals as goal
 
-pub loop-i-init : goal.loop-i-init
-loop-i-init c = (
-  c.by_source.ensures refl refl,
-  record {
-    within = omega arith;
-    long_kinds = refl;
-    long_values = refl;
-    long_targets = refl;
-    low = search rules;
-    state = refl;
-    chosen = λ j h. absurd (omega arith);
-  },
-)
+-- the steps where the loop stops, and where it ends
+stopped : (c : In_default) → let a = c.args in
+    Follows (Way a.words.now a.count a.back.now a.force) (SetsRise a.back.now a.force) a.layers.now a.leg.start a.leg.steps (take c.loop-i.i c.loop-i.steps)
+stopped c =
+    let a = c.args in
+    take_stop (Way a.words.now a.count a.back.now a.force) (SetsRise a.back.now a.force) a.layers.now a.leg.start a.leg.steps
+    c.loop-i.steps c.loop-i.a c.loop-i.i c.loop-i-test.true c.loop-i.invariant.2 (rw (c.new-letters.ensures.words, c.new-letters.ensures.count) at c.in_default.ensures)
 
-pub first_step-step-requires : goal.first_step-step-requires
-first_step-step-requires c = (c.loop-i.invariant.1.low, (c.args.count, c.loop-i.invariant.0))
+ended : (c : After-loop-i) → let a = c.args in
+    Follows (Way a.words.now a.count a.back.now a.force) (SetsRise a.back.now a.force) a.layers.now a.leg.start a.leg.steps (take a.leg.steps c.loop-i.steps)
+ended c =
+    let a = c.args in
+    let all : c.loop-i.i ≡ a.leg.steps = omega arith in
+    take_end (Way a.words.now a.count a.back.now a.force) (SetsRise a.back.now a.force) a.layers.now a.leg.start a.leg.steps
+    c.loop-i.steps c.loop-i.a (rw all at c.loop-i.invariant.2)
 
 pub loop-i-preserved : goal.loop-i-preserved
 loop-i-preserved c =
     let a = c.args in
     let at = c.loop-i in
-    let x = c.in-Taken in (
-      at.invariant.0,
-      take_more (Way a.words.now a.count (graph_of a.back.now) a.force) (SetsRise (graph_of a.back.now) a.force) a.layers.now a.start a.d
-          at.kinds at.values at.targets at.a at.i x.kind x.value x.target c.loop-i-test.true c.requires.2 at.invariant.1
-          (rw x.is at (c.first_step-step.ensures a.count at.invariant.0)),
+    let t = c.in-Some.step in
+    let chosen = rw (c.new-letters.ensures.words, c.new-letters.ensures.count) at c.in-Some.ensures in (
+      member_lt t.to _ chosen.1,
+      length-set at.steps at.i t ∙ at.invariant.1,
+      take_more (Way a.words.now a.count a.back.now a.force) (SetsRise a.back.now a.force) a.layers.now a.leg.start a.leg.steps
+          at.steps at.a at.i t c.loop-i-test.true (omega (arith, at.invariant.1, c.requires.1)) at.invariant.2 chosen,
     )
 
-pub returns-after-loop-i : goal.returns-after-loop-i
-returns-after-loop-i c =
-    let at = c.loop-i in
-    record { found = refl; begins = refl; within = at.invariant.1.within; chosen = at.invariant.1.chosen; stopped = inl (omega (arith, at.invariant.1.within, c.loop-i-test.false)) }
+pub invariant_of-result : goal.invariant_of-result
+invariant_of-result c = record { low = c.args.leg.low; few = omega arith; lead_low = lead_low _ _ _ _ _ _ (stopped (goal.at.invariant_of-result c).In_default) }
 
 pub returns-in_default : goal.returns-in_default
-returns-in_default c =
-    let at = c.loop-i in
-    record {
-      found = refl;
-      begins = refl;
-      within = at.invariant.1.within;
-      chosen = at.invariant.1.chosen;
-      stopped = inr (c.loop-i-test.true, rw (sym at.invariant.1.state) (rw c.in_default.is at (c.first_step-step.ensures c.args.count at.invariant.0)));
-    }
+returns-in_default c = record { start = refl; follows = stopped (goal.at.returns-in_default c).In_default }
+
+pub invariant_of-result-2 : goal.invariant_of-result-2
+invariant_of-result-2 c = record { low = c.args.leg.low; few = c.requires.1; lead_low = lead_low _ _ _ _ _ _ (ended (goal.at.invariant_of-result-2 c).After-loop-i) }
+
+pub returns : goal.returns
+returns c = record { start = refl; follows = ended (goal.at.returns c).After-loop-i }

@@ -11,17 +11,16 @@ use lib.ListN.{get_or, length, set, length-set}
 use lib.Seq.{get_or-set_same, get_or-set_other}
 use Rattle.masks.specs.Mask.{member, ◌∈◌}
 use Rattle.masks.proofs.Count.{ones_grows, lowest_is}
-use Rattle.masks.proofs.Member.{in_none, difference_left}
-use Rattle.search.specs.Graph.{graph_of}
+use Rattle.masks.proofs.Member.{in_none, difference_left, member_lt}
 use Rattle.search.specs.Hops.{Onward}
 use Rattle.walks.specs.Layers.{Ahead}
 use Rattle.walks.proofs.Layers.{Laying, laying_start, near_seen, met_near, laying_met, laying_end, laying_grows, laying_more}
-use Rattle.walks.proofs.lay.Goals.{After-intersection-met, After-lowest, After-union-seen}
+use Rattle.walks.proofs.lay.Goals.{After-intersection-met, After-lowest-start, After-union-seen}
 use Rattle.walks.proofs.lay.Goals as goal
 
 -- the states with a step to the last layer
 onward : (c : After-intersection-met) → let a = c.args in let at = c.loop-force in
-    Onward (λ t s. Ahead (graph_of a.back.now) a.force a.p s t) (get_or at.layers at.k 0) c.near-near.result
+    Onward (λ t s. Ahead a.back.now a.force a.p s t) (get_or at.layers at.k 0) c.near-near.result
 onward c = rw (sym c.loop-force.invariant.1) c.near-near.ensures
 
 -- where one is found, there are more states than layers
@@ -33,13 +32,13 @@ length-kept : (c : After-intersection-met) → length c.loop-force.layers ≡ le
 length-kept c = let a = c.args in c.loop-force.invariant.0 ∙ length-set a.layers.now 0 a.ends
 
 -- a start that has a step to the last layer
-met-seen : (c : After-lowest) → c.loop-force.k < ones c.loop-force.seen
+met-seen : (c : After-lowest-start) → c.loop-force.k < ones c.loop-force.seen
 met-seen c =
     let a = c.args in
     let at = c.loop-force in
-    let on : Onward (λ t s. Ahead (graph_of a.back.now) a.force a.p s t) (get_or at.layers at.k 0) c.near-near.result = rw (sym at.invariant.1) c.near-near.ensures in
-    more-seen at.layers at.k at.seen c.near-near.result c.intersection-met.result at.invariant.4 on c.intersection-met.ensures at.invariant.3 c.lowest.result
-    (met_near at.layers at.k at.seen c.near-near.result c.intersection-met.result at.invariant.4 on c.intersection-met.ensures c.lowest.result c.lowest.ensures.is)
+    let on : Onward (λ t s. Ahead a.back.now a.force a.p s t) (get_or at.layers at.k 0) c.near-near.result = rw (sym at.invariant.1) c.near-near.ensures in
+    more-seen at.layers at.k at.seen c.near-near.result c.intersection-met.result at.invariant.4 on c.intersection-met.ensures at.invariant.3 c.lowest-start.result
+    (met_near at.layers at.k at.seen c.near-near.result c.intersection-met.result at.invariant.4 on c.intersection-met.ensures c.lowest-start.result c.lowest-start.ensures.is)
 
 -- a layer more is a state more
 grows : (c : After-union-seen) → c.loop-force.k + 1 < ones c.union-seen.result
@@ -49,7 +48,7 @@ grows c =
     let next : ℕ = c.difference-next.result in
     let n : next ≡ 0 → ⊥ = c.if-next-eq0.false in
     let new = (lowest_is next (omega arith) c.difference-next.type_inv).0 in
-    let on : Onward (λ t s. Ahead (graph_of a.back.now) a.force a.p s t) (get_or at.layers at.k 0) c.near-near.result = rw (sym at.invariant.1) c.near-near.ensures in
+    let on : Onward (λ t s. Ahead a.back.now a.force a.p s t) (get_or at.layers at.k 0) c.near-near.result = rw (sym at.invariant.1) c.near-near.ensures in
     omega (
       arith,
       more-seen at.layers at.k at.seen c.near-near.result c.intersection-met.result at.invariant.4 on c.intersection-met.ensures at.invariant.3
@@ -63,35 +62,33 @@ few c = omega (arith, grows c, ones-le 64 c.union-seen.result c.union-seen.type_
 
 -- and the slice has a place for it
 room : (c : After-union-seen) → c.loop-force.k + 1 < length c.loop-force.layers
-room c = let size : 64 ≤ length c.args.layers.now = c.requires.0 in
+room c = let size : 64 ≤ length c.args.layers.now = c.requires in
     omega (arith, few c, c.loop-force.invariant.0 ∙ length-set c.args.layers.now 0 c.args.ends)
 
 pub loop-force-init : goal.loop-force-init
 loop-force-init c =
     let ends = c.args.ends in
     let layers = c.args.layers.now in
-    let size : 64 ≤ length layers = c.requires.0 in
+    let size : 64 ≤ length layers = c.requires in
     let here : get_or (set layers 0 ends) 0 0 ≡ ends = get_or-set_same layers 0 ends 0 (omega arith) in
     let some : (t : ℕ) → t ∈ ends → 0 < ones ends = λ t h.
     let g : ones 0 < ones ends = ones_grows 0 ends (lit< tt) c.ranges.ends.fits (λ u m. absurd (in_none u m)) (λ e. in_none t (subst (λ (x : ℕ). t ∈ x) (sym e) h)) in omega arith in
     (refl, sym here, c.ranges.ends.fits, some, laying_start (set layers 0 ends) here)
 
-pub overflow_add-result : goal.overflow_add-result
-overflow_add-result c = let at = c.loop-force in omega (arith, met-seen (goal.at.overflow_add-result c).After-lowest, ones-le 64 at.seen at.invariant.2)
-
-pub shape_of-layers-then-met-ne0 : goal.shape_of-layers-then-met-ne0
-shape_of-layers-then-met-ne0 c = length-kept (goal.at.shape_of-layers-then-met-ne0 c).After-intersection-met
+pub invariant_of-result : goal.invariant_of-result
+invariant_of-result c =
+    let at = c.loop-force in record {
+      low = member_lt c.lowest-start.result c.intersection-met.result c.lowest-start.ensures.is;
+      few = omega (arith, met-seen (goal.at.invariant_of-result c).After-lowest-start, ones-le 64 at.seen at.invariant.2);
+    }
 
 pub returns-then-met-ne0 : goal.returns-then-met-ne0
 returns-then-met-ne0 c =
     let at = c.loop-force in record {
       kept = length-kept (goal.at.returns-then-met-ne0 c).After-intersection-met;
       laid = laying_met at.layers at.k at.seen c.near-near.result c.intersection-met.result at.invariant.4 (onward (goal.at.returns-then-met-ne0 c).After-intersection-met) c.intersection-met.ensures
-          c.lowest.result c.lowest.ensures.is c.lowest.ensures.least at.invariant.2 (met-seen (goal.at.returns-then-met-ne0 c).After-lowest);
+          c.lowest-start.result c.lowest-start.ensures.is c.lowest-start.ensures.least at.invariant.2 (met-seen (goal.at.returns-then-met-ne0 c).After-lowest-start);
     }
-
-pub shape_of-layers-then-next-eq0 : goal.shape_of-layers-then-next-eq0
-shape_of-layers-then-next-eq0 c = length-kept (goal.at.shape_of-layers-then-next-eq0 c).After-intersection-met
 
 pub returns-then-next-eq0 : goal.returns-then-next-eq0
 returns-then-next-eq0 c =

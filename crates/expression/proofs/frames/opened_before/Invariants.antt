@@ -1,5 +1,5 @@
 -- `expression::frames::opened_before` meets its contract. The loop's invariant: the mask has the places below i that were opened before the round.
-use Prim.Native.Nat.{ℕ, ◌+◌, ◌-◌, ◌≤◌}
+use Prim.Native.Nat.{ℕ, ◌+◌}
 use mathlib.Core.List.{List}
 use lib.ListN.{get_or}
 use Rattle.masks.proofs.Marking.{Marked}
@@ -11,7 +11,4 @@ abbrev pub Old : List ℕ → ℕ → ℕ → ℕ → Type 0
 Old opened base round i = Before round (get_or opened (base + i) 0)
 
 abbrev pub invariant-loop-i : goal.invariant-loop-i
-invariant-loop-i l = (l.i ≤ l.set_count) × Marked (Old l.opened l.base l.round) l.r l.i
-
-abbrev pub decreases-loop-i : goal.decreases-loop-i
-decreases-loop-i l = l.set_count - l.i
+invariant-loop-i l = Marked (Old l.opened l.base l.round) l.r l.i

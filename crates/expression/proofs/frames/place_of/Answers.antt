@@ -1,22 +1,21 @@
 -- `expression::frames::place_of` meets its contract.
 use native.Mathlib.Omega.{arith}
-use mathlib.Core.Path.{◌≡◌, subst}
-use Rattle.sorted_keys.specs.declared.Place.{Place}
-use Rattle.sorted_keys.specs.Keys.{SearchesWord}
-use Rattle.expression.proofs.Finding.{from_sets, finds_at, finds_gap}
-use Rattle.expression.proofs.frames.place_of.Goals.{After-find_word-place}
+use lib.ListN.{take}
+use Rattle.std.specs.Prelude.{Ok, Err}
+use Rattle.sorted_keys.proofs.Keys.{word_searched, front_word}
+use Rattle.expression.proofs.Finding.{finds_at, finds_none}
 use Rattle.expression.proofs.frames.place_of.Goals as goal
 
--- what the search found
-found : (w : After-find_word-place) {q : Place} → w.find_word-place.result ≡ q
-    → SearchesWord (from_sets w.args.masks.now) w.args.set_count w.args.p q
-found w e = let a = w.args in subst (SearchesWord (from_sets a.masks.now) a.set_count a.p) e w.find_word-place.ensures
+pub returns-in-Ok-clause-finds : goal.returns-in-Ok-clause-finds
+returns-in-Ok-clause-finds c =
+    let a = c.args in
+    let s = c.sets-sets in
+    let i = c.in-Ok.i in
+    rw (← s.ensures.are) (finds_at s.result.now a.set_count a.p i (front_word (omega (arith, s.ensures.many, c.requires)) (word_searched (take a.set_count s.result.now) a.p (Ok i) c.in-Ok.ensures.bound c.in-Ok.ensures.position)))
 
-pub returns-in-At : goal.returns-in-At
-returns-in-At c =
-    let f = found (goal.at.returns-in-At c).After-find_word-place c.in-At.is in
-    record { low = omega (arith, f.within, c.requires.0); finds = finds_at c.args.masks.now c.args.set_count c.args.p c.requires.0 c.requires.1 _ f }
-
-pub returns-in-Gap : goal.returns-in-Gap
-returns-in-Gap c =
-    record { low = omega arith; finds = finds_gap c.args.masks.now c.args.set_count c.args.p c.requires.0 c.requires.1 _ (found (goal.at.returns-in-Gap c).After-find_word-place c.in-Gap.is) }
+pub returns-in-Err-clause-finds : goal.returns-in-Err-clause-finds
+returns-in-Err-clause-finds c =
+    let a = c.args in
+    let s = c.sets-sets in
+    let i = c.in-Err.field-0 in
+    rw (← s.ensures.are) (finds_none s.result.now a.set_count a.p i (front_word (omega (arith, s.ensures.many, c.requires)) (word_searched (take a.set_count s.result.now) a.p (Err i) c.in-Err.ensures.bound c.in-Err.ensures.position)))

@@ -3,18 +3,17 @@
 use Prim.Native.Nat.{◌≤◌}
 use mathlib.Core.Path.{◌≡◌}
 use lib.ListN.{length}
-use Rattle.search.specs.Graph.{graph_of}
-use Rattle.tours.specs.Cursors.{Low, size_of}
+use Rattle.tours.specs.Cursors.{size_of}
 use Rattle.expression.proofs.Going.{Going}
 use Rattle.expression.proofs.writing.+put.Given as goal
 
 abbrev pub decreases-put : goal.decreases-put
 decreases-put l = l.frame.round
 
-abbrev pub invariant-loop-cursor : goal.invariant-loop-cursor
-invariant-loop-cursor l =
-    (l.at ≤ length l.buf) × (length l.buf ≡ length l.initial.buf) × Low l.cursor
-    × Going l.words l.first l.next (graph_of l.back) l.set_count l.opened l.frame l.initial.buf l.layers l.cursor l.buf l.at
+abbrev pub invariant-loop-next : goal.invariant-loop-next
+invariant-loop-next l =
+    (l.at ≤ length l.buf) × (length l.buf ≡ length l.initial.buf)
+    × Going l.letters.words.now l.letters.count l.back l.set_count l.opened l.frame l.initial.buf l.layers l.next l.buf l.at
 
-abbrev pub decreases-loop-cursor : goal.decreases-loop-cursor
-decreases-loop-cursor l = size_of l.cursor
+abbrev pub decreases-loop-next : goal.decreases-loop-next
+decreases-loop-next l = size_of l.next

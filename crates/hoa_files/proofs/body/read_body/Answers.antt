@@ -1,67 +1,31 @@
 -- `read_body` meets its contract. The loop's invariant: the states up to the place, and the masks of them.
-use Prim.Native.Nat.{ℕ, ◌+◌, ◌≤◌, ◌<◌}
-use mathlib.Core.List.{List}
-use lib.ListN.{length, drop}
-use native.Mathlib.Omega.{arith}
-use Rattle.hoa_files.specs.Automata.{state_line, edge_line, end_line}
-use Rattle.hoa_files.specs.Reading.{TakesLine}
-use Rattle.hoa_files.proofs.BodyRead.{BodyRead, body_start, body_within, body_state, body_edge, body_refused, body_end, line_within}
+use mathlib.Core.Path.{refl}
+use Rattle.hoa_files.specs.Automata.{end_line}
+use Rattle.hoa_files.proofs.Starting.{from_place}
+use Rattle.hoa_files.proofs.BodyRead.{body_start, body_within, body_state, body_edge, body_refused, body_end, line_within}
 use Rattle.hoa_files.proofs.body.read_body.Goals as goal
-
--- a line that was taken is within the file, and has some bytes
-within : {l : List ℕ} {n s at k marked edges : ℕ} → BodyRead l n s at k marked edges → (next : List ℕ) (count : ℕ) → TakesLine (drop at l) next count
-    → (0 < count) × (at + count ≤ length l)
-within {l} {n} {s} {at} r next count t = line_within l next at count (body_within r).0 t
 
 pub loop-is_marked-init : goal.loop-is_marked-init
 loop-is_marked-init c = body_start c.requires
 
-pub body_line-requires : goal.body_line-requires
-body_line-requires c = body_within c.loop-is_marked.invariant
-
-pub mark-marked-requires : goal.mark-marked-requires
-mark-marked-requires c = omega (arith, body_within c.loop-is_marked.invariant)
-
-pub overflow_add-count : goal.overflow_add-count
-overflow_add-count c = omega (arith, body_within c.loop-is_marked.invariant)
-
-pub overflow_add-at : goal.overflow_add-at
-overflow_add-at c = omega (arith, within c.loop-is_marked.invariant (state_line c.loop-is_marked.count c.in-State.is_marked) _ c.in-State.ensures.1)
-
-pub loop-is_marked-smaller-in-State : goal.loop-is_marked-smaller-in-State
-loop-is_marked-smaller-in-State c = omega (arith, within c.loop-is_marked.invariant (state_line c.loop-is_marked.count c.in-State.is_marked) _ c.in-State.ensures.1)
-
-pub loop-is_marked-preserved-in-State : goal.loop-is_marked-preserved-in-State
-loop-is_marked-preserved-in-State c = body_state c.loop-is_marked.invariant c.in-State.is_marked c.in-State.length c.mark-marked.result c.in-State.ensures.0 c.in-State.ensures.1 c.mark-marked.ensures
-
-pub overflow_sub-count : goal.overflow_sub-count
-overflow_sub-count c = omega (arith, c.in-Edge.ensures.0)
-
-pub overflow_mul-count : goal.overflow_mul-count
-overflow_mul-count c = omega (arith, body_within c.loop-is_marked.invariant)
-
-pub overflow_add-count-in-Edge : goal.overflow_add-count-in-Edge
-overflow_add-count-in-Edge c = omega (arith, body_within c.loop-is_marked.invariant, c.in-Edge.ensures.1)
-
-pub with-edges-requires : goal.with-edges-requires
-with-edges-requires c = omega (arith, body_within c.loop-is_marked.invariant, c.in-Edge.ensures.1)
-
-pub overflow_add-at-in-Edge : goal.overflow_add-at-in-Edge
-overflow_add-at-in-Edge c = omega (arith, within c.loop-is_marked.invariant (edge_line c.in-Edge.to) _ c.in-Edge.ensures.2)
-
-pub loop-is_marked-smaller : goal.loop-is_marked-smaller
-loop-is_marked-smaller c = omega (arith, within c.loop-is_marked.invariant (edge_line c.in-Edge.to) _ c.in-Edge.ensures.2)
+pub loop-is_marked-preserved-in-Ok-State : goal.loop-is_marked-preserved-in-Ok-State
+loop-is_marked-preserved-in-Ok-State c =
+    let w = c.in-Ok-State in
+    let t = rw (w.field-0-is, from_place c.args.file.now c.loop-is_marked.at) at w.ensures in
+    body_state c.loop-is_marked.invariant w.is_marked w.length c.mark-marked.result t.0 t.1 c.mark-marked.ensures
 
 pub loop-is_marked-preserved : goal.loop-is_marked-preserved
-loop-is_marked-preserved c = body_edge c.loop-is_marked.invariant c.in-Edge.to c.in-Edge.length c.with-edges.result c.in-Edge.ensures.0 c.in-Edge.ensures.1 c.in-Edge.ensures.2 c.with-edges.ensures
+loop-is_marked-preserved c =
+    let w = c.in-Ok-Edge in
+    let t = rw (w.field-0-is, from_place c.args.file.now c.loop-is_marked.at) at w.ensures in
+    body_edge c.loop-is_marked.invariant w.to w.length c.with-edges.result t.0 t.1 t.2 c.with-edges.ensures
 
-pub overflow_add-at-in-End : goal.overflow_add-at-in-End
-overflow_add-at-in-End c = omega (arith, within c.loop-is_marked.invariant end_line 8 c.in-End.ensures.1)
+pub returns-in-Ok-End : goal.returns-in-Ok-End
+returns-in-Ok-End c =
+    let w = c.in-Ok-End in
+    let t = rw (w.field-0-is, from_place c.args.file.now c.loop-is_marked.at) at w.ensures in
+    let i = c.loop-is_marked.invariant in
+    body_end i _ c.finish.result (refl, refl, refl, refl) t.0 t.1 (line_within c.args.file.now end_line c.loop-is_marked.at 8 (body_within i).0 t.1).1 c.finish.ensures
 
-pub returns-in-End : goal.returns-in-End
-returns-in-End c =
-    let t = c.in-End.ensures in
-    body_end c.loop-is_marked.invariant c.finish.result t.0 t.1 (within c.loop-is_marked.invariant end_line 8 t.1).1 c.finish.ensures
-
-pub returns-in-Refused : goal.returns-in-Refused
-returns-in-Refused c = body_refused c.loop-is_marked.invariant _ c.in-Refused.ensures
+pub returns-in-Err : goal.returns-in-Err
+returns-in-Err c = body_refused c.loop-is_marked.invariant _ (rw (from_place c.args.file.now c.loop-is_marked.at) at c.in-Err.ensures)

@@ -1,11 +1,16 @@
 -- `place` meets its contract: the place of a name is that of its number.
 use mathlib.Core.Path.{◌∙◌}
 use native.Mathlib.Omega.{arith}
-use lib.ListN.{take, length-take}
-use Rattle.lists.proofs.Deciding.{denied}
+use mathlib.Core.Bool.{not}
+use lib.ListN.{take}
+use lib.Seq.{length-take-le}
+use Rattle.std.specs.Prelude.{◌==◌}
 use Rattle.std.proofs.lemmas.Bool.{not_from_false}
+use Rattle.std.proofs.lemmas.List.Sums.{prefix_len-le-length}
+use Rattle.lists.proofs.Deciding.{denied}
 use Rattle.machine.specs.Marks.{Name}
-use Rattle.marks.proofs.Placing.{first_within, place_in}
+use Rattle.marks.specs.declared.Mark.{Mark}
+use Rattle.marks.proofs.Placing.{first_or_end, place_in}
 use Rattle.marks.proofs.Marks.place.Goals.{Else-not-is_name}
 use Rattle.marks.proofs.Marks.place.Goals as goal
 
@@ -21,10 +26,13 @@ name_number-requires c = (named (goal.at.name_number-requires c).Else-not-is_nam
 
 pub returns : goal.returns
 returns c =
-    let n = c.name_number in
-    let s = c.args.self in
-    let e = rw n.ensures at c.first_place-at.ensures in record {
+    let s = c.args.self.now in
+    let name = c.args.name.now in
+    let few = length-take-le s.count s.marks (omega arith) in
+    let p = λ (k : Mark). k.name == c.name_number.result in
+    let at = rw c.first_place-at.ensures at c.unwrap_or.ensures ∙ first_or_end p (take s.count s.marks) s.count few in
+    record {
       is_name = named (goal.at.returns c).Else-not-is_name;
-      within = omega (arith, e, first_within n.result (take s.count s.names), length-take s.count s.names);
-      place_is = λ l st. e ∙ place_in s c.args.name.now l st (named (goal.at.returns c).Else-not-is_name);
+      within = omega (arith, at, prefix_len-le-length (λ (k : Mark). not (p k)) (take s.count s.marks));
+      place_is = λ l st. rw c.name_number.ensures at at ∙ place_in s name l st (named (goal.at.returns c).Else-not-is_name);
     }

@@ -5,4 +5,4 @@ use Rattle.session.proofs.Session.close_open.Goals as goal
 
 pub returns : goal.returns
 returns c =
-    close_done _ _ _ _ (c.put_letters-points.ensures refl) c.close-now.result c.done_with.ensures c.requires c.close-now.ensures
+    close_done _ _ _ _ (c.put_letters-ends.ensures refl) c.close.result c.done_with.ensures c.requires c.close.ensures

@@ -5,4 +5,4 @@ use Rattle.session.specs.Standing.{with_marks}
 use Rattle.session.proofs.Session.emptied.Goals as goal
 
 pub returns : goal.returns
-returns c = ap (λ (t : Session). with_marks c.args.self t) c.fresh-fresh.ensures
+returns c = ap (λ (t : Session). with_marks c.args.self.now t) c.fresh.ensures

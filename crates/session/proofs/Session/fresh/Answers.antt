@@ -6,4 +6,4 @@ use Rattle.session.proofs.Session.fresh.Goals as goal
 
 pub returns : goal.returns
 unfolding record_of standing_sets
-returns c = rw c.none-marks.ensures refl
+returns c = rw c.none.ensures refl

@@ -1,9 +1,6 @@
--- `mark` meets its contract, by the state of the session.
-use Rattle.session.proofs.Gate.{gate, in_any_phase}
+-- `mark` meets its contract, by what the record is.
+use Rattle.session.proofs.Gate.{away}
 use Rattle.session.proofs.Session.mark.Goals as goal
 
-pub mark_under-requires : goal.mark_under-requires
-mark_under-requires c = in_any_phase _ _ c.state.ensures c.in-Open.is
-
-pub returns-in-Foreign : goal.returns-in-Foreign
-returns-in-Foreign c = search gate
+pub returns-in-Err : goal.returns-in-Err
+returns-in-Err c = away c.args.self c.in-Err.ensures c.refuse.ensures

@@ -1,14 +1,18 @@
 -- `print_settled` meets its contract.
 use mathlib.Core.Path.{refl}
+use Rattle.automaton.specs.Promise.{automaton_of}
+use Rattle.session.proofs.Rounded.{given_of}
 use Rattle.session.proofs.Written.{reads_keyed, prints_settled}
 use Rattle.session.proofs.Session.print_settled.Goals as goal
-
-pub print-answer-requires : goal.print-answer-requires
-print-answer-requires c = (c.requires.0.few, c.requires.0.few_sets, c.turn_indexed.ensures refl (c.fill-points.ensures.indexed refl))
 
 pub returns : goal.returns
 returns c =
     let s = c.args.self in
-    let keyed = c.put_keys.ensures.keyed refl refl in
-    prints_settled s c.args.v c.requires _ _ keyed _ (reads_keyed s _ _ keyed _ (c.fill-points.ensures.gives refl)) _ _ c.print-answer.auto.buffer
-    c.print-answer.result c.progress-kept.result c.progress-kept.ensures c.print-answer.ensures
+    let keys = c.keys-keys in
+    let sets = c.row_sets in
+    let fill = c.fill-ends in
+    let a = automaton_of fill.new.graph fill.result.initials fill.result.finals in
+    let reads = reads_keyed s keys.result keys.ensures.keyed sets.result sets.ensures.sets sets.ensures.count a (fill.ensures.gives refl) in
+    rw c.answered.ensures (prints_settled s c.args.v c.requires keys.result keys.ensures.keyed c.words_of-words.result c.words_of-words.ensures
+    c.new-both.result fill.result (λ x p. rw (c.new-both.ensures, c.new-graph.ensures) (given_of x s p a reads)) _ _ c.print-answer.auto.buffer
+    c.print-answer.result c.progress-progress.result c.progress-progress.ensures c.print-answer.ensures)

@@ -3,7 +3,7 @@ use Rattle.session.proofs.Marked.{reworked_open, reworked_running, reworked_sett
 use Rattle.session.proofs.Session.rework.Goals as goal
 
 pub returns-in-Open : goal.returns-in-Open
-returns-in-Open c = search reworked_open
+returns-in-Open c = rw c.done.ensures (reworked_open c.args.self c.requires.0 c.args.rounds c.in-Open.is)
 
 pub returns-in-Running : goal.returns-in-Running
 returns-in-Running c = search reworked_running

@@ -1,9 +1,6 @@
--- `save` meets its contract, by the state of the session.
-use Rattle.session.proofs.Gate.{gate, in_any_phase}
+-- `save` meets its contract, by what the record is.
+use Rattle.session.proofs.Gate.{away}
 use Rattle.session.proofs.Session.save.Goals as goal
 
-pub save_rows-requires : goal.save_rows-requires
-save_rows-requires c = in_any_phase _ _ c.state.ensures c.in-Open.is
-
-pub returns-in-Foreign : goal.returns-in-Foreign
-returns-in-Foreign c = search gate
+pub returns-in-Err : goal.returns-in-Err
+returns-in-Err c = away c.args.self c.in-Err.ensures c.refuse.ensures

@@ -1,11 +1,12 @@
 -- `work` meets its contract.
 use mathlib.Core.Path.{refl}
+use Rattle.automaton.specs.Promise.{automaton_of}
 use Rattle.session.proofs.Marked.{works_up_to}
-use borrow.Author.Rules.{rules}
 use Rattle.session.proofs.Session.work.Goals as goal
 
-pub work-now-requires : goal.work-now-requires
-work-now-requires c = search (rules, c.turn_indexed.ensures refl)
-
 pub returns : goal.returns
-returns c = search works_up_to
+returns c =
+    let s = c.args.self in
+    let fill = c.fill-ends in
+    works_up_to s (automaton_of fill.new.masks fill.result.initials fill.result.finals) (fill.ensures.reads refl) c.args.most c.work.result
+    (rw (← c.new-graph.ensures, ← c.new-both.ensures) c.work.ensures) c.done_with.ensures

@@ -19,8 +19,8 @@ returns-then-both-ne0 c =
     let a = c.args in
     let both : ℕ = c.intersection-both.result in
     let is = c.intersection-both.ensures in
-    let start : ℕ = c.lowest.result in
-    let low = c.lowest.ensures in record {
+    let start : ℕ = c.lowest-start.result in
+    let low = c.lowest-start.ensures in record {
       kept = record { length_is = refl; stay = λ i h. refl };
       laid = inl (
         refl,

@@ -1,0 +1,2 @@
+-- Which cause has a number.
+pub mod Numbers

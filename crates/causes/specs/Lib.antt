@@ -1,0 +1,2 @@
+-- The definitions that the contracts of `causes` cite.
+pub mod Numbers

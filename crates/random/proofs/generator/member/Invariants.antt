@@ -1,5 +1,0 @@
--- `random::generator::member` is safe and ends. The measure is what is left to count.
-use Rattle.random.proofs.generator.member.Given as goal
-
-abbrev pub decreases-loop-left : goal.decreases-loop-left
-decreases-loop-left l = l.left

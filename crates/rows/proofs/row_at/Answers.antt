@@ -1,7 +1,0 @@
--- `row_at` meets its contract: what is written into the rest stands in the whole.
-use Rattle.rows.specs.Rows.{row_bytes}
-use Rattle.lists.proofs.Writing.{wrote_at_part}
-use Rattle.rows.proofs.row_at.Goals as goal
-
-pub returns : goal.returns
-returns c = wrote_at_part (row_bytes c.args.row) c.args.buf.now c.write_row.new.buf c.args.at c.write_row.ensures

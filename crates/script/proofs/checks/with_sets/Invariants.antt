@@ -1,9 +1,0 @@
--- `with_sets` ends.
-use Prim.Native.Nat.{◌≤◌, ◌-◌}
-use Rattle.script.proofs.checks.with_sets.Given as goal
-
-abbrev pub invariant-loop-i : goal.invariant-loop-i
-invariant-loop-i l = l.i ≤ 64
-
-abbrev pub decreases-loop-i : goal.decreases-loop-i
-decreases-loop-i l = 64 - l.i

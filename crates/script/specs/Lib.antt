@@ -1,2 +1,0 @@
--- What the programs that run scripts read.
-pub mod Input

@@ -1,0 +1,8 @@
+-- `search::IndexedGraph::meeting` meets its contract.
+use Rattle.search.proofs.Incidence.{meet}
+use Rattle.search.proofs.IndexedGraph.meeting.Goals as goal
+use Rattle.search.specs.Graph.{graph_of}
+
+pub returns : goal.returns
+unfolding graph_of
+returns c = rw (← c.self.view_is) (meet c.self.inside.masks.now 64 256 c.self.invariant.by_sets c.args.m _ c.targets_in.ensures)

@@ -1,8 +1,0 @@
--- `texts::item_at` meets its contract: what `put_item` leaves in the part from `at` on, said of the whole buffer.
-use Rattle.lists.proofs.Writing.{wrote_at_part}
-use Rattle.texts.proofs.item_at.Goals as goal
-
-pub returns : goal.returns
-returns c =
-    let a = c.args in
-    wrote_at_part _ a.buf.now c.put_item.new.buf a.at c.put_item.ensures
