@@ -1,5 +1,5 @@
 -- Which sets a state is in, and which have a limit of it: written part by part (`fills`, `indexing_more`, `turned_into`, `indexes`), in
--- the graph turned round too (`turns_into`, `turns`), what they tell (`has`, `meet`), and the steps by claims that they give (`claims_lead`, `all_touched`).
+-- the graph turned round too (`turns_into`, `turns_indexed`), what they tell (`has`, `meet`), and the steps by claims that they give (`claims_lead`, `all_touched`).
 use Prim.Native.Nat.{ℕ, ◌+◌, ◌≤◌, ◌<◌}
 use mathlib.Core.Path.{◌≡◌, refl, ap, sym, subst, ◌∙◌}
 use mathlib.Core.Bool.{◌&&◌, ◌||◌}
@@ -16,7 +16,7 @@ use Rattle.masks.specs.Mask.{member, ◌∈◌}
 use Rattle.masks.proofs.Member.{in_none, lt_or_le, member_lt, union_left, union_right, union_cases, intersection_left, intersection_right, intersection_both}
 use Rattle.masks.proofs.Turning.{Sources, sources_none, sources_more, sources_some}
 use Rattle.search.specs.declared.Claims.{Claims}
-use Rattle.search.specs.Graph.{Graph, part, graph_of, TurnedGraph, Indexed, HasTurned, Having, Meeting, Fills, PlaceAdded, PartIndexed, Indexes}
+use Rattle.search.specs.Graph.{Graph, part, graph_of, TurnedGraph, TurnsIndexed, Having, Meeting, Fills, PlaceAdded, PartIndexed, Indexes}
 use Rattle.search.specs.Hops.{Claimed, BackOrMix, Touched, Onward}
 use Rattle.search.proofs.Parts.{at_part, past_part, letters_at, part_length, part_stays, graph_stays}
 
@@ -62,7 +62,7 @@ turned_as : (a b c d : List ℕ) → ((i : ℕ) → get_or c i 0 ≡ get_or a i 
 turned_as a b c d f g is i j hi hj = ap (member i) (g j) ∙ is i j hi hj ∙ sym (ap (member j) (f i))
 
 -- the other three, after them
-module _ (g : Graph) (l : List ℕ) (same : graph_of l ≡ g) (is : Indexed l) (b₁ b₂ b₃ b₄ : List ℕ) (t : TurnedGraph (graph_of l) (graph_of b₁))
+module _ (l b₁ b₂ b₃ b₄ : List ℕ) (t : TurnedGraph (graph_of l) (graph_of b₁))
     (f₂ : Fills b₁ 256 (part l 256) b₂) (f₃ : Fills b₂ 320 (part l 384) b₃) (f₄ : Fills b₃ 384 (part l 320) b₄) where
   same_graph : graph_of b₄ ≡ graph_of b₁
   same_graph = graph_stays b₁ b₄ (f₄.length_is ∙ f₃.length_is ∙ f₂.length_is)
@@ -71,10 +71,10 @@ module _ (g : Graph) (l : List ℕ) (same : graph_of l ≡ g) (is : Indexed l) (
   turned : TurnedGraph (graph_of l) (graph_of b₄)
   turned = subst (TurnedGraph (graph_of l)) (sym same_graph) t
 
-  pub turns : HasTurned g b₄
-  turns = record {
-    turned = subst (λ (x : Graph). TurnedGraph x (graph_of b₄)) same turned;
-    indexed = record {
+  pub turns_indexed : TurnsIndexed l b₄
+  turns_indexed = record {
+    turned = turned;
+    indexed = λ is. record {
       by_sets = turned_as (graph_of l).sets (part l 256) (graph_of b₄).sets (part b₄ 256) turned.sets_are
           (as_part l b₄ 256 256 (λ j h. f₄.others (256 + j) (inl (omega arith)) ∙ f₃.others (256 + j) (inl (omega arith)) ∙ f₂.filled j h)) is.by_sets;
       by_lefts = turned_as (graph_of l).rights (part l 384) (graph_of b₄).lefts (part b₄ 320) turned.lefts_are

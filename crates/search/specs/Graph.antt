@@ -31,6 +31,11 @@ pub record Indexed (l : List ℕ) : Type 0 where
   pub by_lefts : Turned (graph_of l).lefts (part l 320)
   pub by_rights : Turned (graph_of l).rights (part l 384)
 
+-- an array becomes the graph turned round; where that of the graph has its other parts, it has them too
+pub record TurnsIndexed (l new : List ℕ) : Type 0 where
+  pub turned : TurnedGraph (graph_of l) (graph_of new)
+  pub indexed : Indexed l → Indexed new
+
 -- an array has the graph g turned round, and these parts
 pub record HasTurned (g : Graph) (back : List ℕ) : Type 0 where
   pub turned : TurnedGraph g (graph_of back)

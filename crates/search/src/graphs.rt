@@ -2,9 +2,9 @@
 ghost use Rattle.std.specs.Prelude.{◌≡◌, ℕ, ◌+◌, ◌≤◌, ◌<◌, length, get_or};
 ghost use Rattle.masks.specs.Graph.{Targets, Turned};
 ghost use Rattle.search.specs.Graph.{part, graph_of, TurnedGraph, Indexed, Fills, PlaceAdded, PartIndexed, Indexes};
-ghost use Rattle.search.specs.Graph.{HasTurned, Having, Meeting};
+ghost use Rattle.search.specs.Graph.{TurnsIndexed, HasTurned, Having, Meeting};
 
-use crate::{IndexedGraph, TwoWayGraph};
+use crate::{IndexedGraph, MaskGraph, TwoWayGraph};
 use masks::{PLACES, Places, STATES, Set, each, with};
 
 // Where the parts begin; the letters stand first, a mask for each state, and the others have one for each set.
@@ -28,9 +28,18 @@ const MANY_SETS: usize = 16;
 
 pub type Masks = [Set; MASKS];
 
+// The mask at place `i` of the part that begins at `base`.
+#[tactic(auto, using(crate::proofs::Parts::at_part))]
+pub fn mask_at(graph: &Masks, base: usize, i: usize) -> Set
+    requires { (base ≤ 384) × (i < 64) }
+    ensures { result ≡ get_or (part graph.now base) i 0 }
+{
+    graph[base + i]
+}
+
 // The targets of the states, or of the places, `m` in the part that begins at `base`.
 #[tactic(auto, using(crate::proofs::Parts::targets_part))]
-fn targets_in(graph: &[Set], base: usize, m: Set) -> Set
+pub fn targets_in(graph: &[Set], base: usize, m: Set) -> Set
     requires { base + 64 ≤ length graph.now }
     ensures { Targets (part graph.now base) m result }
 {
@@ -118,51 +127,60 @@ fn turn(graph: &Masks, back: &mut Masks)
     copy(back, RIGHTS, graph, LEFTS);
 }
 
-impl<'a> IndexedGraph<'a> {
+// Writes the whole array of the graph turned round. Which sets a state touches is only copied: there a left limit is a right one.
+pub fn turn_indexed(graph: &Masks, back: &mut Masks)
+    ensures { TurnsIndexed graph.now back.new }
+{
+    turn(graph, back);
+    copy(back, BY_SETS, graph, BY_SETS);
+    copy(back, BY_LEFTS, graph, BY_RIGHTS);
+    copy(back, BY_RIGHTS, graph, BY_LEFTS);
+}
+
+impl<'a> MaskGraph<'a> {
     // The graph of an array.
     pub fn new(masks: &'a Masks) -> Self
-        requires { Indexed masks.now }
         ensures { result ≡ graph_of masks.now }
     {
-        IndexedGraph { masks }
+        MaskGraph { masks }
     }
 
     // Each part has methods of its own: a promise names the list that the part is, which a place handed in would hide.
 
     // The states to which a letter leads from the state `s`.
-    #[tactic(auto, using(crate::proofs::Parts::letters_at))]
+    #[tactic(auto, unfolding(crate::specs::Graph::graph_of))]
     pub fn letters_at(&self, s: usize) -> Set
         requires { s < 64 }
         ensures { result ≡ get_or self.now.letters s 0 }
     {
-        self.masks[s]
+        mask_at(self.masks, 0, s)
     }
 
     // The set at place `i`.
-    #[tactic(auto, using(crate::proofs::Parts::sets_at))]
+    #[tactic(auto, unfolding(crate::specs::Graph::graph_of))]
     pub fn set_at(&self, i: usize) -> Set
         requires { i < 64 }
         ensures { result ≡ get_or self.now.sets i 0 }
     {
-        self.masks[SETS + i]
+        mask_at(self.masks, SETS, i)
     }
 
     // The states that the left-limit rows of the set at place `i` lead to.
-    #[tactic(auto, using(crate::proofs::Parts::lefts_at))]
+    #[tactic(auto, unfolding(crate::specs::Graph::graph_of))]
     pub fn lefts_at(&self, i: usize) -> Set
         requires { i < 64 }
         ensures { result ≡ get_or self.now.lefts i 0 }
     {
-        self.masks[LEFTS + i]
+        mask_at(self.masks, LEFTS, i)
     }
 
     // The states that the right-limit rows of the set at place `i` start from.
-    #[tactic(auto, using(crate::proofs::Parts::rights_at))]
+    #[tactic(auto, unfolding(crate::specs::Graph::graph_of))]
     pub fn rights_at(&self, i: usize) -> Set
         requires { i < 64 }
         ensures { result ≡ get_or self.now.rights i 0 }
     {
-        self.masks[RIGHTS + i]
+        mask_at(self.masks, RIGHTS, i)
     }
 
     // The sets by place, those past the last one empty.
@@ -193,6 +211,79 @@ impl<'a> IndexedGraph<'a> {
     {
         let masks = self.masks;
         &masks[RIGHTS..BY_SETS]
+    }
+}
+
+impl<'a> IndexedGraph<'a> {
+    // The graph of an array.
+    pub fn new(masks: &'a Masks) -> Self
+        requires { Indexed masks.now }
+        ensures { result ≡ graph_of masks.now }
+    {
+        IndexedGraph { masks }
+    }
+
+    // Its first four parts alone.
+    pub fn parts(&self) -> MaskGraph<'a>
+        ensures { result ≡ self.now }
+    {
+        MaskGraph::new(self.masks)
+    }
+
+    // The states to which a letter leads from the state `s`.
+    pub fn letters_at(&self, s: usize) -> Set
+        requires { s < 64 }
+        ensures { result ≡ get_or self.now.letters s 0 }
+    {
+        self.parts().letters_at(s)
+    }
+
+    // The set at place `i`.
+    pub fn set_at(&self, i: usize) -> Set
+        requires { i < 64 }
+        ensures { result ≡ get_or self.now.sets i 0 }
+    {
+        self.parts().set_at(i)
+    }
+
+    // The states that the left-limit rows of the set at place `i` lead to.
+    pub fn lefts_at(&self, i: usize) -> Set
+        requires { i < 64 }
+        ensures { result ≡ get_or self.now.lefts i 0 }
+    {
+        self.parts().lefts_at(i)
+    }
+
+    // The states that the right-limit rows of the set at place `i` start from.
+    pub fn rights_at(&self, i: usize) -> Set
+        requires { i < 64 }
+        ensures { result ≡ get_or self.now.rights i 0 }
+    {
+        self.parts().rights_at(i)
+    }
+
+    // The sets by place, those past the last one empty.
+    pub fn sets(&self) -> &'a [Set]
+        ensures are { result.now ≡ self.now.sets }
+        ensures many { length result.now ≡ 64 }
+    {
+        self.parts().sets()
+    }
+
+    // By place, the states that the left-limit rows of the set lead to.
+    pub fn lefts(&self) -> &'a [Set]
+        ensures are { result.now ≡ self.now.lefts }
+        ensures many { length result.now ≡ 64 }
+    {
+        self.parts().lefts()
+    }
+
+    // By place, the states that the right-limit rows of the set start from.
+    pub fn rights(&self) -> &'a [Set]
+        ensures are { result.now ≡ self.now.rights }
+        ensures many { length result.now ≡ 64 }
+    {
+        self.parts().rights()
     }
 
     // The states of the sets at the places.
@@ -238,15 +329,11 @@ impl<'a> IndexedGraph<'a> {
         targets_in(masks, BY_RIGHTS, m)
     }
 
-    // Writes the whole array of the graph turned round. Which sets a state touches is only copied: there a left limit is a right one.
+    // Writes the whole array of the graph turned round.
     pub fn turn_into(&self, back: &mut Masks)
         ensures { HasTurned self.now back.new }
     {
-        let graph = self.masks;
-        turn(graph, back);
-        copy(back, BY_SETS, graph, BY_SETS);
-        copy(back, BY_LEFTS, graph, BY_RIGHTS);
-        copy(back, BY_RIGHTS, graph, BY_LEFTS);
+        turn_indexed(self.masks, back);
     }
 }
 

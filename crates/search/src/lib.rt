@@ -49,6 +49,18 @@ pub struct Endpoints {
     pub finals: Set,
 }
 
+// A graph on the states, read from any array of masks: its first four parts alone.
+#[derive(Drop)]
+pub struct MaskGraph<'a> {
+    masks: &'a Masks,
+}
+
+impl<'a> Model for MaskGraph<'a> {
+    ghost Value = { Graph };
+
+    ghost view = { λ a. graph_of a.masks.now };
+}
+
 // A graph on the states, read from an array whose every part is written.
 #[derive(Drop)]
 pub struct IndexedGraph<'a> {

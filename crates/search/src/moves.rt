@@ -5,7 +5,7 @@ ghost use Rattle.search.specs.Graph.{graph_of};
 ghost use Rattle.search.specs.Hops.{Lettered, Looping, Mixing, Claimed, Touched, Hop, Onward, Inner, InnerClaims};
 
 use crate::graphs::Masks;
-use crate::{Claims, IndexedGraph};
+use crate::{Claims, IndexedGraph, MaskGraph};
 use masks::{Places, Set, each, intersection, is_subset, meets, union, with};
 
 // The place `i` alone where `b` is true, else nothing.
@@ -25,13 +25,13 @@ fn passed(here: Set, there: Set, m: Set) -> Set
 
 // The states to which a letter leads from the states `m`. Of the array only the letters are read.
 #[tactic(auto, using(crate::proofs::Parts::letters_lead))]
-pub(crate) fn lettered(graph: &Masks, m: Set) -> Set
+pub fn lettered(graph: &Masks, m: Set) -> Set
     ensures { Onward (Lettered (graph_of graph.now)) m result }
 {
     masks::targets(graph, m)
 }
 
-impl<'a> IndexedGraph<'a> {
+impl<'a> MaskGraph<'a> {
     // The places whose sets are parts of `p`.
     fn inside(&self, places: Places, p: Set) -> Places
         ensures { Inner self.now.sets places p result }
@@ -51,6 +51,15 @@ impl<'a> IndexedGraph<'a> {
             loops: self.inside(force.loops, p),
             mixes: self.inside(force.mixes, p),
         }
+    }
+}
+
+impl<'a> IndexedGraph<'a> {
+    // The claims about parts of `p`.
+    pub fn inner(&self, force: Claims, p: Set) -> Claims
+        ensures { InnerClaims self.now force p result }
+    {
+        self.parts().inner(force, p)
     }
 
     // The states to which a letter leads from the states `m`.

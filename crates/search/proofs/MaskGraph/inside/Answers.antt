@@ -1,9 +1,9 @@
--- `search::IndexedGraph::inside` meets its contract. The place i gives i where its set is a part of p.
+-- `search::MaskGraph::inside` meets its contract. The place i gives i where its set is a part of p.
 use lib.ListN.{get_or}
 use Rattle.masks.specs.Mask.{◌⊆◌}
 use Rattle.masks.proofs.Gathering.{gather_from, gather_more, here_end}
 use Rattle.masks.proofs.Passing.{begun}
-use Rattle.search.proofs.IndexedGraph.inside.Goals as goal
+use Rattle.search.proofs.MaskGraph.inside.Goals as goal
 
 pub loop-i-init : goal.loop-i-init
 loop-i-init c = gather_from (begun c.into_iter-i-iterator.ensures.into_iter_gives c.each-i-items.ensures)
