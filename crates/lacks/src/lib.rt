@@ -2,7 +2,7 @@
 // is an entrance. A place that a mask does not have says nothing, so a new claim only takes places out.
 #![tactic(auto)]
 
-ghost use Rattle.std.specs.Prelude.{◌⊎◌, ◌↔◌, ℕ, ◌≤◌, ◌<◌, get_or};
+ghost use Rattle.std.specs.Prelude.{◌≡◌, ◌⊎◌, ◌↔◌, ℕ, ◌≤◌, ◌<◌, get_or, replicate};
 ghost use Rattle.lists.specs.Tests.{Decides};
 ghost use Rattle.masks.specs.Mask.{◌∈◌};
 ghost use Rattle.search.specs.Graph.{Graph, TurnedGraph};
@@ -12,10 +12,10 @@ ghost use Rattle.lacks.specs.Lacks.{InSome, Above, Without, TakenOut, Spares, Le
 
 use masks::{Places, STATES, Set, below, difference, each, has, intersection, meets, union, with};
 use search::moves::marked;
-use search::{Claims, IndexedGraph, TwoWayGraph};
+use search::{Claims, IndexedGraph, MaskGraph, TwoWayGraph};
 
 // Has the set at place `i` an entrance and an exit?
-fn is_pieced(graph: &IndexedGraph, i: usize) -> bool
+fn is_pieced(graph: &MaskGraph, i: usize) -> bool
     requires { i < 64 }
     ensures { Decides result (Pieced graph.now i) }
 {
@@ -27,7 +27,7 @@ fn is_pieced(graph: &IndexedGraph, i: usize) -> bool
 }
 
 // The places of the first `set_count` sets that have an entrance and an exit.
-pub fn pieced(graph: &IndexedGraph, set_count: usize) -> Places
+pub fn pieced(graph: &MaskGraph, set_count: usize) -> Places
     requires { set_count ≤ 64 }
     ensures { PiecedBelow graph.now set_count result }
 {
@@ -147,22 +147,40 @@ pub struct Lacks {
 }
 
 impl Lacks {
+    // No mask has a place.
+    pub fn none() -> Self
+        ensures to { result.to ≡ replicate 64 0 }
+        ensures from { result.from ≡ replicate 64 0 }
+    {
+        Lacks {
+            to: [0u64; STATES],
+            from: [0u64; STATES],
+        }
+    }
+
     // Where no claim is in force, of the states of the first `set_count` sets: no other is in a set. An entrance, and backward an exit, is not lacking
     // at the places `pieces`.
+    pub fn fill(&mut self, graph: &TwoWayGraph, pieces: Places, set_count: usize)
+        requires { set_count ≤ 64 }
+        ensures forward { ByLetters graph.now pieces self.old.to self.new.to }
+        ensures backward { (back : Graph) → TurnedGraph graph.now back
+            → ByLetters back pieces self.old.from self.new.from }
+    {
+        let states = graph.forth().states_of(below(set_count));
+        let turned = graph.turned();
+        write_by_letters(&mut self.to, graph, pieces, states);
+        write_by_letters(&mut self.from, &turned, pieces, states);
+    }
+
+    // The same as one value, for those who hold none.
     pub fn by_letters(graph: &TwoWayGraph, pieces: Places, set_count: usize) -> Self
         requires { set_count ≤ 64 }
         ensures forward { (places : ℕ) → LacksIn graph.now no_claims pieces places result.to }
         ensures backward { (back : Graph) → TurnedGraph graph.now back
             → (places : ℕ) → LacksIn back no_claims pieces places result.from }
     {
-        let states = graph.forth().states_of(below(set_count));
-        let turned = graph.turned();
-        let mut lacks = Lacks {
-            to: [0u64; STATES],
-            from: [0u64; STATES],
-        };
-        write_by_letters(&mut lacks.to, graph, pieces, states);
-        write_by_letters(&mut lacks.from, &turned, pieces, states);
+        let mut lacks = Lacks::none();
+        lacks.fill(graph, pieces, set_count);
         lacks
     }
 
