@@ -11,7 +11,7 @@ ghost use Rattle.candidates.specs.Promises.{Unstuck, Handed, OpensNext};
 use lacks::Lacks;
 use masks::{Places, Set, below, difference, each, has, intersection, is_subset, union, with};
 use search::moves::marked;
-use search::{Claims, IndexedGraph, TwoWayGraph};
+use search::{Claims, MaskGraph, TwoWayGraph};
 
 // The places below `set_count` with no claim in force.
 pub fn live(force: Claims, set_count: usize) -> Places
@@ -22,7 +22,7 @@ pub fn live(force: Claims, set_count: usize) -> Places
 }
 
 // A part of `p` with a state that is the set at one of the places.
-pub fn part_among(graph: &IndexedGraph, places: Places, p: Set) -> Option<Set>
+pub fn part_among(graph: &MaskGraph, places: Places, p: Set) -> Option<Set>
     ensures { IfSome result (PartAmong graph.now places p) }
 {
     for i in each(places) {
@@ -77,7 +77,7 @@ impl Trial {
                 mixes: with(0, i),
             };
         }
-        let part = part_among(forth, self.fresh, p);
+        let part = part_among(&forth.parts(), self.fresh, p);
         Claims {
             loops: marked(loops(graph, parts, p, part), i),
             mixes: 0,
