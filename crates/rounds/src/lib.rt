@@ -19,7 +19,7 @@ use machine::{MOST_ROUNDS, MOST_SETS, Phase, Verdict};
 use masks::{Places, Set, difference, each, meets, with};
 use search::graphs::{MASKS, Masks};
 use search::searches::{accepted, accepts_by_letters};
-use search::{Claims, Endpoints, IndexedGraph, TwoWayGraph};
+use search::{Claims, Endpoints, IndexedGraph, MaskGraph, TwoWayGraph};
 
 // So many sets, and so many states of each, are looked at before the first round: to look at more would take as long as the round.
 const FEW_SETS: usize = 16;
@@ -118,8 +118,9 @@ fn opened(graph: &IndexedGraph, force: Claims, set_count: usize) -> Claims
     graph.turn_into(&mut array);
     let back = IndexedGraph::new(&array);
     let both = TwoWayGraph::new(graph, &back);
-    let pieces = lacks::pieced(graph, set_count);
-    let mut lacks = Lacks::by_letters(&both, pieces, set_count);
+    let pieces = lacks::pieced(&graph.parts(), set_count);
+    let mut lacks = Lacks::none();
+    lacks.fill(&both, pieces, set_count);
     let places = candidates::live(force, set_count);
     lacks.supply(graph, force, 0, places);
     let trial = Trial {
@@ -168,8 +169,9 @@ fn run_rounds(
     ensures { WorksUpTo graph.now ends.initials ends.finals set_count most result }
 {
     let forth = graph.forth();
-    let pieces = lacks::pieced(forth, set_count);
-    let mut lacks = Lacks::by_letters(graph, pieces, set_count);
+    let pieces = lacks::pieced(&forth.parts(), set_count);
+    let mut lacks = Lacks::none();
+    lacks.fill(graph, pieces, set_count);
     let mut trial = Trial {
         force: Claims::NONE,
         fresh: 0,
@@ -216,7 +218,7 @@ fn run_rounds(
 // Is one of the lowest states of the set at place `i`, which is no exit of it, without a letter to a state of the set? Then it opens only after
 // another set. That it is not says nothing.
 #[tactic(auto, using(crate::proofs::Vain::idle_by))]
-fn is_idle(graph: &IndexedGraph, i: usize) -> bool
+fn is_idle(graph: &MaskGraph, i: usize) -> bool
     requires { i < 64 }
     ensures { result ≡ true → Idle graph.now i }
 {
@@ -231,7 +233,7 @@ fn is_idle(graph: &IndexedGraph, i: usize) -> bool
 }
 
 // Are all of the first `set_count` sets so, which are few? Then letters alone decide.
-pub fn all_idle(graph: &IndexedGraph, set_count: usize) -> bool
+pub fn all_idle(graph: &MaskGraph, set_count: usize) -> bool
     requires { set_count ≤ 64 }
     ensures { result ≡ true → AllIdle graph.now set_count }
 {

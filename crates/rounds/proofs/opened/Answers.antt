@@ -17,16 +17,16 @@ open_next-requires c =
     let pieces = c.pieced-pieces.result in
     let places = c.live-places.result in
     let supplied = c.supply.ensures in
-    let forward = rw both at c.by_letters-lacks.ensures.forward in
-    let backward = rw both at c.by_letters-lacks.ensures.backward in
+    let forward = rw both at (c.fill.ensures.forward.lacks c.none-lacks.ensures.to) in
+    let filled = rw both at c.fill.ensures.backward in
     rw both (record {
       looping = λ i h. absurd (in_none i h);
       to_lacks = supplied.forward no_claims force pieces places (all_new force) (λ i h. h) (λ j h. absurd (in_none j h)) (forward places);
       from_lacks = λ back turned.
-          supplied.backward back turned no_claims force pieces places (all_new force) (λ i h. h) (λ j h. absurd (in_none j h)) (backward back turned places);
+          supplied.backward back turned no_claims force pieces places (all_new force) (λ i h. h) (λ j h. absurd (in_none j h)) ((filled back turned).lacks c.none-lacks.ensures.from places);
     })
 
 pub returns : goal.returns
 returns c paired =
     let opens = rw c.new-both.ensures at c.open_next.ensures in
-    opens_below ((opens _ c.pieced-pieces.ensures (λ i h. ((c.live-places.ensures i).0 h).0)).opens (awaited_all c.live-places.result paired c.live-places.ensures))
+    opens_below ((opens _ (rw c.parts.ensures at c.pieced-pieces.ensures) (λ i h. ((c.live-places.ensures i).0 h).0)).opens (awaited_all c.live-places.result paired c.live-places.ensures))

@@ -18,10 +18,11 @@ use Rattle.rounds.proofs.run_rounds.Goals as goal
 
 pub loop-done-init : goal.loop-done-init
 loop-done-init c =
-    let lacks = c.by_letters-lacks.ensures in
+    let lacks = c.fill.ensures in
+    let none = c.none-lacks.ensures in
     let places = c.live.result in (
-      rw c.forth-forth.ensures at c.pieced-pieces.ensures,
-      tracked_start c.pieced-pieces.result places c.live.ensures lacks.forward lacks.backward,
+      rw (c.parts.ensures, c.forth-forth.ensures) at c.pieced-pieces.ensures,
+      tracked_start c.pieced-pieces.result places c.live.ensures (lacks.forward.lacks none.to) (λ back turned. (lacks.backward back turned).lacks none.from),
       c.requires.2.reached_are,
       λ rows g. let first = stage_start rows g false c.requires.2.tested in (first, awaited_all places (stage_paired rows g first) c.live.ensures),
     )
