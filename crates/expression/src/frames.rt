@@ -1,11 +1,11 @@
 // What is written out for the walk and for each claim, and with which claims.
-ghost use Rattle.std.specs.Prelude.{◌≡◌, ℕ, ◌≤◌, ◌<◌, IfSome};
+ghost use Rattle.std.specs.Prelude.{◌≡◌, ℕ, ◌≤◌, ◌<◌, length, IfSome};
 ghost use Rattle.tours.specs.declared.frames.Shape.TheVariants.{Tour, Pieces};
 ghost use Rattle.expression.specs.Frames.{OpenedBefore, SetFrame, FindsSet, WalkFrame, LimitFrame, StepFrame, PlaceFrame};
 
 use machine::{MOST_ROUNDS, Step, StepLabel};
 use masks::{PLACES, Places, Set, intersection, lowest, with};
-use search::{Claims, Endpoints, IndexedGraph};
+use search::{Claims, Endpoints, MaskGraph};
 use tours::{Frame, Shape};
 
 // The loop and the mix of each set.
@@ -61,7 +61,7 @@ pub fn of_walk(opened: &Opened, set_count: usize, points: Endpoints) -> Frame
 
 // The set at place `i`, toured or in pieces, with the claims opened before the round. The graph is turned round: its rights are the lefts.
 fn of_set(
-    back: &IndexedGraph,
+    back: &MaskGraph,
     opened: &Opened,
     set_count: usize,
     shape: Shape,
@@ -84,13 +84,12 @@ fn of_set(
     }
 }
 
-// The place of a set among those of the graph.
-pub fn place_of(back: &IndexedGraph, set_count: usize, p: Set) -> Option<usize>
-    requires { set_count ≤ 64 }
+// The place of a set among the first `set_count` of those of a graph.
+pub fn place_of(sets: &[Set], set_count: usize, p: Set) -> Option<usize>
+    requires { (set_count ≤ 64) × (set_count ≤ length sets.now) }
     ensures low { IfSome result (λ i. i < 64) }
-    ensures finds { FindsSet back.now.sets set_count p result }
+    ensures finds { FindsSet sets.now set_count p result }
 {
-    let sets = back.sets();
     match sets[..set_count].binary_search(&p) {
         Ok(i) => Some(i),
         Err(_) => None,
@@ -98,20 +97,20 @@ pub fn place_of(back: &IndexedGraph, set_count: usize, p: Set) -> Option<usize>
 }
 
 // The claim that a set loops, toured from the state `q`.
-fn of_loop(back: &IndexedGraph, opened: &Opened, set_count: usize, p: Set, q: u8) -> Option<Frame>
+fn of_loop(back: &MaskGraph, opened: &Opened, set_count: usize, p: Set, q: u8) -> Option<Frame>
     requires { (set_count ≤ 64) × (q < 64) }
     ensures { LimitFrame back.now set_count opened.now (Tour q) p result }
 {
-    let i = place_of(back, set_count, p)?;
+    let i = place_of(back.sets(), set_count, p)?;
     Some(of_set(back, opened, set_count, Shape::Tour(q), i, opened[i]))
 }
 
 // The claim that a set mixes, in its pieces.
-fn of_mix(back: &IndexedGraph, opened: &Opened, set_count: usize, p: Set) -> Option<Frame>
+fn of_mix(back: &MaskGraph, opened: &Opened, set_count: usize, p: Set) -> Option<Frame>
     requires { set_count ≤ 64 }
     ensures { LimitFrame back.now set_count opened.now Pieces p result }
 {
-    let i = place_of(back, set_count, p)?;
+    let i = place_of(back.sets(), set_count, p)?;
     Some(of_set(
         back,
         opened,
@@ -124,7 +123,7 @@ fn of_mix(back: &IndexedGraph, opened: &Opened, set_count: usize, p: Set) -> Opt
 
 // The claim of a step from `a`: a tour from where an omega step starts or a back step ends, or pieces. A letter, or no step, has none.
 pub fn of_step(
-    back: &IndexedGraph,
+    back: &MaskGraph,
     opened: &Opened,
     set_count: usize,
     a: u8,
@@ -143,12 +142,7 @@ pub fn of_step(
 }
 
 // The claim at a place of the array: a tour, from the lowest state, or pieces.
-pub fn of_place(
-    back: &IndexedGraph,
-    opened: &Opened,
-    set_count: usize,
-    slot: usize,
-) -> Option<Frame>
+pub fn of_place(back: &MaskGraph, opened: &Opened, set_count: usize, slot: usize) -> Option<Frame>
     requires { (set_count ≤ 64) × (slot < 128) }
     ensures { PlaceFrame back.now set_count opened.now slot result }
 {

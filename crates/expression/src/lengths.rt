@@ -62,15 +62,15 @@ fn plus_step(
         Some(step) => match step.label {
             StepLabel::Letter(a) => plus(length, number_len(a as u64), most),
             StepLabel::Omega(p) => {
-                let i = place_of(back, set_count, p)?;
+                let i = place_of(back.sets(), set_count, p)?;
                 plus_text(plus(length, b"()w".len(), most), bytes[i], most)
             }
             StepLabel::Back(p) => {
-                let i = place_of(back, set_count, p)?;
+                let i = place_of(back.sets(), set_count, p)?;
                 plus_text(plus(length, b"()v".len(), most), bytes[i], most)
             }
             StepLabel::Mix(p) => {
-                let i = place_of(back, set_count, p)?;
+                let i = place_of(back.sets(), set_count, p)?;
                 plus_text(plus(length, b"sh()".len(), most), bytes[PLACES + i], most)
             }
         },
@@ -101,11 +101,12 @@ pub fn of_frame(
     requires { set_count ≤ 64 }
     ensures { MeasuresFrame letters.now.words.now letters.now.count back.now set_count bytes.now frame most result }
 {
+    let parts = back.parts();
     let mut layers = [0u64; LAYERS];
     let mut length = Some(0);
     let mut next = tours::begin(back, frame, &mut layers);
     while let Some(cursor) = next {
-        let step = tours::step_at(letters, back, frame, cursor, &layers);
+        let step = tours::step_at(letters, &parts, frame, cursor, &layers);
         length = plus_before(length, cursor.before, most);
         length = plus_step(length, back, set_count, bytes, step, most);
         let to = target(step, cursor.state);
@@ -150,7 +151,7 @@ fn of_slot(
     ensures { MeasuresPlace letters.now.words.now letters.now.count back.now set_count opened.now bytes.now slot most
         result }
 {
-    let frame = frames::of_place(back, opened, set_count, slot)?;
+    let frame = frames::of_place(&back.parts(), opened, set_count, slot)?;
     of_frame(letters, back, set_count, bytes, frame, most)
 }
 

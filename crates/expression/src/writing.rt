@@ -98,13 +98,14 @@ pub fn put(
     ensures puts { PutsFrame letters.now.words.now letters.now.count back.now set_count opened.now frame
         buf.old buf.new result }
 {
+    let parts = back.parts();
     let mut layers = [0u64; LAYERS];
     let mut at = 0;
     let mut next = tours::begin(back, frame, &mut layers);
     while let Some(cursor) = next {
-        let step = tours::step_at(letters, back, frame, cursor, &layers);
+        let step = tours::step_at(letters, &parts, frame, cursor, &layers);
         at = open_at(buf, at, cursor.before, step);
-        if let Some(within) = frames::of_step(back, opened, set_count, cursor.state, step) {
+        if let Some(within) = frames::of_step(&parts, opened, set_count, cursor.state, step) {
             // The round falls whatever the arrays hold.
             if within.round < frame.round {
                 at = at + put(&mut buf[at..], letters, back, opened, set_count, within);

@@ -14,7 +14,7 @@ pub use crate::frames::{Cursor, Frame, Shape};
 use crate::legs::LAYERS;
 use machine::Step;
 use masks::{Set, below, difference, take_lowest};
-use search::IndexedGraph;
+use search::{IndexedGraph, MaskGraph};
 use walks::{Leg, Letters};
 
 // The states of `m` above `s`.
@@ -149,7 +149,7 @@ pub fn advance(
 // The step at the cursor: the first one into the next layer. There is none where the leg has no steps.
 pub fn step_at(
     letters: &Letters,
-    back: &IndexedGraph,
+    back: &MaskGraph,
     frame: Frame,
     cursor: Cursor,
     layers: &[Set; LAYERS],

@@ -15,7 +15,7 @@ pub use crate::found::{FoundWalk, Leg};
 pub use crate::letters::Letters;
 use machine::{MOST_ROWS, Step, StepLabel};
 use masks::{Places, STATES, Set, difference, each, has, intersection, lowest, union};
-use search::{Claims, Endpoints, IndexedGraph};
+use search::{Claims, Endpoints, IndexedGraph, MaskGraph};
 
 // Writes the states of `p` by their distance from `ends` inside `p`, up to the first layer to which a step leads from one of `starts`: a leg of one
 // or more steps from the lowest of these, or none. `back` is the graph turned round.
@@ -99,7 +99,7 @@ fn first_pass<F: Fn(u64) -> StepLabel>(
 
 impl<'a> Letters<'a> {
     // The first step from `a` into `layer`, by kind, then by letter or set, then by target. The graph is turned round, so its rights are the lefts.
-    pub fn first_step(&self, back: &IndexedGraph, force: Claims, a: u8, layer: Set) -> Option<Step>
+    pub fn first_step(&self, back: &MaskGraph, force: Claims, a: u8, layer: Set) -> Option<Step>
         requires { a < 64 }
         ensures { Chooses layer (Way self.now.words.now self.now.count back.now force a)
             (SetsRise back.now force) result }
@@ -134,11 +134,12 @@ fn follow(
         (SetsRise back.now force) layers.now leg.start leg.steps (take result.count result.steps) }
 {
     let letters = Letters::new(words, count);
+    let parts = back.parts();
     let mut steps = [UNWRITTEN; STATES];
     let mut a = leg.start;
     for i in 0..leg.steps {
         let layer = layers[leg.steps - 1 - i];
-        let Some(step) = letters.first_step(back, force, a, layer) else {
+        let Some(step) = letters.first_step(&parts, force, a, layer) else {
             return FoundWalk {
                 start: leg.start,
                 count: i,

@@ -15,7 +15,7 @@ stopped : (c : In_default) → let a = c.args in
 stopped c =
     let a = c.args in
     take_stop (Way a.words.now a.count a.back.now a.force) (SetsRise a.back.now a.force) a.layers.now a.leg.start a.leg.steps
-    c.loop-i.steps c.loop-i.a c.loop-i.i c.loop-i-test.true c.loop-i.invariant.2 (rw (c.new-letters.ensures.words, c.new-letters.ensures.count) at c.in_default.ensures)
+    c.loop-i.steps c.loop-i.a c.loop-i.i c.loop-i-test.true c.loop-i.invariant.2 (rw (c.new-letters.ensures.words, c.new-letters.ensures.count, c.parts-parts.ensures) at c.in_default.ensures)
 
 ended : (c : After-loop-i) → let a = c.args in
     Follows (Way a.words.now a.count a.back.now a.force) (SetsRise a.back.now a.force) a.layers.now a.leg.start a.leg.steps (take a.leg.steps c.loop-i.steps)
@@ -30,7 +30,7 @@ loop-i-preserved c =
     let a = c.args in
     let at = c.loop-i in
     let t = c.in-Some.step in
-    let chosen = rw (c.new-letters.ensures.words, c.new-letters.ensures.count) at c.in-Some.ensures in (
+    let chosen = rw (c.new-letters.ensures.words, c.new-letters.ensures.count, c.parts-parts.ensures) at c.in-Some.ensures in (
       member_lt t.to _ chosen.1,
       length-set at.steps at.i t ∙ at.invariant.1,
       take_more (Way a.words.now a.count a.back.now a.force) (SetsRise a.back.now a.force) a.layers.now a.leg.start a.leg.steps

@@ -8,7 +8,7 @@ use Rattle.expression.proofs.frames.of_mix.Goals as goal
 pub returns-in_err-i : goal.returns-in_err-i
 returns-in_err-i c = let a = c.args in
     let none : c.from_residual.result ≡ None = search rules in
-    rw none (no_mix a.back.now a.set_count a.opened.now a.p (rw c.in_err-i.was at c.place_of.ensures.finds))
+    rw none (no_mix a.back.now a.set_count a.opened.now a.p (rw (c.in_err-i.was, c.sets.ensures.are) at c.place_of.ensures.finds))
 
 pub returns : goal.returns
-returns c = let a = c.args in mix_frame a.back.now a.set_count a.opened.now a.p c.in_ok-i.i c.of_set.result c.in_ok-i.ensures.finds c.of_set.ensures
+returns c = let a = c.args in mix_frame a.back.now a.set_count a.opened.now a.p c.in_ok-i.i c.of_set.result (rw c.sets.ensures.are at c.in_ok-i.ensures.finds) c.of_set.ensures

@@ -13,7 +13,7 @@ loop-next-preserved c =
     let l = c.loop-next in
     sum_more a.letters.now.words.now a.letters.now.count a.back.now a.set_count a.bytes.now a.frame a.most l.layers c.in-Some.cursor l.length c.plus_before-length.result c.plus_step-length.result
     c.step_at-step.result c.target-to.result _ c.advance-next.result (rw c.in-Some.is at l.invariant)
-    c.step_at-step.ensures.shows c.plus_before-length.ensures c.plus_step-length.ensures c.target-to.ensures.leads c.advance-next.ensures.advances
+    (rw c.parts-parts.ensures at c.step_at-step.ensures.shows) c.plus_before-length.ensures c.plus_step-length.ensures c.target-to.ensures.leads c.advance-next.ensures.advances
 
 pub returns : goal.returns
 returns c =
