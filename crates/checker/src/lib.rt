@@ -69,7 +69,7 @@ impl<'a> Loaded<'a> {
         ensures { Finishes self.now.graph.now self.now.letters.now self.now.parts buffer.old buffer.new result }
     {
         let parts = self.parts;
-        let idle = rounds::all_idle(self.graph, parts.set_count);
+        let idle = rounds::all_idle(&self.graph.parts(), parts.set_count);
         if rounds::is_vain(self.graph, parts.points, parts.set_count, idle) {
             return whole_sheet::print_vain(buffer);
         }
@@ -99,7 +99,7 @@ impl<'a> Loaded<'a> {
         ensures { Expresses self.now.graph.now self.now.letters.now self.now.parts buffer.old buffer.new result }
     {
         let parts = self.parts;
-        let idle = rounds::all_idle(self.graph, parts.set_count);
+        let idle = rounds::all_idle(&self.graph.parts(), parts.set_count);
         if rounds::is_vain(self.graph, parts.points, parts.set_count, idle) {
             return refused(Cause::VerdictEmpty);
         }
