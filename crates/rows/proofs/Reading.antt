@@ -2,7 +2,7 @@
 -- a refusal has its cause (`malformed`).
 use Prim.Native.Nat.{ℕ, zero, suc, ◌≤◌, ◌<◌, ◌+◌, ◌*◌, ◌/◌, ◌%◌, ◌^◌}
 use mathlib.Core.Path.{◌≡◌, refl, ap, sym, ◌∙◌, subst}
-use mathlib.Core.Bool.{Bool, true, false, cond, ◌&&◌}
+use mathlib.Core.Bool.{Bool, true, false, cond, ◌&&◌, ◌||◌}
 use mathlib.Core.Logic.{⊎_elim, ◌↔◌}
 use mathlib.Core.List.Memᴰ
 use mathlib.Core.List.{List, [], ◌∷◌, ◌++◌}
@@ -10,10 +10,11 @@ use lib.Dec.{eqb, ltb, leb}
 use lib.ListN.{length, take, drop, get_or, length-take, length-drop, take-append-drop}
 use lib.Seq.{drop-cons, drop-drop, take-suc, get_or-drop}
 use native.Mathlib.Omega.{arith}
+use borrow.Author.Tests.{lt-ltb, le-ltb}
 use native.Mathlib.Nat.{div-div-eq-div-mul, div-eq_of_lt, div-one, pow-suc, one-le-pow, pow-le-pow_right, div-lt_iff_lt-mul, one-mul}
 use native.Mathlib.Numerals.{add-one}
 use Rattle.std.specs.Int.{w64, from_be_bytes}
-use Rattle.std.specs.Prelude.{Option, None, Some, Result, Ok, Err}
+use Rattle.std.specs.Prelude.{Option, None, Some, Result, Ok, Err, MatchResult}
 use Rattle.causes.specs.declared.Cause.{Cause}
 use Rattle.causes.specs.declared.Cause.TheVariants.{UnknownKind, CutShort, HighState, ZeroSet}
 use Rattle.causes.specs.Numbers.{number_of}
@@ -335,6 +336,12 @@ state_tests k l = by_kind (λ k. width k ≡ 2 → row_cause k l ≡ tests_cause
     (λ g. known_cause 1 l (omega arith)) (λ g. known_cause 2 l (omega arith))
     (λ g. absurd (omega arith)) (λ g. absurd (omega arith)) (λ g. absurd (omega arith))
     (λ g. known_cause 6 l (omega arith)) k
+
+-- the last test of a state decides, where no set is tested
+pub last_state : (x : ℕ) (r : Result (Unit {0}) Cause) → MatchResult r (λ u. x ≤ 63) (λ c. (c ≡ HighState) × (63 < x))
+    → r ≡ unless (cond (ltb 63 x || false) (Some HighState) None) tt
+last_state x (Ok u) h = rw (le-ltb 63 x h)
+last_state x (Err c) h = rw (lt-ltb 63 x h.1, h.0)
 
 -- what kinds 4 and 5 have alike, with a state at place i and a set at place j
 pub record Limit (l : List ℕ) (i j k : ℕ) : Type 0 where

@@ -1,7 +1,8 @@
 // The rows of an automaton on linear orderings: read from bytes, written to bytes, and their keys.
 #![tactic(auto)]
 
-ghost use Rattle.std.specs.Prelude.{◌≡◌, [], ◌∷◌, ◌+◌, ◌≤◌, length, get_or};
+ghost use Rattle.std.specs.Prelude.{◌≡◌, [], ◌∷◌, ◌+◌, ◌≤◌, ◌<◌, length, get_or, MatchResult};
+ghost use Rattle.causes.specs.declared.Cause.TheVariants.{CutShort, HighState};
 ghost use Rattle.lists.specs.Writing.{Wrote, WroteAt};
 ghost use Rattle.rows.specs.Rows.{row_bytes};
 ghost use Rattle.rows.specs.Reading.{set_at, width, row_checked, set_read, read_row, Known, Headed, LimitAt};
@@ -35,18 +36,34 @@ fn set_at(s: &[u8], at: usize) -> u64
     u64::from_be_bytes(bytes)
 }
 
+// Refuses a row that is shorter than its kind.
+fn check_width(rest: &[u8], width: usize) -> Result<(), Cause>
+    ensures { MatchResult result (λ u. width ≤ length rest.now)
+        (λ c. (c ≡ CutShort) × (length rest.now < width)) }
+{
+    if rest.len() < width {
+        return Err(Cause::CutShort);
+    }
+    Ok(())
+}
+
+// Refuses what is no state.
+fn check_low(state: u8) -> Result<(), Cause>
+    ensures { MatchResult result (λ u. state ≤ 63) (λ c. (c ≡ HighState) × (63 < state)) }
+{
+    if LAST_STATE < state {
+        return Err(Cause::HighState);
+    }
+    Ok(())
+}
+
 // Refuses a row of kind 1, 2 or 6 by its lowest cause.
 pub fn check_state(rest: &[u8]) -> Result<(), Cause>
     requires { Known (get_or rest.now 0 0) × (width (get_or rest.now 0 0) ≡ 2) }
     ensures { result ≡ row_checked rest.now }
 {
-    if rest.len() < 2 {
-        return Err(Cause::CutShort);
-    }
-    if LAST_STATE < rest[1] {
-        return Err(Cause::HighState);
-    }
-    Ok(())
+    check_width(rest, 2)?;
+    check_low(rest[1])
 }
 
 // Refuses a row of kind 3 by its lowest cause.
@@ -54,13 +71,9 @@ pub fn check_step(rest: &[u8]) -> Result<(), Cause>
     requires { get_or rest.now 0 0 ≡ 3 }
     ensures { result ≡ row_checked rest.now }
 {
-    if rest.len() < 4 {
-        return Err(Cause::CutShort);
-    }
-    if LAST_STATE < rest[1] || LAST_STATE < rest[3] {
-        return Err(Cause::HighState);
-    }
-    Ok(())
+    check_width(rest, 4)?;
+    check_low(rest[1])?;
+    check_low(rest[3])
 }
 
 // The set of a row of kind 4 or 5, which has its state and its set at these places. It is read once.
@@ -68,12 +81,8 @@ pub fn read_set(rest: &[u8], state_place: usize, set_place: usize) -> Result<u64
     requires { LimitAt (get_or rest.now 0 0) state_place set_place }
     ensures { result ≡ set_read rest.now set_place }
 {
-    if rest.len() < 10 {
-        return Err(Cause::CutShort);
-    }
-    if LAST_STATE < rest[state_place] {
-        return Err(Cause::HighState);
-    }
+    check_width(rest, 10)?;
+    check_low(rest[state_place])?;
     match set_at(rest, set_place) {
         0 => Err(Cause::ZeroSet),
         set => Ok(set),
@@ -126,9 +135,7 @@ fn read_limit(
 pub fn read_row(rest: &[u8]) -> Result<(Row, usize), Cause>
     ensures { result ≡ read_row rest.now }
 {
-    if rest.len() == 0 {
-        return Err(Cause::CutShort);
-    }
+    check_width(rest, 1)?;
     // Document 01: by the kind byte, with a range for unknown kinds.
     match rest[0] {
         1 => read_state(rest, 1),

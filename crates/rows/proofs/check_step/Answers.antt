@@ -4,26 +4,27 @@ use mathlib.Core.List.{[], ◌∷◌}
 use native.Mathlib.Omega.{arith}
 use lib.ListN.{get_or}
 use borrow.Author.Tests.{lt-ltb, le-ltb}
+use Rattle.std.proofs.lemmas.Result.{err_from_is_err_and}
 use Rattle.rows.specs.Reading.{row_cause}
-use Rattle.rows.proofs.Reading.{tests_cause, known_cause}
-use Rattle.rows.proofs.check_step.Goals.{Start, then-rest-gt-LAST_STATE-via-then-rest-gt-LAST_STATE, then-rest-gt-LAST_STATE-via-else-rest-gt-LAST_STATE+then-rest-gt-LAST_STATE-2}
+use Rattle.rows.proofs.Reading.{tests_cause, known_cause, last_state}
+use Rattle.rows.proofs.check_step.Goals.{Start}
 use Rattle.rows.proofs.check_step.Goals as goal
 
 tests : (s : Start) → let l = s.args.rest.now in row_cause (get_or l 0 0) l ≡ tests_cause 4 (1 ∷ 3 ∷ []) [] l
 tests s = rw s.requires (known_cause 3 s.args.rest.now (omega arith))
 
-pub returns-then-rest-lt4 : goal.returns-then-rest-lt4
-returns-then-rest-lt4 c = rw (tests (goal.at.returns-then-rest-lt4 c).Start, lt-ltb _ _ c.if-rest-lt4.true)
+pub returns-in_err-check_width : goal.returns-in_err-check_width
+returns-in_err-check_width c =
+    let p = err_from_is_err_and c.from_residual.result c.from_residual.ensures.1 in
+    let e = c.in_err-check_width.ensures in
+    rw (p.1, p.2, e.0, tests (goal.at.returns-in_err-check_width c).Start, lt-ltb _ _ e.1)
 
-pub returns-then-rest-gt-LAST_STATE : goal.returns-then-rest-gt-LAST_STATE
-returns-then-rest-gt-LAST_STATE c =
-    let t = tests (goal.at.returns-then-rest-gt-LAST_STATE c).Start in
-    elim c.then-rest-gt-LAST_STATE.branch [
-      | then-rest-gt-LAST_STATE-via-then-rest-gt-LAST_STATE w ↦ rw (t, le-ltb _ _ c.if-rest-lt4.false, lt-ltb _ _ w.if-rest-gt-LAST_STATE.true)
-      | then-rest-gt-LAST_STATE-via-else-rest-gt-LAST_STATE+then-rest-gt-LAST_STATE-2 w ↦
-          rw (t, le-ltb _ _ c.if-rest-lt4.false, le-ltb _ _ w.if-rest-gt-LAST_STATE.false, lt-ltb _ _ w.if-rest-gt-LAST_STATE-2.true)
-    ]
+pub returns-in_err-check_low : goal.returns-in_err-check_low
+returns-in_err-check_low c =
+    let p = err_from_is_err_and c.from_residual-in_err-check_low.result c.from_residual-in_err-check_low.ensures.1 in
+    let e = c.in_err-check_low.ensures in
+    rw (p.1, p.2, e.0, tests (goal.at.returns-in_err-check_low c).Start, le-ltb _ _ c.in_ok-check_width.ensures, lt-ltb _ _ e.1)
 
 pub returns : goal.returns
 returns c =
-    rw (tests (goal.at.returns c).Start, le-ltb _ _ c.if-rest-lt4.false, le-ltb _ _ c.if-rest-gt-LAST_STATE.false, le-ltb _ _ c.if-rest-gt-LAST_STATE-2.false)
+    rw (tests (goal.at.returns c).Start, le-ltb _ _ c.in_ok-check_width.ensures, le-ltb _ _ c.in_ok-check_low.ensures) (last_state _ _ c.check_low-2.ensures)
