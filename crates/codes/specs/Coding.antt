@@ -27,6 +27,10 @@ pub record Coded (o : Outcome) (before after r : ℕ) : Type 0 where
 abbrev pub Codes : Answer → ℕ → ℕ → ℕ → Type 0
 Codes a before after r = (o : Outcome) → returned a ≡ due o → Coded o before after r
 
+-- a refusal of any number, of whatever outcome it tells
+abbrev pub CodesRefusal : ℕ → ℕ → ℕ → ℕ → ℕ → Type 0
+CodesRefusal n place before after r = (o : Outcome) → due (refused n place) ≡ due o → Coded o before after r
+
 -- an outcome as a number, a place and a buffer
 pub record CodedIn (o : Outcome) (old new : List ℕ) (before after r : ℕ) : Type 0 where
   pub code_is : r ≡ code_of o
