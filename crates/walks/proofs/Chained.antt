@@ -1,8 +1,8 @@
--- The first letter step of rows chained by the states that they start from: the loop along the chain (`looked_start`, `looked_more`), and what it
--- finds (`looked_none`, `looked_some`).
+-- The first letter step of rows chained by the states that they start from: the best word so far (`better_none`, `better_first`, `better_old`,
+-- `better_new`), the loop along the chain (`looked_start`, `looked_more`), and what it finds (`looked_none`, `looked_some`).
 use Prim.Native.Nat.{ℕ, ◌%◌, ◌≤◌, ◌<◌}
 use mathlib.Core.Path.{◌≡◌, refl, ap, sym, subst, ◌∙◌}
-use mathlib.Core.Logic.{⊎_elim, ∥∥₁_elim}
+use mathlib.Core.Logic.{inl, inr, ⊎_elim, ∥∥₁_elim}
 use mathlib.Core.List.{List}
 use native.Mathlib.Omega.{arith}
 use lib.ListN.{get_or}
@@ -19,6 +19,19 @@ use Rattle.rows.proofs.Keys.{letter_order}
 use Rattle.machine.specs.declared.StepLabel.TheVariants.{Letter}
 use Rattle.row_table.specs.Letters.{LetterAt}
 use Rattle.walks.specs.Choices.{source, BySource, as_step, Into, Reaches, Better, Picked}
+
+module _ (a layer : ℕ) where
+  pub better_none : (best : Option ℕ) (word : ℕ) → ¬ Into a layer word → Better a layer best word best
+  better_none best word h = record { is = inl refl; keeps = λ w r. r; gains = λ i. absurd (h i) }
+
+  pub better_first : (word : ℕ) → Into a layer word → Better a layer None word (Some word)
+  better_first word i = record { is = inr (refl, i); keeps = λ w r. absurd r; gains = λ j. omega arith }
+
+  pub better_old : (best word : ℕ) → best < word → Better a layer (Some best) word (Some best)
+  better_old best word l = record { is = inl refl; keeps = λ w r. r; gains = λ j. omega arith }
+
+  pub better_new : (best word : ℕ) → Into a layer word → word ≤ best → Better a layer (Some best) word (Some word)
+  better_new best word i l = record { is = inr (refl, i); keeps = λ w r. omega arith; gains = λ j. omega arith }
 
 module _ (words first next : List ℕ) (n : ℕ) (by : ∥ BySource first next words n ∥₁) where
   pub few_of : n ≤ 256

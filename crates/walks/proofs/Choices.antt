@@ -133,6 +133,11 @@ module _ (words : List ℕ) (n : ℕ) (b : Graph) (force : Claims) (a layer : �
   pub with_omegas : (r : Option Step) → Upto 1 None → Picked layer (PassAt b.sets b.sets b.rights force.loops a) (λ v l. l ≡ Omega v) (RisingAt b.sets force.loops) r → Upto 2 r
   with_omegas r none p = choose_more layer (Way words n b force a) (SetsRise b force) 1 ω (λ v. (refl, refl)) (λ v l e. ap label_of e) (λ o. o.0) r none p
 
+  -- where no step by omega is chosen, none leads into the layer
+  pub no_omega : Picked layer (PassAt b.sets b.sets b.rights force.loops a) (λ v l. l ≡ Omega v) (RisingAt b.sets force.loops) None → SetsRise b force
+      → (P t : ℕ) → Way words n b force a (ω P) t → t ∈ layer → ⊥
+  no_omega p o = p o.0
+
   pub with_backs : (r : Option Step) → Upto 2 None → Picked layer (PassAt b.sets b.lefts b.sets force.loops a) (λ v l. l ≡ Back v) (RisingAt b.sets force.loops) r → Upto 3 r
   with_backs r none p = choose_more layer (Way words n b force a) (SetsRise b force) 2 back (λ v. (refl, refl)) (λ v l e. ap label_of e) (λ o. o.0) r none p
 

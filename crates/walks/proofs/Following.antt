@@ -1,4 +1,5 @@
--- A walk written step by step: what is written, and then any steps that follow the layers further down (`take_more`); each step leads to a state.
+-- A walk written step by step: what is written, and then any steps that follow the layers further down (`take_more`); each step leads to a state,
+-- and its letter, if it has one, is a byte (`lead_low`).
 use Prim.Native.Nat.{ℕ, zero, suc, ◌+◌, ◌-◌, ◌<◌}
 use mathlib.Core.Path.{◌≡◌, refl, subst}
 use mathlib.Core.Logic.{⊎_elim}
@@ -11,10 +12,15 @@ use Rattle.std.proofs.Common.{append_assoc, append-nil}
 use Rattle.std.proofs.lemmas.List.{take_more_set}
 use Rattle.lists.specs.Tests.{◌among◌}
 use Rattle.masks.proofs.Member.{member_lt}
-use Rattle.orderings.specs.Steps.{Label}
+use Rattle.rows.proofs.Keys.{letter_bytes}
+use Rattle.orderings.specs.Steps.{Label, letter}
+use Rattle.machine.specs.declared.StepLabel.{StepLabel}
 use Rattle.machine.specs.declared.Step.{Step}
+use Rattle.machine.specs.Labels.{label_of}
+use Rattle.search.specs.declared.Claims.{Claims}
+use Rattle.search.specs.Graph.{Graph}
 use Rattle.walks.specs.Found.{LeadLow}
-use Rattle.walks.specs.Choices.{Chooses}
+use Rattle.walks.specs.Choices.{Way, Chooses}
 use Rattle.walks.specs.Walks.{Follows}
 
 module _ (W : ℕ → Label → ℕ → Type 0) (Ordered : Type 0) (layers : List ℕ) (start d : ℕ) where
@@ -41,11 +47,16 @@ module _ (W : ℕ → Label → ℕ → Type 0) (Ordered : Type 0) (layers : Lis
       let left : d - i ≡ suc (d - 1 - i) = omega arith in
       rw (← append-nil (take i steps)) (now [] (rw left c))
 
+-- the letter of a letter row is a byte
+pub way_low : (words : List ℕ) (n : ℕ) (b : Graph) (force : Claims) (a x t : ℕ) → Way words n b force a (letter x) t → x < 256
+way_low words n b force a x t (j, h, e) = (letter_bytes (get_or words j 0) e).0
+
 -- each step leads into a layer
-pub lead_low : (W : ℕ → Label → ℕ → Type 0) (Ordered : Type 0) (layers : List ℕ) (k a : ℕ) (l : List Step) → Follows W Ordered layers a k l → LeadLow l
-lead_low W Ordered layers zero a l f t m = absurd (Memᴰ.not-nil (subst (λ (x : List Step). t among x) f m))
-lead_low W Ordered layers (suc k) a [] f t m = absurd (Memᴰ.not-nil m)
-lead_low W Ordered layers (suc k) a (s ∷ l) f t m = ⊎_elim
-    (λ e. rw e (member_lt s.to (get_or layers k 0) f.0.1))
-    (λ n. lead_low W Ordered layers k s.to l f.1 t n)
-    (Memᴰ.cases_cons m)
+module _ (W : ℕ → Label → ℕ → Type 0) (low : (a x t : ℕ) → W a (letter x) t → x < 256) (Ordered : Type 0) (layers : List ℕ) where
+  pub lead_low : (k a : ℕ) (l : List Step) → Follows W Ordered layers a k l → LeadLow l
+  lead_low zero a l f t m = absurd (Memᴰ.not-nil (subst (λ (x : List Step). t among x) f m))
+  lead_low (suc k) a [] f t m = absurd (Memᴰ.not-nil m)
+  lead_low (suc k) a (s ∷ l) f t m = ⊎_elim
+      (λ e. rw e (member_lt s.to (get_or layers k 0) f.0.1, λ x q. low a x s.to (subst (λ (v : StepLabel). W a (label_of v) s.to) q f.0.0)))
+      (λ n. lead_low k s.to l f.1 t n)
+      (Memᴰ.cases_cons m)

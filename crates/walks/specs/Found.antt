@@ -1,7 +1,8 @@
--- Steps that lead to states.
-use Rattle.std.specs.Prelude.{◌<◌, List}
+-- Steps that lead to states; a letter is a byte.
+use Rattle.std.specs.Prelude.{ℕ, ◌<◌, ◌≡◌, List}
 use Rattle.lists.specs.Tests.{◌among◌}
+use Rattle.machine.specs.declared.StepLabel.TheVariants.{Letter}
 use Rattle.machine.specs.declared.Step.{Step}
 
 abbrev pub LeadLow : List Step → Type 0
-LeadLow l = (t : Step) → t among l → t.to < 64
+LeadLow l = (t : Step) → t among l → (t.to < 64) × ((a : ℕ) → t.label ≡ Letter a → a < 256)
