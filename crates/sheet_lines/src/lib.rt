@@ -4,19 +4,20 @@
 ghost use Rattle.std.specs.Prelude.{◌≡◌, ◌≤◌, ◌++◌, length};
 ghost use Rattle.lists.specs.Writing.{Wrote};
 ghost use Rattle.machine.specs.Sheet.{line, verdict_text, label_text, step_line};
-ghost use Rattle.machine.specs.Labels.{label_of, step_from};
-ghost use Rattle.sheet_lines.specs.Lines.{line_text};
+ghost use Rattle.machine.specs.Labels.{label_of};
+ghost use Rattle.sheet_lines.specs.Lines.{step_to, line_text};
 
-use machine::{Claim, Step, StepLabel, Verdict};
+use machine::{Claim, StepLabel, Verdict};
 use texts::{Hex, Number, Text, Written, number_len};
 
-// A line: a verdict and its count of rounds, what is opened in a round, where the walk starts, a step of it, a refusal and its place.
+// A line: a verdict and its count of rounds, what is opened in a round, where the walk starts, a step of it by its label and its target, a refusal
+// and its place.
 #[derive(Clone, Copy)]
 pub enum Line {
     Verdict(Verdict, u64),
     Opening(u64, Claim),
     Start(u64),
-    Step(Step),
+    Step(StepLabel, u64),
     Refusal(u64, u64),
 }
 
@@ -43,16 +44,16 @@ fn put_two<X: Written + Copy, Y: Written + Copy>(
 }
 
 // Writes the line of a step.
-fn put_step(buf: &mut [u8], step: Step) -> usize
-    requires { length (step_line (step_from 0 step)) ≤ length buf.old }
-    ensures { Wrote (step_line (step_from 0 step)) buf.old buf.new result }
+fn put_step(buf: &mut [u8], label: StepLabel, to: u64) -> usize
+    requires { length (step_line (step_to label to)) ≤ length buf.old }
+    ensures { Wrote (step_line (step_to label to)) buf.old buf.new result }
 {
-    let to = Number(step.to as u64);
-    match step.label {
-        StepLabel::Letter(a) => put_two(buf, b"step letter ", Number(a as u64), b" to ", to),
-        StepLabel::Omega(set) => put_two(buf, b"step omega ", Hex(set), b" to ", to),
-        StepLabel::Back(set) => put_two(buf, b"step back ", Hex(set), b" to ", to),
-        StepLabel::Mix(set) => put_two(buf, b"step mix ", Hex(set), b" to ", to),
+    let end = Number(to);
+    match label {
+        StepLabel::Letter(a) => put_two(buf, b"step letter ", Number(a as u64), b" to ", end),
+        StepLabel::Omega(set) => put_two(buf, b"step omega ", Hex(set), b" to ", end),
+        StepLabel::Back(set) => put_two(buf, b"step back ", Hex(set), b" to ", end),
+        StepLabel::Mix(set) => put_two(buf, b"step mix ", Hex(set), b" to ", end),
     }
 }
 
@@ -82,7 +83,7 @@ impl Written for Line {
                 Hex(set),
             ),
             Line::Start(s) => put_one(buf, b"start ", Number(s)),
-            Line::Step(step) => put_step(buf, step),
+            Line::Step(label, to) => put_step(buf, label, to),
             Line::Refusal(n, place) => put_two(buf, b"refused ", Number(n), b" at ", Number(place)),
         }
     }
@@ -119,9 +120,7 @@ impl Line {
             Line::Opening(k, Claim::Loops(_)) => b"open  loop \n".len() + number_len(k) + 16,
             Line::Opening(k, Claim::Mixes(_)) => b"open  mix \n".len() + number_len(k) + 16,
             Line::Start(s) => b"start \n".len() + number_len(s),
-            Line::Step(step) => b"step  to \n".len()
-                + label_len(step.label)
-                + number_len(step.to as u64),
+            Line::Step(label, to) => b"step  to \n".len() + label_len(label) + number_len(to),
             Line::Refusal(n, place) => b"refused  at \n".len() + number_len(n) + number_len(place),
         }
     }

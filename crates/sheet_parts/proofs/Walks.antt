@@ -1,10 +1,11 @@
--- The lines of a walk: its start's, then step by step (`walk_is`), and how long they are (`walk_length`, `start_short`, `step_short`).
-use Prim.Native.Nat.{ℕ, ◌+◌, ◌≤◌, ◌<◌}
+-- The lines of a walk: its start's, then step by step (`walk_is`), and how long they are (`walk_length`, `start_short`, `step_short`, `steps_few`, `walk_few`).
+use Prim.Native.Nat.{ℕ, ◌+◌, ◌*◌, ◌≤◌, ◌<◌}
 use mathlib.Core.Path.{◌≡◌, refl, ap, ◌∙◌}
 use mathlib.Core.Option.{some}
+use mathlib.Core.List.Memᴰ
 use mathlib.Core.List.{List, [], ◌∷◌, ◌++◌}
 use native.Mathlib.Omega.{arith}
-use lib.ListN.{length, take, length-append}
+use lib.ListN.{length, take, length-append, length-take}
 use Rattle.lists.specs.Tests.{gather}
 use Rattle.machine.specs.declared.Step.{Step}
 use Rattle.machine.specs.declared.StepLabel.{StepLabel}
@@ -13,6 +14,7 @@ use Rattle.machine.specs.Labels.{label_of, step_from}
 use Rattle.machine.specs.Sheet.{label_text, start_line, step_line, walk_lines}
 use Rattle.machine.proofs.Text.{number_length, hex_length}
 use Rattle.walks.specs.declared.found.FoundWalk.{FoundWalk}
+use Rattle.walks.specs.Found.{LeadLow}
 use Rattle.walks.specs.Walks.{walk_from, as_found}
 
 -- the line of a step does not show where it starts
@@ -54,3 +56,19 @@ label_short (Mix P) h = omega (arith, hex_length 16 P)
 
 pub step_short : (t : Step) → LowLabel t.label → t.to < 256 → length (step_text t) ≤ 36
 step_short t l h = simp length-append (omega (arith, number_length 3 t.to (omega arith) (omega arith), label_short t.label l))
+
+low_label : (l : StepLabel) → ((a : ℕ) → l ≡ Letter a → a < 256) → LowLabel l
+low_label (Letter a) h = h a refl
+low_label (Omega P) h = tt
+low_label (Back P) h = tt
+low_label (Mix P) h = tt
+
+-- 36 bytes to a step at most
+pub steps_few : (l : List Step) → LeadLow l → length (steps_text l) ≤ 36 * length l
+steps_few [] h = omega arith
+steps_few (t ∷ l) h = let low = h t (Memᴰ.head refl) in
+    rw length-append (omega (arith, steps_few l (λ s m. h s (Memᴰ.tail m)), step_short t (low_label t.label low.1) (omega (arith, low.0))))
+
+-- no walk has more bytes
+pub walk_few : (w : FoundWalk) → length (walk_lines (some (as_found w))) ≤ 2400
+walk_few w = omega (arith, walk_length w, start_short w.start (omega (arith, w.low)), steps_few (take w.count w.steps) w.lead_low, length-take w.count w.steps, w.few)
