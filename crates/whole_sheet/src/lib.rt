@@ -13,7 +13,7 @@ ghost use Rattle.sheet_parts.specs.Lines.{walk_text};
 ghost use Rattle.whole_sheet.specs.Text.{sheet_text};
 ghost use Rattle.whole_sheet.specs.Promise.{FindsWalk, PrintsSheet, PrintsVain};
 
-use machine::{Answer, MOST_ROWS, Verdict};
+use machine::{Answer, LONGEST_SHEET, MOST_ROWS, Verdict};
 use rounds::Progress;
 use search::{Claims, Endpoints, TwoWayGraph};
 use sheet_lines::Line;
@@ -67,9 +67,13 @@ impl<'a, 'w> Written for Sheet<'a, 'w> {
 }
 
 impl<'a, 'w> Told for Sheet<'a, 'w> {
-    // Where there is room for the longest openings, they are not measured.
+    // No sheet is longer than 6,400 bytes: so much room is not measured. Where there is room for the longest openings, they are not measured.
     fn fits(&self, size: usize) -> bool {
-        let others = self.line().len() + self.walk_len();
+        let line = self.line();
+        if LONGEST_SHEET <= size {
+            return true;
+        }
+        let others = line.len() + self.walk_len();
         LONGEST_OPENINGS + others <= size || self.openings.len() + others <= size
     }
 }

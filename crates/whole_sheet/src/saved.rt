@@ -1,5 +1,6 @@
 // The rows of a table, written from their keys into a lent buffer as one batch.
 ghost use Rattle.std.specs.Prelude.{◌≡◌, ◌≤◌, length};
+ghost use Rattle.lists.specs.Writing.{Wrote};
 ghost use Rattle.rows.specs.Rows.{batch_of};
 ghost use Rattle.machine.specs.Calls.{TellsText};
 ghost use Rattle.whole_sheet.specs.Saving.{rows_of};
@@ -9,6 +10,18 @@ use machine::Answer;
 use rows::Row;
 use sorted_keys::Key;
 use texts::Written;
+
+// Writes the rows of the keys one after another.
+fn put_rows(buf: &mut [u8], keys: &[Key]) -> usize
+    requires { length (batch_of (rows_of keys.now)) ≤ length buf.old }
+    ensures { Wrote (batch_of (rows_of keys.now)) buf.old buf.new result }
+{
+    let mut at = 0;
+    for key in keys {
+        at = Row::of_key(*key).put_at(buf, at);
+    }
+    at
+}
 
 // The rows of keys, one after another.
 #[derive(Clone, Copy)]
@@ -21,11 +34,7 @@ impl<'a> Written for Batch<'a> {
     ghost text_of = { λ b. batch_of (rows_of b.keys.now) };
 
     fn put(&self, buf: &mut [u8]) -> usize {
-        let mut at = 0;
-        for key in self.keys {
-            at = Row::of_key(*key).put_at(buf, at);
-        }
-        at
+        put_rows(buf, self.keys)
     }
 }
 
