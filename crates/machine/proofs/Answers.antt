@@ -1,11 +1,13 @@
 -- What the machine came to, from what the engine answered; and a text that is written, or for which the buffer is too short.
 use Prim.Native.Nat.{ℕ, ◌<◌, ◌≤◌}
 use mathlib.Core.Path.{◌≡◌, refl, ap, sym, ◌∙◌}
-use mathlib.Core.List.{List, ◌++◌, append_assoc}
+use mathlib.Core.List.{List, [], ◌∷◌, ◌++◌, append_assoc}
 use lib.ListN.{length, take, drop, length-append, length-drop, take-append-drop}
 use lib.Seq.{take_at, drop-append-le}
 use native.Mathlib.Omega.{arith}
 use borrow.Author.Tests.{lt-ltb, le-ltb}
+use types.Run.{OneOf, miss}
+use denote.Enum.Declared.{tag_of}
 use Rattle.std.specs.Prelude.{Ok, Err}
 use Rattle.causes.specs.declared.Cause.{Cause}
 use Rattle.causes.specs.declared.Cause.TheVariants.{ShortBuffer}
@@ -15,6 +17,7 @@ use Rattle.lists.specs.Writing as Writing
 use Rattle.machine.specs.declared.Verdict.{Verdict}
 use Rattle.machine.specs.declared.Success.TheVariants.{Done, Wrote, Decided}
 use Rattle.machine.specs.declared.Refusal.{Refusal}
+use Rattle.machine.specs.contracts.Success.{the_type}
 use Rattle.machine.specs.Calls.{Outcome, done, wrote, decided, refused, Returned, Answer, returned, due, buffer_after, Tells, TellsText}
 
 -- ---- an outcome from the number and values that are due for it
@@ -95,6 +98,24 @@ answer_by {o} {old} {new} {r} t = answer_due o r t.answer_is
 pub text_by : {o : Outcome} {old new : List ℕ} {r : Answer} → Tells o old new r → (n : ℕ) → r ≡ Ok (Wrote n) → (l : List ℕ) × (o ≡ wrote l) × (n ≡ length l) × (take n new ≡ l)
 text_by {o} {old} {new} t n e = let w = wrote_by o n (sym t.answer_is ∙ ap returned e) in
     (w.0, w.1, w.2, ap (take n) (t.buffer_is ∙ ap (λ (x : Outcome). buffer_after x old) w.1) ∙ take_at w.0 (drop (length w.0) old) n (sym w.2))
+
+-- answers that are not done
+pub wrote_not_done : {r : Answer} {n : ℕ} → r ≡ Ok (Wrote n) → r ≡ Ok Done → ⊥
+wrote_not_done e d = let z : ◌≡◌ {A = ℕ} 0 1 = cc in omega arith
+
+pub decided_not_done : {r : Answer} {v : Verdict} → r ≡ Ok (Decided v) → r ≡ Ok Done → ⊥
+decided_not_done e d = let z : ◌≡◌ {A = ℕ} 0 1 = cc in omega arith
+
+pub refused_not_done : {r : Answer} {refused : Refusal} → r ≡ Err refused → r ≡ Ok Done → ⊥
+refused_not_done e d = let z : ◌≡◌ {A = ℕ} 0 1 = cc in omega arith
+
+-- nor is one of any other case: a success of another tag, or a refusal
+abbrev pub IsOther : Answer → Type 0
+IsOther (Ok s) = OneOf (1 ∷ 2 ∷ []) (tag_of the_type s)
+IsOther (Err r) = Unit {0}
+
+pub other_not_done : {a : Answer} → IsOther a → a ≡ Ok Done → ⊥
+other_not_done k e = miss (1 ∷ 2 ∷ []) 0 tt (rw e at k)
 
 -- an outcome, told in other words
 pub tells_as : {o q : Outcome} {old new : List ℕ} {r : Answer} → o ≡ q → Tells o old new r → Tells q old new r
