@@ -2,5 +2,6 @@
 pub mod Values
 pub mod Texts
 pub mod Words
+pub mod Seeking
 pub mod Saved
 pub mod Examples

@@ -1,16 +1,19 @@
--- What a line that starts with a word means: the word alone (`called_word`), and with a text behind a space (`called_text`).
-use Prim.Native.Nat.{ℕ, zero, suc, ◌+◌, ◌<◌}
+-- What a line that starts with a word means: the word alone (`called_word`), and with a text behind a space (`called_text`); of the line no more is
+-- looked at than where a word may end (`none_within`, `found_within`).
+use Prim.Native.Nat.{ℕ, zero, suc, ◌+◌, ◌<◌, ◌≤◌, min}
 use mathlib.Core.Path.{◌≡◌, refl, ap, sym, ◌∙◌, subst}
 use mathlib.Core.Bool.{Bool, true, false, not, ◌&&◌, cond}
 use mathlib.Core.List.{List, [], ◌∷◌, ◌++◌}
-use lib.Dec.{eqb, leb}
-use lib.ListN.{length, get_or, take, drop}
+use lib.Dec.{eqb, leb, ltb}
+use lib.ListN.{length, get_or, take, drop, length-take}
 use lib.Pointwise.{pointwise}
-use lib.Seq.{drop-cons, take_all}
+use lib.Seq.{drop-cons, get_or-take}
 use native.Mathlib.Numerals.{add-one}
-use Rattle.std.proofs.lemmas.List.{take-append-drop}
+use Rattle.std.proofs.lemmas.List.{take-append-drop, get_or_past}
+use Rattle.std.proofs.lemmas.Slice.Eq.{bytes_eq-Decides}
+use native.Mathlib.Decide.{dec_lt}
 use native.Mathlib.Omega.{arith}
-use borrow.Author.Tests.{eq-eqb, ne_eqb, leb-true}
+use borrow.Author.Tests.{eq-eqb, ne_eqb, leb-true, ltb-true}
 use Rattle.std.specs.Prelude.{nat_eq, Some, None, Result, Ok, Err}
 use Rattle.lists.specs.Tests.{all}
 use Rattle.lists.proofs.Deciding.{test_decides, and_decides}
@@ -56,13 +59,13 @@ other a b e = by_test (eqb a b) refl
     by_test true f = never (simp f at e)
     by_test false f = f
 
--- the word that a line starts with, with nothing behind it, and with a text
-starts_alone : (v w : List ℕ) → free w ≡ true → (starts v w ≡ pointwise nat_eq w v) × (starts v w ≡ true → drop (length v) w ≡ [])
-unfolding free starts
+-- the word that a line starts with, with no space behind it, and with a text
+starts_alone : (v w : List ℕ) → ¬ (get_or w (length v) 0 ≡ 32) → (starts v w ≡ pointwise nat_eq w v) × (starts v w ≡ true → drop (length v) w ≡ [])
+unfolding starts
 starts_alone [] [] f = (refl, λ e. refl)
-starts_alone [] (x ∷ w) f = let e = other x 32 (both (not (eqb x 32)) (free w) f).0 in (e, λ s. never (sym e ∙ s))
+starts_alone [] (x ∷ w) f = let e = ne_eqb x 32 f in (e, λ s. never (sym e ∙ s))
 starts_alone (c ∷ v) [] f = (refl, never)
-starts_alone (c ∷ v) (x ∷ w) f = let p = starts_alone v w (both (not (eqb x 32)) (free w) f).1 in (ap (λ b. eqb x c && b) p.0, λ s. p.1 (both (eqb x c) (starts v w) s).1)
+starts_alone (c ∷ v) (x ∷ w) f = let p = starts_alone v w f in (ap (λ b. eqb x c && b) p.0, λ s. p.1 (both (eqb x c) (starts v w) s).1)
 
 module _ (t : List ℕ) where
   starts_text : (v w : List ℕ) → free v ≡ true → free w ≡ true
@@ -89,10 +92,18 @@ module _ (t : List ℕ) where
       by_test true e p h = rw (← p.0, e, p.1 e)
       by_test false e p h = rw (← p.0, e) h
 
-called_all : (ws : List Word) (room : ℕ) (w : List ℕ) → free w ≡ true → called ws room w ≡ alone_as ws w
-unfolding called alone_as
-called_all [] room w f = refl
-called_all (says v m ∷ ws) room w f = by_test (starts v w) refl (starts_alone v w f) (called_all ws room w f)
+-- each of the words is shorter
+shorter : ℕ → List Word → Bool
+shorter n [] = true
+shorter n (says v m ∷ ws) = ltb (length v) n && shorter n ws
+
+-- no space stands where a word may end
+called_all : (n : ℕ) (ws : List Word) (room : ℕ) (w : List ℕ) → shorter n ws ≡ true → ((k : ℕ) → k < n → ¬ (get_or w k 0 ≡ 32)) → called ws room w ≡ alone_as ws w
+unfolding shorter called alone_as
+called_all n [] room w s f = refl
+called_all n (says v m ∷ ws) room w s f =
+    let p = both (ltb (length v) n) (shorter n ws) s in
+    by_test (starts v w) refl (starts_alone v w (f (length v) (ltb-true (length v) n p.0))) (called_all n ws room w p.1 f)
   where
     by_test : (b : Bool) → starts v w ≡ b → (starts v w ≡ pointwise nat_eq w v) × (starts v w ≡ true → drop (length v) w ≡ [])
         → called ws room w ≡ alone_as ws w → called (says v m ∷ ws) room w ≡ alone_as (says v m ∷ ws) w
@@ -156,12 +167,30 @@ is_sound w = alone_sound words w refl
 asks : (w : List ℕ) (r : Result Call NoCall) → r ≡ command_of (alone_as words w) → Asks (alone_as words w) r
 asks w r e = subst (λ x. Asks (alone_as words w) x) (sym e) (asks_sound (alone_as words w) (is_sound w))
 
--- the whole line is a word
-pub called_word : (l buffer : List ℕ) (room : ℕ) (r : Result Call NoCall) → FindsSpace l None → r ≡ command_of (alone_as words l)
+-- one that is found the same as another asks for what that one does
+pub alone_is : (w v u : List ℕ) (b : Bool) → u ≡ v → b ≡ pointwise nat_eq w u → b ≡ true → command_of (alone_as words v) ≡ command_of (alone_as words w)
+alone_is w v u b f e t = ap (λ x. command_of (alone_as words x)) (sym ((bytes_eq-Decides w u).0 (sym e ∙ t) ∙ f))
+
+-- where no space is among the first bytes, none stands in the line before that many
+none_within : (l : List ℕ) (n m : ℕ) → min m (length l) ≤ n → FindsSpace (take n l) None → (k : ℕ) → k < m → ¬ (get_or l k 0 ≡ 32)
+none_within l n m h f k g = go (dec_lt k (length l))
+  where
+    go : Dec (k < length l) → ¬ (get_or l k 0 ≡ 32)
+    go (yes s) = let i : k < length (take n l) = omega (arith, length-take n l) in λ e. f k i (get_or-take n l k 0 (omega arith) ∙ e)
+    go (no s) = λ e. let z = get_or_past l k 0 (omega arith) in omega arith
+
+-- and a space that is found there is the first of the line
+pub found_within : (l : List ℕ) (n i : ℕ) → FindsSpace (take n l) (Some i) → FindsSpace l (Some i)
+found_within l n i f =
+    let e = length-take n l in
+    let h : i < length (take n l) = f.0 in
+    (omega arith, sym (get_or-take n l i 0 (omega arith)) ∙ f.1, λ k g s. f.2 k g (get_or-take n l k 0 (omega arith) ∙ s))
+
+-- the whole line is a word, or it starts with none
+pub called_word : (l buffer : List ℕ) (room n : ℕ) (r : Result Call NoCall) → min 11 (length l) ≤ n → FindsSpace (take n l) None → r ≡ command_of (alone_as words l)
     → Means (called words room l) buffer r
-called_word l buffer room r f e =
-    let g : free l ≡ true = rw (take_all (length l) l (omega arith)) at (free_below l (length l) f) in
-    subst (λ m. Means m buffer r) (sym (called_all words room l g)) (asks l r e buffer)
+unfolding shorter words
+called_word l buffer room n r h f e = subst (λ m. Means m buffer r) (sym (called_all 11 words room l refl (none_within l n 11 h f))) (asks l r e buffer)
 
 -- a line with a space after its word
 parts : (l text : List ℕ) (i room : ℕ) → FindsSpace l (Some i) → text ≡ drop (i + 1) l → called words room l ≡ with_text (alone_as words (take i l)) room text

@@ -27,6 +27,9 @@ pub enum Report {
     Expression,
 }
 
+// No word is longer than ten bytes, so the space behind it is one of the first eleven.
+const WORD_ROOM: usize = 11;
+
 // The longest buffer that an expression is lent: 1 MB.
 pub const EXPRESSION_ROOM: usize = 1048576;
 
@@ -265,11 +268,12 @@ fn with_text(word: Call, text: &[u8], batch: &mut [u8]) -> Result<Call, NoCall>
     }
 }
 
-// The call of a line that starts with a word.
+// The call of a line that starts with a word. No more of the line is looked at than where a word may end.
 fn called(line: &[u8], batch: &mut [u8]) -> Result<Call, NoCall>
     ensures { Means (called words (length batch.old) line.now) batch.new result }
 {
-    match space(line) {
+    let start = &line[..line.len().min(WORD_ROOM)];
+    match space(start) {
         None => alone(line),
         Some(at) => {
             let word = alone(&line[..at])?;
