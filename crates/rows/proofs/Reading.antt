@@ -158,6 +158,12 @@ by_kind Q a b c d e f (suc (suc (suc (suc (suc zero))))) h = e
 by_kind Q a b c d e f (suc (suc (suc (suc (suc (suc zero)))))) h = f
 by_kind Q a b c d e f (suc (suc (suc (suc (suc (suc (suc k))))))) h = absurd (omega arith)
 
+-- the third of the kinds of two bytes
+pub third_kind : (k : ℕ) → Known k → width k ≡ 2 → ¬ (k ≡ 1) → ¬ (k ≡ 2) → k ≡ 6
+third_kind = by_kind (λ k. width k ≡ 2 → ¬ (k ≡ 1) → ¬ (k ≡ 2) → k ≡ 6)
+    (λ w a b. absurd (a refl)) (λ w a b. absurd (b refl))
+    (λ w a b. absurd (omega arith)) (λ w a b. absurd (omega arith)) (λ w a b. absurd (omega arith)) (λ w a b. refl)
+
 known_decides : (k : ℕ) → Decides (ltb 0 k && leb k last_kind) (Known k)
 known_decides k = and_decides (ltb_decides 0 k) (leb_decides k last_kind)
 

@@ -4,16 +4,10 @@ use mathlib.Core.Path.{◌≡◌, refl}
 use native.Mathlib.Omega.{arith}
 use Rattle.std.proofs.Common.{Ok}
 use Rattle.std.proofs.lemmas.Result.{err_from_is_err_and}
-use Rattle.rows.specs.Reading.{width, row_at, read_row, Known}
-use Rattle.rows.proofs.Reading.{by_kind, cause_refuses, cause_none, cause_sound}
+use Rattle.rows.specs.Reading.{row_at, read_row}
+use Rattle.rows.proofs.Reading.{third_kind, cause_refuses, cause_none, cause_sound}
 use Rattle.rows.proofs.read_state.Goals.{In_ok-check_state}
 use Rattle.rows.proofs.read_state.Goals as goal
-
--- the third of the kinds is 6
-third_kind : (k : ℕ) → Known k → width k ≡ 2 → ¬ (k ≡ 1) → ¬ (k ≡ 2) → k ≡ 6
-third_kind = by_kind (λ k. width k ≡ 2 → ¬ (k ≡ 1) → ¬ (k ≡ 2) → k ≡ 6)
-    (λ w a b. absurd (a refl)) (λ w a b. absurd (b refl))
-    (λ w a b. absurd (omega arith)) (λ w a b. absurd (omega arith)) (λ w a b. absurd (omega arith)) (λ w a b. refl)
 
 clean : (c : In_ok-check_state) → let a = c.args in Ok (row_at a.kind a.rest.now, 2) ≡ read_row a.rest.now
 clean c = let p = c.requires in
