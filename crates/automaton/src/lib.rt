@@ -80,7 +80,7 @@ fn put_sets(graph: &mut Masks, sets: &[Set])
     requires { length sets.now ≤ 64 }
     ensures { graph.old ≡ replicate 448 0 → HasSets sets.now (length sets.now) graph.new }
 {
-    graph[SETS..SETS + sets.len()].copy_from_slice(sets);
+    lists::write_over(&mut graph[SETS..SETS + sets.len()], sets);
 }
 
 // The states of `m` that are not struck, none if the mask goes.

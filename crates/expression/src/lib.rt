@@ -22,8 +22,8 @@ fn opened_in(looped: &[u8; MOST_SETS], mixed: &[u8; MOST_SETS]) -> Opened
         → result ≡ looped.now ++ mixed.now }
 {
     let mut opened = [0u8; CLAIMS];
-    opened[..PLACES].copy_from_slice(looped);
-    opened[PLACES..].copy_from_slice(mixed);
+    lists::write_over(&mut opened[..PLACES], looped);
+    lists::write_over(&mut opened[PLACES..], mixed);
     opened
 }
 

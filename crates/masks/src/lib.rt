@@ -231,7 +231,7 @@ fn first_masks(succ: &[Set]) -> [Set; STATES]
     ensures { FirstMasks succ.now result }
 {
     let mut m = [0u64; STATES];
-    m.copy_from_slice(&succ[..STATES]);
+    lists::write_over(&mut m, &succ[..STATES]);
     m
 }
 

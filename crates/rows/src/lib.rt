@@ -162,7 +162,7 @@ fn put(buf: &mut [u8], bytes: &[u8]) -> usize
     requires { length bytes.now ≤ length buf.old }
     ensures { Wrote bytes.now buf.old buf.new result }
 {
-    buf[..bytes.len()].copy_from_slice(bytes);
+    lists::write_over(&mut buf[..bytes.len()], bytes);
     bytes.len()
 }
 

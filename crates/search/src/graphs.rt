@@ -113,7 +113,7 @@ fn copy(back: &mut Masks, base: usize, masks: &[Set], from: usize)
     requires { (base ≤ 384) × (from + 64 ≤ length masks.now) }
     ensures { Fills back.old base (part masks.now from) back.new }
 {
-    back[base..base + STATES].copy_from_slice(&masks[from..from + STATES]);
+    lists::write_over(&mut back[base..base + STATES], &masks[from..from + STATES]);
 }
 
 // Writes the four parts of the graph with every step turned round: lefts are rights.

@@ -34,7 +34,7 @@ impl<'a> Written for Text<'a> {
     ghost text_of = { λ text. text.0.now };
 
     fn put(&self, buf: &mut [u8]) -> usize {
-        buf[..self.0.len()].copy_from_slice(self.0);
+        lists::write_over(&mut buf[..self.0.len()], self.0);
         self.0.len()
     }
 }

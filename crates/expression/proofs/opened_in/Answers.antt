@@ -16,4 +16,4 @@ joined z first second xs ys l e p q =
     rw (front, none, append-nil, p, q)
 
 pub returns : goal.returns
-returns c e f = let g = c.copy_from_slice.ensures in joined (replicate 128 0) _ _ _ _ (length-replicate {A = ℕ} 128 0) g.len g.after c.copy_from_slice-2.ensures.after
+returns c e f = let g = c.write_over.ensures in joined (replicate 128 0) _ _ _ _ (length-replicate {A = ℕ} 128 0) g.len g.after c.write_over-2.ensures.after

@@ -6,7 +6,7 @@ use Rattle.masks.proofs.first_masks.Goals as goal
 
 pub returns : goal.returns
 returns c =
-    let copied = c.copy_from_slice.ensures in
+    let copied = c.write_over.ensures in
     record {
       length_is = copied.len;
       masks_are = λ i h. ap (λ m. get_or m i 0) copied.after ∙ get_or-take 64 c.args.succ.now i 0 h;

@@ -13,6 +13,6 @@ unfolding part
 returns c =
     let a = c.args in
     let all : a.from + 64 - a.from ≡ 64 = omega arith in
-    rw (c.copy_from_slice.ensures.after, all)
+    rw (c.write_over.ensures.after, all)
     (fills a.back.now a.base _ (part a.masks.now a.from) (omega arith) c.requires.0 (omega arith)
     (length-take-le 64 (drop a.from a.masks.now) (omega (arith, length-drop a.from a.masks.now))))
