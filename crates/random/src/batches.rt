@@ -48,7 +48,10 @@ fn digest(bytes: &[u8]) -> u64 {
 
 // Keeps a digest on the first place that is free, from a place on, and says whether it is new. A place is free where 0 stands.
 fn keep(seen: &mut [u64], from: usize, digest: u64) -> bool {
-    for place in seen.iter_mut().skip(from) {
+    let Some(places) = seen.get_mut(from..) else {
+        return true;
+    };
+    for place in places {
         if *place == digest {
             return false;
         }
