@@ -146,7 +146,11 @@ fn answer(asked: Asked, batch: &[u8], buffer: &mut [u8]) -> Answer
 {
     let mut masks = [0u64; MASKS];
     let mut letters = [0u64; MOST_ROWS];
-    let parts = loader::load(batch, &mut masks, &mut letters)?;
+    // No `?`: the arm of a refusal is one that a wrong edit can turn.
+    let parts = match loader::load(batch, &mut masks, &mut letters) {
+        Ok(parts) => parts,
+        Err(refusal) => return Err(refusal),
+    };
     let graph = &IndexedGraph::new(&masks);
     let loaded = Loaded {
         graph,
