@@ -4,7 +4,7 @@ use mathlib.Core.Path.{◌≡◌, refl, ap, sym, ◌∙◌, subst}
 use mathlib.Core.List.{List}
 use native.Mathlib.Omega.{arith}
 use lib.ListN.{length}
-use Rattle.std.specs.Prelude.{Ok, Err}
+use Rattle.std.specs.Prelude.{Result, Ok, Err}
 use Rattle.causes.specs.declared.Cause.{Cause}
 use Rattle.causes.specs.declared.Cause.TheVariants.{ForeignRecord}
 use Rattle.causes.specs.Numbers.{number_of}
@@ -73,6 +73,10 @@ closed_running s h e = (h.0, subst NotOpen (sym (h.1 ∙ e)) running)
 
 pub closed_settled : (s : Session) {q : Phase} {v : Verdict} → HasPhase s (Ok q) → q ≡ Settled v → Ranged s × NotOpen s.phase
 closed_settled s {v = v} h e = (h.0, subst NotOpen (sym (h.1 ∙ e)) (settled v))
+
+-- in any phase
+pub in_any_phase : (s : Session) (x : Result Phase Cause) {p : Phase} → HasPhase s x → x ≡ Ok p → Ranged s
+in_any_phase s x {p} h e = (subst (HasPhase s) e h).0
 
 -- ---- what is promised
 
