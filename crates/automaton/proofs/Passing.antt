@@ -1,4 +1,4 @@
--- The graph of the rows that were passed (`none_passed`, `pass_initial` to `pass_right`; of letters alone `letters_start`, `letters_in`, `letters_out`), and that nothing says yet which sets a state touches
+-- The graph of the rows that were passed (`none_passed`, `pass_initial` to `pass_right`; of letters alone `letters_start`, `letters_in`, `letters_out`, `over_left`, `over_right`), and that nothing says yet which sets a state touches
 -- (`none_unindexed` to `struck_unindexed`).
 use Prim.Native.Nat.{ℕ, ◌+◌, ◌<◌, ◌≤◌}
 use mathlib.Core.Path.{◌≡◌, refl, ap, ap₂, sym, ◌∙◌, subst}
@@ -19,7 +19,7 @@ use Rattle.automaton.specs.declared.Seen.{Seen}
 use Rattle.automaton.specs.Passed.{Some, Starts, Ends, Takes, Leads, Enters, Leaves, Marked, Passed, SetsPassed, LettersPassed}
 use Rattle.automaton.specs.Promise.{Adds, AddsAt, HasSets}
 use Rattle.automaton.specs.Striking.{Strikes}
-use Rattle.automaton.proofs.Adding.{put_iff, no_sets}
+use Rattle.automaton.proofs.Adding.{not_put, put_iff, no_sets}
 
 -- ---- nothing passed
 
@@ -226,6 +226,14 @@ letters_in h = passed_by h (λ o. tt)
 
 pub letters_out : {l : List Row} {graph : List ℕ} {seen : Seen} → SetsPassed [] l graph seen → LettersPassed l graph seen
 letters_out h = passed_by h (λ o i j g k. absurd (omega arith))
+
+-- a limit row, without sets: nothing is put
+module _ {l : List Row} {graph : List ℕ} {seen : Seen} (h : LettersPassed l graph seen) {x : Row} {P q : ℕ} where
+  pub over_left : x ≡ LeftLimit P q → LettersPassed (l ++ (x ∷ [])) graph seen
+  over_left e = pass_left (Unit {0}) [] 0 (omega arith) h (grown_last l x) 64 e (λ o i k. absurd (omega arith)) (not_put graph 128 64 q (omega arith))
+
+  pub over_right : x ≡ RightLimit q P → LettersPassed (l ++ (x ∷ [])) graph seen
+  over_right e = pass_right (Unit {0}) [] 0 (omega arith) h (grown_last l x) 64 e (λ o i k. absurd (omega arith)) (not_put graph 192 64 q (omega arith))
 
 -- ---- nothing stands behind the four parts, and no set from place n on has a limit
 

@@ -215,7 +215,14 @@ pub fn of_keys(keys: &RowKeys, sets: &RowSets) -> Automaton
 pub fn take_letter(graph: &mut Masks, before: Seen, row: Row) -> Seen
     ensures { TakesLetter graph.old before row graph.new result }
 {
-    take_row(graph, &[], before, row)
+    match row {
+        Row::Successor(p, _, q) => {
+            put(graph, 0, usize::from(p), q);
+            before
+        }
+        Row::LeftLimit(_, _) | Row::RightLimit(_, _) => before,
+        _ => take_row(graph, &[], before, row),
+    }
 }
 
 // The letter steps of all rows are in such a graph: those at struck states go.
