@@ -106,7 +106,7 @@ pub fn of_frame(
     let mut length = Some(0);
     let mut next = tours::begin(back, frame, &mut layers);
     while let Some(cursor) = next {
-        let step = tours::step_at(letters, &parts, frame, cursor, &layers);
+        let step = tours::step_at(letters, &parts, frame.force, cursor, &layers);
         length = plus_before(length, cursor.before, most);
         length = plus_step(length, back, set_count, bytes, step, most);
         let to = target(step, cursor.state);

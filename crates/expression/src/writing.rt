@@ -103,7 +103,7 @@ pub fn put(
     let mut at = 0;
     let mut next = tours::begin(back, frame, &mut layers);
     while let Some(cursor) = next {
-        let step = tours::step_at(letters, &parts, frame, cursor, &layers);
+        let step = tours::step_at(letters, &parts, frame.force, cursor, &layers);
         at = open_at(buf, at, cursor.before, step);
         if let Some(within) = frames::of_step(&parts, opened, set_count, cursor.state, step) {
             // The round falls whatever the arrays hold.

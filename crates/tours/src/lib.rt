@@ -6,6 +6,7 @@ pub mod legs;
 
 ghost use Rattle.std.specs.Prelude.{◌≡◌, ℕ, ◌+◌, ◌*◌, ◌≤◌, ◌<◌, ◌↔◌, Some, IfSome};
 ghost use Rattle.masks.specs.Mask.{◌∈◌};
+ghost use Rattle.tours.specs.declared.frames.Frame.{Frame};
 ghost use Rattle.tours.specs.Parts.{separator};
 ghost use Rattle.tours.specs.Cursors.{size_of, Begins, Advances, ShowsPart};
 ghost use Rattle.tours.specs.Coming.{LaysLegOf, Comes};
@@ -14,7 +15,7 @@ pub use crate::frames::{Cursor, Frame, Shape};
 use crate::legs::LAYERS;
 use machine::Step;
 use masks::{Set, below, difference, take_lowest};
-use search::{IndexedGraph, MaskGraph};
+use search::{Claims, IndexedGraph, MaskGraph};
 use walks::{Leg, Letters};
 
 // The states of `m` above `s`.
@@ -146,17 +147,18 @@ pub fn advance(
     )
 }
 
-// The step at the cursor: the first one into the next layer. There is none where the leg has no steps.
+// The step at the cursor: the first one into the next layer. There is none where the leg has no steps. Of the frame only its claims are read.
 pub fn step_at(
     letters: &Letters,
     back: &MaskGraph,
-    frame: Frame,
+    force: Claims,
     cursor: Cursor,
     layers: &[Set; LAYERS],
 ) -> Option<Step>
     ensures low { IfSome result (λ t. t.to < 64) }
-    ensures shows { ShowsPart letters.now.words.now letters.now.count back.now frame layers.now cursor result }
+    ensures shows { (frame : Frame) → frame.force ≡ force
+        → ShowsPart letters.now.words.now letters.now.count back.now frame layers.now cursor result }
 {
     let k = cursor.steps.checked_sub(1)?;
-    letters.first_step(back, frame.force, cursor.state, layers[k])
+    letters.first_step(back, force, cursor.state, layers[k])
 }

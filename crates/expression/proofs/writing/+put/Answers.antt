@@ -1,5 +1,5 @@
 -- `put` meets its contract: a part is opened, the text of its claim's frame is written within it, and it is closed.
-use mathlib.Core.Path.{◌∙◌}
+use mathlib.Core.Path.{refl, ◌∙◌}
 use Rattle.expression.proofs.Going.{going_more, going_end, InnerPut, inner_none, inner_skip, inner_put}
 use Rattle.expression.proofs.writing.+put.Goals.{in-Some-of_step+then-within-frame, in-Some-of_step+else-within-frame, in_default-of_step}
 use Rattle.expression.proofs.writing.+put.Goals as goal
@@ -23,7 +23,7 @@ loop-next-preserved t c =
       d.ensures.within (i.within (o.ensures.within l.invariant.0)),
       d.ensures.length_is ∙ (i.length_is ∙ (o.ensures.length_is ∙ l.invariant.1)),
       going_more W n a.back.now a.set_count a.opened.now a.frame a.buf.now l.layers c.in-Some.cursor l.buf l.at (rw c.in-Some.is at l.invariant.2) l.invariant.1
-          c.step_at-step.result (rw c.parts-parts.ensures at c.step_at-step.ensures.shows) o.new.buf o.result o.ensures
+          c.step_at-step.result (rw c.parts-parts.ensures at (c.step_at-step.ensures.shows a.frame refl)) o.new.buf o.result o.ensures
           c.of_step.result (rw c.parts-parts.ensures at c.of_step.ensures) v.buf v.at i d.new.buf d.result d.ensures
           c.target-to.result c.target-to.ensures.leads c.advance-next.new.layers c.advance-next.result c.advance-next.ensures.advances,
     )
