@@ -1,10 +1,10 @@
--- Lines of the body as bytes: a state's is found (`takes_state`) or not (`no_state`), and so is an edge's (`takes_edge`, `beyond_edge`,
--- `no_edge`); a line that may come next is one of these or the end (`state_comes`, `end_missing`, `line_of`).
+-- Lines of the body as bytes: a state's is missing (`state_missing`), or stands with another number (`other_found`, `plain_other`; `neither_found`), and so is an
+-- edge's (`no_edge`, `beyond_edge`); a line that may come next is one of these or the end (`state_comes`, `end_missing`, `line_of`).
 use Prim.Native.Nat.{ℕ, ◌≤◌, ◌<◌}
 use mathlib.Core.Path.{◌≡◌, refl, ap, sym, ◌∙◌, subst}
 use mathlib.Core.Bool.{Bool, true, false}
 use mathlib.Core.Logic.{◌≢◌}
-use mathlib.Core.List.{List, [], ◌∷◌, ◌++◌, append_assoc}
+use mathlib.Core.List.{List, [], ◌∷◌, ◌++◌, append_assoc, append_cancel_left}
 use native.Mathlib.Decide.{dec_lt}
 use native.Mathlib.Omega.{arith}
 use Rattle.machine.specs.Text.{text, number_text}
@@ -16,6 +16,7 @@ use Rattle.std.specs.Prelude.{Option, Some, None, Result, Ok, Err}
 use Rattle.causes.specs.declared.Cause.{Cause}
 use Rattle.hoa_files.specs.Automata.{state_line, edge_line, end_line}
 use Rattle.hoa_files.specs.Reading.{◌begin_with◌, UpToTen, FindsNumbered, FindsState, FindsEdge, NextLine, a_state, an_edge, the_end, RefusesLine, none_comes, beyond, TellsState, TellsStateOrEnd, TellsLine}
+use Rattle.hoa_files.proofs.Numerals.{numbers_end}
 use Rattle.hoa_files.proofs.Telling.{state_no_edge, edge_no_end}
 
 -- a number below ten is told
@@ -51,9 +52,34 @@ module _ (l tail : List ℕ) (k : ℕ) (small : k < 10) {r : Option Numbered} (f
   pub other_found : (n : Numbered) → r ≡ Some n → n.number ≢ k → FindsState tail l k None
   other_found n e i p = let q = f.every k p in let same : q.0 ≡ n = cc in i (ap (λ (n : Numbered). n.number) (sym same) ∙ q.2.number_is.0 small)
 
+-- a plain line is no marked one
+plain_marked : (l : List ℕ) (x k : ℕ) → l begin_with (text "State: " ++ (number_text x ++ state_tail false)) → ¬ (l begin_with (text "State: " ++ (number_text k ++ state_tail true)))
+plain_marked l x k p q =
+    let s : number_text x ++ (10 ∷ p.0) ≡ number_text k ++ (state_tail true ++ q.0) =
+    sym (append_assoc (number_text x) (10 ∷ []) p.0)
+    ∙ append_cancel_left (text "State: ") ((number_text x ++ (10 ∷ [])) ++ p.0) ((number_text k ++ state_tail true) ++ q.0) (sym p.1 ∙ q.1)
+    ∙ append_assoc (number_text k) (state_tail true) q.0 in
+    let e = (numbers_end x k (10 ∷ p.0) (state_tail true ++ q.0) (λ d. omega arith) (λ d. omega arith) s).1 in
+    let z : ◌≡◌ {A = ℕ} 10 32 = cc in
+    omega arith
+
 pub neither_state : (l : List ℕ) (k : ℕ) → ¬ (l begin_with line (state_line k false)) → ¬ (l begin_with line (state_line k true)) → (m : Bool) → ¬ (l begin_with line (state_line k m))
 neither_state l k p q false = p
 neither_state l k p q true = q
+
+-- where a plain line has another number, no line of the state stands
+pub plain_other : (l : List ℕ) (k : ℕ) → k < 10 → {r : Option Numbered} → FindsNumbered (text "State: ") (state_tail false) l r → (n : Numbered) → r ≡ Some n → n.number ≢ k
+    → (m : Bool) → ¬ (l begin_with line (state_line k m))
+plain_other l k small f n e i =
+    let p = f.found n e in
+    neither_state l k (other_found l (state_tail false) k small f n e i)
+    (λ q. plain_marked l p.0 k p.1.stands (subst (λ (s : List ℕ). l begin_with s) (state_text k true) q))
+
+-- and none where neither a plain line with a number stands nor the marked one
+pub neither_found : (l : List ℕ) (k : ℕ) → k < 10 → {r : Option Numbered} → FindsNumbered (text "State: ") (state_tail false) l r → r ≡ None → FindsState (state_tail true) l k None
+    → (m : Bool) → ¬ (l begin_with line (state_line k m))
+neither_found l k small f z none =
+    neither_state l k (state_missing l (state_tail false) k small f z) (λ q. none (subst (λ (s : List ℕ). l begin_with s) (state_text k true) q))
 
 module _ (l : List ℕ) {r : Option Numbered} (finds : FindsEdge l r) where
   pub no_edge : r ≡ None → (q : ℕ) → ¬ (l begin_with line (edge_line q))

@@ -68,6 +68,10 @@ runs_once (x ∷ s) (y ∷ t) m r p q h k e =
 number_digits : (x : ℕ) → Digits (number_text x)
 number_digits x b m = digits_only x b m
 
+-- two numbers in the same bytes, with no digit behind them
+pub numbers_end : (x y : ℕ) (m r : List ℕ) → NoDigitFirst m → NoDigitFirst r → number_text x ++ m ≡ number_text y ++ r → (number_text x ≡ number_text y) × (m ≡ r)
+numbers_end x y m r = runs_once (number_text x) (number_text y) m r (number_digits x) (number_digits y)
+
 -- so many digits come first
 module _ (l : List ℕ) (count : ℕ) (runs : RunsTo l count) where
   run_digits : Digits (take count l)

@@ -27,8 +27,12 @@ fn state_line(rest: &[u8], next: u8) -> Result<BodyLine, Cause>
     requires { next < 10 }
     ensures { TellsState rest.now next result }
 {
-    if let Some(length) = state_length(rest, next, b"\n") {
-        return Ok(BodyLine::State(false, length));
+    // A plain line with another number is no marked one either.
+    if let Some(plain) = numbered(rest, b"State: ", b"\n") {
+        if plain.number == next {
+            return Ok(BodyLine::State(false, plain.length));
+        }
+        return Err(Cause::BadLine);
     }
     if let Some(length) = state_length(rest, next, b" {0}\n") {
         return Ok(BodyLine::State(true, length));
