@@ -2,7 +2,7 @@
 // text's length, and into one that is a byte shorter, which is refused.
 use crate::returned::{Refused, Returned};
 use crate::say_same;
-use program_output::{beyond, first, say};
+use program_output::{beyond, first, same, say};
 use sheet_lines::Line;
 use texts::Written;
 
@@ -16,7 +16,7 @@ fn is_untouched(bytes: &[u8]) -> bool {
 
 // Is the text at the start of the buffer, and are the bytes beyond it as they were?
 fn holds(buffer: &[u8], n: usize, text: &[u8]) -> bool {
-    first(buffer, n) == text && is_untouched(beyond(buffer, n))
+    same(first(buffer, n), text) && is_untouched(beyond(buffer, n))
 }
 
 // Says whether a buffer of the length gets the text, or what is refused.
@@ -49,7 +49,7 @@ fn is_told(refused: Refused, line: &[u8]) -> bool {
     }
     let mut told = [0u8; 64];
     let n = Line::Refusal(refused.number, refused.place).put(&mut told);
-    first(&told, n) == line
+    same(first(&told, n), line)
 }
 
 // Says what is refused with a buffer of the length. Is it what the line tells, and is the buffer as it was?

@@ -3,13 +3,13 @@
 // file whatever the buffer.
 use crate::returned::Returned;
 use crate::{asking, returned, say_same};
-use program_output::{first, say};
+use program_output::{first, same, say};
 
 // Says whether the program writes the text for the file.
 fn shows(rt: &impl Print, file: &[u8], text: &[u8]) -> bool {
     let shown = hoa_files::shown(file);
     let written = shown.text;
-    let is_same = first(&written, shown.length) == text;
+    let is_same = same(first(&written, shown.length), text);
     say_same(rt, is_same);
     is_same
 }

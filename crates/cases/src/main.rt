@@ -13,7 +13,7 @@ ghost use Rattle.std.specs.Prelude.{◌≤◌, length};
 
 use machine::LONGEST_SHEET;
 use program_input::{LONGEST_PATH, argument, argument_count, open, read_full};
-use program_output::{first, say, say_number};
+use program_output::{first, same, say, say_number};
 use std::io::{Read, Result};
 use std::rt::{Env, Files};
 
@@ -49,7 +49,7 @@ fn read_file(mut file: impl Read + Drop, buffer: &mut [u8]) -> usize
 fn writes(batch: &[u8], text: &[u8]) -> bool {
     let shown = checker::shown(batch);
     let written = shown.text;
-    &written[..shown.length] == text
+    same(&written[..shown.length], text)
 }
 
 fn say_same(rt: &impl Print, is_same: bool) {
@@ -64,7 +64,7 @@ fn say_same(rt: &impl Print, is_same: bool) {
 fn say_library(rt: &impl Print, batch: &[u8], text: &[u8]) {
     let mut out = [0u8; LONGEST_SHEET];
     match returned::sheet(batch, &mut out) {
-        Ok(n) => say_same(rt, first(&out, n as usize) == text),
+        Ok(n) => say_same(rt, same(first(&out, n as usize), text)),
         Err(refused) => {
             let _ = rt.print(refused);
         }
