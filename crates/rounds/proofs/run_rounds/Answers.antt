@@ -1,12 +1,14 @@
 -- `run_rounds` meets its contract. The loop's invariant: what is lacking is so with the claims in force, and of any rows that the automaton may be
 -- of, the arrays are those of the machine after as many rounds, and what the next one opens is awaited at the places.
 use Prim.Native.Nat.{◌+◌}
-use mathlib.Core.Path.{◌≡◌, refl}
+use mathlib.Core.Path.{◌≡◌, refl, subst}
 use mathlib.Core.Bool.{false}
 use mathlib.Core.Logic.{inl, inr}
 use Rattle.std.proofs.lemmas.Bool.{not_from_false}
 use native.Mathlib.Omega.{arith}
 use Rattle.lists.proofs.Deciding.{denied}
+use Rattle.search.specs.Graph.{Graph}
+use Rattle.lacks.specs.Lacks.{Supplies}
 use Rattle.candidates.proofs.Awaiting.{awaited_all, awaited_next}
 use Rattle.candidates.proofs.Holding.{opens_below}
 use Rattle.rounds.proofs.Settled.{Stage, handed, tracked_start, tracked_low, tracked_more, stage_start, stage_paired, stage_more, stage_end}
@@ -56,7 +58,8 @@ loop-done-preserved c =
     let f = c.forth-forth.ensures in
     let inv = c.loop-done.invariant in
     let with_new = c.with_new-force.ensures in
-    let forward = rw f at c.supply-places.ensures.forward in
+    -- the form is written out, so that of another graph the fact that fails is seen
+    let forward = subst (λ (g : Graph). Supplies g c.open_next-new.result c.difference-fresh.result c.live-live.result c.loop-done.lacks.to c.supply-places.new.self.to) f c.supply-places.ensures.forward in
     let backward = rw f at c.supply-places.ensures.backward in
     let above = rw f at c.supply-places.ensures.above in
     let is_live = c.live-live.ensures in
