@@ -17,6 +17,16 @@ use Rattle.marks.specs.Record.{kept_of, marks_of}
 abbrev pub Keeps : List Key → ℕ → Phase → ℕ → Kept → Type 0
 Keeps keys n phase rounds r = (m : Machine) → AllFit m.rows → Keyed m.rows keys n → phase ≡ m.phase → rounds ≡ m.rounds → r ≡ kept_of m
 
+-- the keys that have the words
+abbrev pub unpacked : List ℕ → List ℕ → List Key
+unpacked [] lows = []
+unpacked (x ∷ highs) [] = []
+unpacked (x ∷ highs) (y ∷ lows) = record { high = x; low = y } ∷ unpacked highs lows
+
+-- the same words at all places, and the same count
+abbrev pub Unpacks : Kept → RowKeys → Type 0
+Unpacks k r = (r.count ≡ k.row_count) × (r.keys ≡ unpacked k.high k.low)
+
 -- the keys of the rows of the machine of which it is kept
 abbrev pub HoldsKeys : Kept → RowKeys → Type 0
 HoldsKeys k r = (m : Machine) → k ≡ kept_of m → Keyed m.rows r.keys r.count

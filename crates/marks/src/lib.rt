@@ -5,7 +5,7 @@ ghost use Rattle.std.specs.Prelude.{◌≡◌, ◌==◌, ◌↔◌, ℕ, [], ◌
 ghost use Rattle.lists.specs.Tests.{Decides};
 ghost use Rattle.machine.specs.Marks.{Name};
 ghost use Rattle.marks.specs.Record.{name_number, marks_of};
-ghost use Rattle.marks.specs.Promise.{Keeps, HoldsKeys, FindsPlace, PutsMark, HoldsKept};
+ghost use Rattle.marks.specs.Promise.{Keeps, Unpacks, HoldsKeys, FindsPlace, PutsMark, HoldsKept};
 
 use machine::{MOST_ROWS, Phase};
 use row_table::RowKeys;
@@ -41,12 +41,19 @@ pub struct Marks {
     pub count: usize,
 }
 
-// Are all the bytes `a` to `z`?
+// Is the byte one of `a` to `z`?
+fn is_letter(b: u8) -> bool
+    ensures { IsTrue result ↔ ((97 ≤ b) × (b ≤ 122)) }
+{
+    b.is_ascii_lowercase()
+}
+
+// Are all the bytes letters?
 fn all_letters(bytes: &[u8]) -> bool
     ensures { IsTrue result ↔ EachIndex bytes.now
         (λ k. (97 ≤ slice_index bytes.now k) × (slice_index bytes.now k ≤ 122)) }
 {
-    bytes.iter().all(|b| b.is_ascii_lowercase())
+    bytes.iter().all(|b| is_letter(*b))
 }
 
 // Is it a name: 1 to 8 bytes `a` to `z`?
@@ -94,13 +101,14 @@ impl Kept {
         }
     }
 
-    // The keys again.
+    // The keys again, at all places.
     pub fn keys(&self) -> RowKeys
         requires { self.now.row_count ≤ 256 }
-        ensures { HoldsKeys self.now result }
+        ensures unpacks { Unpacks self.now result }
+        ensures holds { HoldsKeys self.now result }
     {
         let mut keys = [Key { high: 0, low: 0 }; MOST_ROWS];
-        for i in 0..self.row_count {
+        for i in 0..MOST_ROWS {
             keys[i] = Key {
                 high: self.high[i],
                 low: u64::from(self.low[i]),

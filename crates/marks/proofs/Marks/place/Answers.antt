@@ -1,5 +1,5 @@
 -- `place` meets its contract: the place of a name is that of its number.
-use mathlib.Core.Path.{◌∙◌}
+use mathlib.Core.Path.{◌≡◌, ◌∙◌}
 use native.Mathlib.Omega.{arith}
 use mathlib.Core.Bool.{not}
 use lib.ListN.{take}
@@ -10,6 +10,7 @@ use Rattle.std.proofs.lemmas.List.Sums.{prefix_len-le-length}
 use Rattle.lists.proofs.Deciding.{denied}
 use Rattle.machine.specs.Marks.{Name}
 use Rattle.marks.specs.declared.Mark.{Mark}
+use Rattle.marks.specs.Promise.{place_under}
 use Rattle.marks.proofs.Placing.{first_or_end, place_in}
 use Rattle.marks.proofs.Marks.place.Goals.{Else-not-is_name}
 use Rattle.marks.proofs.Marks.place.Goals as goal
@@ -34,5 +35,7 @@ returns c =
     record {
       is_name = named (goal.at.returns c).Else-not-is_name;
       within = omega (arith, at, prefix_len-le-length (λ (k : Mark). not (p k)) (take s.count s.marks));
-      place_is = λ l st. rw c.name_number.ensures at at ∙ place_in s name l st (named (goal.at.returns c).Else-not-is_name);
+      place_is = λ l st.
+          let found : c.unwrap_or.result ≡ place_under name l = rw c.name_number.ensures at at ∙ place_in s name l st (named (goal.at.returns c).Else-not-is_name) in
+          omega arith;
     }

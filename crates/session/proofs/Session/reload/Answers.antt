@@ -4,5 +4,5 @@ use Rattle.session.proofs.Session.reload.Goals as goal
 
 pub returns : goal.returns
 returns c =
-    reloads_of c.args.self.now c.args.kept.now c.keys-keys.result c.keys-keys.ensures c.collect_sets-sets.result c.collect_sets-sets.ensures
+    reloads_of c.args.self.now c.args.kept.now c.keys-keys.result c.keys-keys.ensures.holds c.collect_sets-sets.result c.collect_sets-sets.ensures
     c.emptied.result c.emptied.ensures c.with_table.result c.with_table.ensures
