@@ -19,13 +19,13 @@ impl<'a> Line<'a> {
         }
     }
 
-    // Puts a byte behind those that are held.
-    fn put(&mut self, b: u8) {
+    // Puts bytes behind those that are held.
+    fn put(&mut self, bytes: &[u8]) {
         let held = self.held;
         self.held = match held {
-            Some(n) if n < self.room.len() => {
-                self.room[n] = b;
-                Some(n + 1)
+            Some(n) if n.saturating_add(bytes.len()) <= self.room.len() => {
+                self.room[n..n + bytes.len()].copy_from_slice(bytes);
+                Some(n + bytes.len())
             }
             _ => None,
         };
@@ -54,11 +54,13 @@ fn run_lines(
     checks: bool,
 ) -> Session {
     let mut last = session;
-    for b in read {
-        if *b == b'\n' {
-            last = run_held(rt, last, line, checks);
-        } else {
-            line.put(*b);
+    for piece in read.split_inclusive(|b| *b == b'\n') {
+        match piece.strip_suffix(b"\n") {
+            Some(end) => {
+                line.put(end);
+                last = run_held(rt, last, line, checks);
+            }
+            None => line.put(piece),
         }
     }
     last
