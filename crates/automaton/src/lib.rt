@@ -12,8 +12,9 @@ ghost use Rattle.automaton.specs.Striking.{Remains, StruckSets, LeavesOut, Strik
 use masks::{NO_STATE, PLACES, Places, Set};
 use row_table::{RowKeys, RowSets};
 use rows::Row;
+pub use search::Endpoints;
+use search::graphs;
 use search::graphs::{LEFTS, MASKS, Masks, RIGHTS, SETS};
-use search::{Endpoints, graphs};
 
 // The graph of some rows as one array of masks; their initial and their final states.
 #[derive(Drop)]

@@ -1,8 +1,8 @@
 -- The rows of the numbers that pass a test, from a number on (`kept_row`, `kept_past`), and how long they are; the parts of a batch, and its length.
-use Prim.Native.Nat.{ℕ, suc, ◌+◌, ◌-◌, ◌*◌, ◌^◌, ◌≤◌, ◌<◌}
+use Prim.Native.Nat.{ℕ, suc, ◌+◌, ◌-◌, ◌*◌, ◌/◌, ◌%◌, ◌^◌, ◌≤◌, ◌<◌}
 use mathlib.Core.Path.{◌≡◌, refl, ap}
 use mathlib.Core.Bool.{Bool, true, false}
-use mathlib.Core.List.{List, [], ◌++◌, map}
+use mathlib.Core.List.{List, [], ◌∷◌, ◌++◌, map}
 use lib.ListN.{length, length-append, length-map}
 use native.Mathlib.Numerals.{add-one}
 use lib.Pow.{pow_mono}
@@ -38,6 +38,20 @@ edge_length k = omega arith
 pub limit_length : (P : ℕ) → length (row_bytes (limit_row P)) ≤ 10
 unfolding row_bytes
 limit_length P = omega arith
+
+-- of a set of states below 6 seven bytes are 0
+pub limit_bytes : (P : ℕ) → P < 64 → row_bytes (limit_row P) ≡ 4 ∷ 0 ∷ 0 ∷ 0 ∷ 0 ∷ 0 ∷ 0 ∷ 0 ∷ P ∷ 6 ∷ []
+unfolding row_bytes
+limit_bytes P h =
+    let a : P / 256 ^ 7 % 256 ≡ 0 = omega arith in
+    let b : P / 256 ^ 6 % 256 ≡ 0 = omega arith in
+    let c : P / 256 ^ 5 % 256 ≡ 0 = omega arith in
+    let d : P / 256 ^ 4 % 256 ≡ 0 = omega arith in
+    let e : P / 256 ^ 3 % 256 ≡ 0 = omega arith in
+    let f : P / 256 ^ 2 % 256 ≡ 0 = omega arith in
+    let g : P / 256 ^ 1 % 256 ≡ 0 = omega arith in
+    let i : P / 256 ^ 0 % 256 ≡ P = omega arith in
+    rw (a, b, c, d, e, f, g, i) refl
 
 -- the rows of those of n numbers from a on that pass
 abbrev pub kept_text : (ℕ → Row) → (ℕ → Bool) → ℕ → ℕ → List ℕ

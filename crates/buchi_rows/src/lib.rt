@@ -56,7 +56,9 @@ impl Written for Limits {
 
     fn put(&self, buf: &mut [u8]) -> usize {
         let mut next = 0;
-        for set in 1..1u64 << self.0.states {
+        // Counted as bytes, so that the bytes of a set that are 0 are written as such.
+        for low in 1..1u8 << self.0.states {
+            let set = low as Set;
             if masks::meets(set, self.0.marked) {
                 next = Row::LeftLimit(set, FINAL_STATE).put_at(buf, next);
             }

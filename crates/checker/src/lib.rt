@@ -15,7 +15,7 @@ use rounds::Progress;
 use search::graphs::MASKS;
 use search::{IndexedGraph, TwoWayGraph};
 use sheet_lines::Line;
-use texts::{Text, Written};
+use texts::{Text, Written as WrittenText};
 
 // A text at the start of an array that has room for any that the program writes, and its length.
 #[derive(Drop)]
@@ -23,6 +23,9 @@ pub struct Output {
     pub text: [u8; LONGEST_SHEET],
     pub length: usize,
 }
+
+// What the program writes.
+pub type Written = Output;
 
 // What is asked of a batch that is loaded into masks: its sheet, the expression of its walk, or its verdict.
 #[derive(Clone, Copy)]

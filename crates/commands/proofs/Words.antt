@@ -29,10 +29,10 @@ use Rattle.commands.specs.Table.{alone_as, command_of}
 use Rattle.commands.specs.Promise.{Means, Asks, FindsSpace, Extends}
 use Rattle.commands.proofs.Texts.{nothing_held}
 
-never : {A : Type 0} → false ≡ true → A
+pub never : {A : Type 0} → false ≡ true → A
 never e = let y : ◌≡◌ {A = ℕ} 0 1 = cc in absurd (omega arith)
 
-both : (a b : Bool) → a && b ≡ true → (a ≡ true) × (b ≡ true)
+pub both : (a b : Bool) → a && b ≡ true → (a ≡ true) × (b ≡ true)
 both a b = (and_decides (test_decides a) (test_decides b)).to
 
 -- no space stands in the text

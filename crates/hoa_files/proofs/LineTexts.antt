@@ -67,13 +67,15 @@ pub neither_state : (l : List ℕ) (k : ℕ) → ¬ (l begin_with line (state_li
 neither_state l k p q false = p
 neither_state l k p q true = q
 
+-- where a plain line stands, no marked one does
+pub plain_only : (l : List ℕ) (k : ℕ) {r : Option Numbered} → FindsNumbered (text "State: ") (state_tail false) l r → (n : Numbered) → r ≡ Some n
+    → ¬ (l begin_with line (state_line k true))
+plain_only l k f n e q = let p = f.found n e in plain_marked l p.0 k p.1.stands (subst (λ (s : List ℕ). l begin_with s) (state_text k true) q)
+
 -- where a plain line has another number, no line of the state stands
 pub plain_other : (l : List ℕ) (k : ℕ) → k < 10 → {r : Option Numbered} → FindsNumbered (text "State: ") (state_tail false) l r → (n : Numbered) → r ≡ Some n → n.number ≢ k
     → (m : Bool) → ¬ (l begin_with line (state_line k m))
-plain_other l k small f n e i =
-    let p = f.found n e in
-    neither_state l k (other_found l (state_tail false) k small f n e i)
-    (λ q. plain_marked l p.0 k p.1.stands (subst (λ (s : List ℕ). l begin_with s) (state_text k true) q))
+plain_other l k small f n e i = neither_state l k (other_found l (state_tail false) k small f n e i) (plain_only l k f n e)
 
 -- and none where neither a plain line with a number stands nor the marked one
 pub neither_found : (l : List ℕ) (k : ℕ) → k < 10 → {r : Option Numbered} → FindsNumbered (text "State: ") (state_tail false) l r → r ≡ None → FindsState (state_tail true) l k None

@@ -3,7 +3,7 @@ ghost use Rattle.std.specs.Prelude.{◌≤◌, ◌<◌, length};
 ghost use Rattle.hoa_files.specs.Reading.{NoDigitFirst, FindsState, FindsEdge, TellsState, TellsStateOrEnd, TellsLine, TakesHead, MarksOne, FinishesFile, TellsFile};
 
 use crate::parts::numbered;
-use crate::{BodyLine, Head, Numbered};
+use crate::{BodyLine, Head, Numbered, ReadFile};
 use buchi_rows::BuchiMasks;
 use causes::Cause;
 use machine::Refusal;
@@ -97,7 +97,7 @@ fn mark(marked: Set, state: u8, is_marked: bool) -> Set
 }
 
 // The file's end where nothing stands behind the last line.
-fn finish(file: &[u8], at: usize, automaton: BuchiMasks) -> Result<BuchiMasks, Refusal>
+fn finish(file: &[u8], at: usize, automaton: BuchiMasks) -> ReadFile
     ensures { FinishesFile file.now at automaton result }
 {
     if at < file.len() {
@@ -110,7 +110,7 @@ fn finish(file: &[u8], at: usize, automaton: BuchiMasks) -> Result<BuchiMasks, R
 }
 
 // The body behind the head.
-pub fn read_body(file: &[u8], head: Head) -> Result<BuchiMasks, Refusal>
+pub fn read_body(file: &[u8], head: Head) -> ReadFile
     requires { TakesHead file.now head.states head.start head.length }
     ensures { TellsFile file.now result }
 {

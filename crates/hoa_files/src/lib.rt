@@ -9,7 +9,7 @@ ghost use Rattle.std.specs.Prelude.{◌≤◌, length};
 ghost use Rattle.hoa_files.specs.Reading.{TellsFile};
 ghost use Rattle.hoa_files.specs.Promise.{Converts, WritesShown, Shows};
 
-use buchi_rows::BuchiMasks;
+pub use buchi_rows::BuchiMasks;
 use machine::{Answer, Refusal, Success};
 use sheet_lines::Line;
 use texts::{Text, Written};
@@ -40,6 +40,9 @@ pub enum BodyLine {
     End,
 }
 
+// What a file tells: an automaton, or why it is refused.
+pub type ReadFile = Result<BuchiMasks, Refusal>;
+
 // What the program writes: a text at the start of an array that has room for any, as there is no heap.
 #[derive(Drop)]
 pub struct Converted {
@@ -48,7 +51,7 @@ pub struct Converted {
 }
 
 // The automaton of a file.
-fn read(file: &[u8]) -> Result<BuchiMasks, Refusal>
+fn read(file: &[u8]) -> ReadFile
     ensures { TellsFile file.now result }
 {
     let head = heads::read_head(file)?;

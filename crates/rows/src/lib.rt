@@ -217,8 +217,9 @@ impl Row {
         at + self.write(&mut buf[at..])
     }
 
-    // The row's key.
+    // The row's key. Put into its callers, which make the keys of many rows.
     #[tactic(auto, unfolding(crate::specs::Keys::high, crate::specs::Keys::low))]
+    #[inline(always)]
     pub fn key(self) -> Key
         ensures { result ≡ key_of self }
     {
@@ -235,20 +236,15 @@ impl Row {
                 high: letter_word(p, a, q),
                 low: 0,
             },
-            Row::LeftLimit(set, q) => {
-                let [a, b, c, d, e, f, g, h] = set.to_be_bytes();
-                Key {
-                    high: u64::from_be_bytes([4, a, b, c, d, e, f, g]),
-                    low: u64::from_be_bytes([0, 0, 0, 0, 0, 0, h, q]),
-                }
-            }
-            Row::RightLimit(q, set) => {
-                let [a, b, c, d, e, f, g, h] = set.to_be_bytes();
-                Key {
-                    high: u64::from_be_bytes([5, q, a, b, c, d, e, f]),
-                    low: u64::from_be_bytes([0, 0, 0, 0, 0, 0, g, h]),
-                }
-            }
+            // The parts of a set as numbers: put together from bytes they took twice the steps.
+            Row::LeftLimit(set, q) => Key {
+                high: 4 * BYTE_7 + set / 256,
+                low: set % 256 * 256 + u64::from(q),
+            },
+            Row::RightLimit(q, set) => Key {
+                high: 5 * BYTE_7 + u64::from(q) * BYTE_6 + set / 65536,
+                low: set % 65536,
+            },
             Row::Strike(s) => Key {
                 high: u64::from_be_bytes([6, s, 0, 0, 0, 0, 0, 0]),
                 low: 0,
@@ -261,14 +257,14 @@ impl Row {
     pub fn of_key(key: Key) -> Row
         ensures { result ≡ row_of key }
     {
-        let [kind, a, b, c, d, e, f, g] = key.high.to_be_bytes();
-        let [.., h, i] = key.low.to_be_bytes();
+        let [kind, a, b, c, ..] = key.high.to_be_bytes();
+        let [.., i] = key.low.to_be_bytes();
         match kind {
             1 => Row::Initial(a),
             2 => Row::Final(a),
             3 => Row::Successor(a, b, c),
-            4 => Row::LeftLimit(u64::from_be_bytes([a, b, c, d, e, f, g, h]), i),
-            5 => Row::RightLimit(a, u64::from_be_bytes([b, c, d, e, f, g, h, i])),
+            4 => Row::LeftLimit(key.high % BYTE_7 * 256 + key.low / 256 % 256, i),
+            5 => Row::RightLimit(a, key.high % BYTE_6 * 65536 + key.low % 65536),
             _ => Row::Strike(a),
         }
     }

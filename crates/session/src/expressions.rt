@@ -14,7 +14,8 @@ use search::graphs::MASKS;
 use search::{IndexedGraph, TwoWayGraph};
 
 impl Session {
-    // The walk of a session settled as non-empty.
+    // The walk of a session settled as non-empty. Apart, as no other call has a use for its arrays.
+    #[inline(never)]
     fn express_walk(self, buffer: &mut [u8]) -> Reply
         requires { HasPhase self (Ok (Settled NonEmpty)) }
         ensures { Promised self (on (expression (length buffer.old)))

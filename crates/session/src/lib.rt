@@ -11,15 +11,20 @@ mod saving;
 mod tables;
 mod verdicts;
 
+use causes::Cause;
 use machine::{Answer, MOST_ROWS, MOST_SETS, Phase};
 use marks::Marks;
+use row_table::RowKeys;
 use rows::Row;
+
+// A place of the array of rows.
+pub type Slot = Row;
 
 // The standing rows sorted as byte strings; their sets, rising; the rounds in which the loop and the mix of each set opened, 0 for
 // not open; the phase and the count of rounds; the marks. What is not used holds a filler.
 #[derive(Clone, Copy)]
 pub struct Session {
-    pub rows: [Row; MOST_ROWS],
+    pub rows: [Slot; MOST_ROWS],
     pub row_count: usize,
     pub sets: [u64; MOST_SETS],
     pub set_count: usize,
@@ -29,6 +34,12 @@ pub struct Session {
     pub rounds: u8,
     pub marks: Marks,
 }
+
+// What a record is to the calls: a session in a phase, or why it is foreign.
+pub type State = Result<Phase, Cause>;
+
+// The keys of the standing rows, in order.
+pub type Keys = RowKeys;
 
 // The session handed back, and the answer beside it.
 #[derive(Clone, Copy)]

@@ -13,7 +13,9 @@ use search::graphs::MASKS;
 use search::{IndexedGraph, TwoWayGraph};
 
 impl Session {
-    // The sheet of a settled session: the keys are made once, for the graph and for the letters of the walk.
+    // The sheet of a settled session: the keys are made once, for the graph and for the letters of the walk. Apart, as no other call has a use
+    // for its arrays.
+    #[inline(never)]
     fn print_settled(self, v: Verdict, buffer: &mut [u8]) -> Reply
         requires { HasPhase self (Ok (Settled v)) }
         ensures { Promised self (on (print (length buffer.old)))

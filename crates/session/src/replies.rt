@@ -5,7 +5,7 @@ ghost use Rattle.machine.specs.WellFormed.{most_done};
 ghost use Rattle.session.specs.Promise.{HasPhase};
 ghost use Rattle.session.specs.Standing.{reply};
 
-use crate::{Reply, Session};
+use crate::{Reply, Session, State};
 use causes::Cause;
 use machine::{Answer, MOST_ROUNDS, MOST_ROWS, MOST_SETS, Phase, Refusal, Success};
 use marks::MOST_MARKS;
@@ -23,7 +23,7 @@ fn most_done(phase: Phase) -> u8
 
 impl Session {
     // The phase of the record; one whose counts no calls lead to is foreign.
-    pub(crate) fn ranged(self) -> Result<Phase, Cause>
+    pub(crate) fn ranged(self) -> State
         ensures { HasPhase self result }
     {
         if self.row_count > MOST_ROWS {

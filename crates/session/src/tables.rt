@@ -10,7 +10,7 @@ ghost use Rattle.session.specs.Record.{blank};
 ghost use Rattle.session.specs.Promise.{Fresh, Ranged};
 ghost use Rattle.session.specs.Standing.{standing, HoldsTable, Reads, LettersOf};
 
-use crate::Session;
+use crate::{Keys, Session, Slot};
 use automaton::Seen;
 use machine::{MOST_ROWS, MOST_SETS, Phase};
 use marks::Marks;
@@ -24,7 +24,7 @@ use sorted_keys::Key;
 const BLANK: Row = Row::Initial(0);
 
 // The rows of the keys, and then the filler.
-fn rows_of(keys: &RowKeys) -> [Row; MOST_ROWS]
+fn rows_of(keys: &RowKeys) -> [Slot; MOST_ROWS]
     ensures { (rows : List Row) → AllFit rows → Keyed rows keys.now.keys keys.now.count
         → result ≡ padded 256 blank rows }
 {
@@ -65,7 +65,7 @@ impl Session {
     }
 
     // The keys of the standing rows.
-    pub(crate) fn keys(&self) -> RowKeys
+    pub(crate) fn keys(&self) -> Keys
         requires { Ranged self.now }
         ensures count { result.count ≡ self.now.row_count }
         ensures keyed { Keyed (standing self.now) result.keys result.count }

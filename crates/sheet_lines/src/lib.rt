@@ -21,7 +21,8 @@ pub enum Line {
     Refusal(u64, u64),
 }
 
-// Writes a line of one word.
+// Writes a line of one word. This and the next two are put into their callers, where the word is known.
+#[inline(always)]
 fn put_one<X: Written + Copy>(buf: &mut [u8], word: &[u8], x: X) -> usize
     requires { length (line (word.now ++ X.text_of x)) ≤ length buf.old }
     ensures { Wrote (line (word.now ++ X.text_of x)) buf.old buf.new result }
@@ -30,6 +31,7 @@ fn put_one<X: Written + Copy>(buf: &mut [u8], word: &[u8], x: X) -> usize
 }
 
 // Writes a line of two words.
+#[inline(always)]
 fn put_two<X: Written + Copy, Y: Written + Copy>(
     buf: &mut [u8],
     first: &[u8],
@@ -44,6 +46,7 @@ fn put_two<X: Written + Copy, Y: Written + Copy>(
 }
 
 // Writes the line of a step.
+#[inline(always)]
 fn put_step(buf: &mut [u8], label: StepLabel, to: u64) -> usize
     requires { length (step_line (step_to label to)) ≤ length buf.old }
     ensures { Wrote (step_line (step_to label to)) buf.old buf.new result }

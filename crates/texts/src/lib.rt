@@ -17,7 +17,8 @@ pub trait Written {
         requires { length (text_of self.now) ≤ length buf.old }
         ensures { Wrote (text_of self.now) buf.old buf.new result };
 
-    // Into the unwritten rest of the buffer. Returns the next place.
+    // Into the unwritten rest of the buffer. Returns the next place. This and what writes texts are put into their callers, where a text is known.
+    #[inline(always)]
     final fn put_at(&self, buf: &mut [u8], at: usize) -> usize
         requires { at + length (text_of self.now) ≤ length buf.old }
         ensures { WroteAt (text_of self.now) buf.old buf.new at result }
@@ -33,6 +34,7 @@ pub struct Text<'a>(pub &'a [u8]);
 impl<'a> Written for Text<'a> {
     ghost text_of = { λ text. text.0.now };
 
+    #[inline(always)]
     fn put(&self, buf: &mut [u8]) -> usize {
         lists::write_over(&mut buf[..self.0.len()], self.0);
         self.0.len()
@@ -73,6 +75,7 @@ impl Written for Hex {
 impl<A: Written, B: Written> Written for (A, B) {
     ghost text_of = { λ p. A.text_of p.0 ++ B.text_of p.1 };
 
+    #[inline(always)]
     fn put(&self, buf: &mut [u8]) -> usize {
         let next = self.0.put(buf);
         self.1.put_at(buf, next)

@@ -113,7 +113,8 @@ fn between_legs(shape: Shape) -> u8
     }
 }
 
-// At the next part, where the last one led to `to`.
+// At the next part, where the last one led to `to`. Put into its callers, so that a cursor need not go through memory.
+#[inline(always)]
 pub fn advance(
     back: &IndexedGraph,
     frame: Frame,
@@ -148,6 +149,7 @@ pub fn advance(
 }
 
 // The step at the cursor: the first one into the next layer. There is none where the leg has no steps. Of the frame only its claims are read.
+#[inline(always)]
 pub fn step_at(
     letters: &Letters,
     back: &MaskGraph,

@@ -93,6 +93,7 @@ impl<'a> Letters<'a> {
     }
 
     // The first letter step from `a` into `layer`.
+    #[inline(always)]
     pub(crate) fn first_letter(&self, a: u8, layer: Set) -> Option<Step>
         requires { a < 64 }
         ensures { Picked layer (LetterAt self.now.words.now self.now.count a) (λ x l. l ≡ Letter x) Unit result }

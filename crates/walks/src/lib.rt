@@ -71,6 +71,7 @@ fn entered(here: Set, there: Set, a: u8, layer: Set) -> Set
 }
 
 // The first step from `a` into `layer` by one of the places: from a state of its mask in one list to one of its mask in another.
+#[inline(always)]
 fn first_pass<F: Fn(u64) -> StepLabel>(
     sets: &[Set],
     here: &[Set],
@@ -99,6 +100,8 @@ fn first_pass<F: Fn(u64) -> StepLabel>(
 
 impl<'a> Letters<'a> {
     // The first step from `a` into `layer`, by kind, then by letter or set, then by target. The graph is turned round, so its rights are the lefts.
+    // Put into its callers, so that a step need not go through memory.
+    #[inline(always)]
     pub fn first_step(&self, back: &MaskGraph, force: Claims, a: u8, layer: Set) -> Option<Step>
         requires { a < 64 }
         ensures { Chooses layer (Way self.now.words.now self.now.count back.now force a)
