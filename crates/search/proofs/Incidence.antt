@@ -1,5 +1,6 @@
 -- Which sets a state is in, and which have a limit of it: written part by part (`fills`, `indexing_more`, `turned_into`, `indexes`), in
--- the graph turned round too (`turns_into`, `turns_indexed`), what they tell (`has`, `meet`), and the steps by claims that they give (`claims_lead`, `all_touched`).
+-- the graph turned round too (`turns_into`, `turns_indexed`, `has_turned`, `turns`), what they tell (`has`, `meet`), and the steps by claims that
+-- they give (`claims_lead`, `all_touched`).
 use Prim.Native.Nat.{ℕ, ◌+◌, ◌≤◌, ◌<◌}
 use mathlib.Core.Path.{◌≡◌, refl, ap, sym, subst, ◌∙◌}
 use mathlib.Core.Bool.{◌&&◌, ◌||◌}
@@ -16,7 +17,7 @@ use Rattle.masks.specs.Mask.{member, ◌∈◌}
 use Rattle.masks.proofs.Member.{in_none, lt_or_le, member_lt, union_left, union_right, union_cases, intersection_left, intersection_right, intersection_both}
 use Rattle.masks.proofs.Turning.{Sources, sources_none, sources_more, sources_some}
 use Rattle.search.specs.declared.Claims.{Claims}
-use Rattle.search.specs.Graph.{Graph, part, graph_of, TurnedGraph, TurnsIndexed, Having, Meeting, Fills, PlaceAdded, PartIndexed, Indexes}
+use Rattle.search.specs.Graph.{Graph, part, graph_of, TurnedGraph, Indexed, TurnsIndexed, HasTurned, Having, Meeting, Fills, PlaceAdded, PartIndexed, Indexes}
 use Rattle.search.specs.Hops.{Claimed, BackOrMix, Touched, Onward}
 use Rattle.search.proofs.Parts.{at_part, past_part, letters_at, part_length, part_stays, graph_stays}
 
@@ -83,6 +84,16 @@ module _ (l b₁ b₂ b₃ b₄ : List ℕ) (t : TurnedGraph (graph_of l) (graph
           (as_part l b₄ 384 320 f₄.filled) is.by_lefts;
     };
   }
+
+-- the graph that the array holds is turned round; where that array has its other parts, so does the new one
+pub has_turned : (g : Graph) (l new : List ℕ) → graph_of l ≡ g → Indexed l → TurnsIndexed l new → HasTurned g new
+has_turned g l new same is t = record { turned = subst (λ (x : Graph). TurnedGraph x (graph_of new)) same t.turned; indexed = t.indexed is }
+
+-- the same of the four parts written
+module _ (g : Graph) (l : List ℕ) (same : graph_of l ≡ g) (is : Indexed l) (b₁ b₂ b₃ b₄ : List ℕ) (t : TurnedGraph (graph_of l) (graph_of b₁))
+    (f₂ : Fills b₁ 256 (part l 256) b₂) (f₃ : Fills b₂ 320 (part l 384) b₃) (f₄ : Fills b₃ 384 (part l 320) b₄) where
+  pub turns : HasTurned g b₄
+  turns = has_turned g l b₄ same is (turns_indexed l b₁ b₂ b₃ b₄ t f₂ f₃ f₄)
 
 -- ---- a part turned round into another, place by place
 

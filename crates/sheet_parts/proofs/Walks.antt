@@ -6,7 +6,7 @@ use mathlib.Core.List.Memᴰ
 use mathlib.Core.List.{List, [], ◌∷◌, ◌++◌}
 use native.Mathlib.Omega.{arith}
 use lib.ListN.{length, take, length-append, length-take}
-use Rattle.lists.specs.Tests.{gather}
+use Rattle.lists.specs.Tests.{gather, ◌among◌}
 use Rattle.machine.specs.declared.Step.{Step}
 use Rattle.machine.specs.declared.StepLabel.{StepLabel}
 use Rattle.machine.specs.declared.StepLabel.TheVariants.{Letter, Omega, Back, Mix}
@@ -14,7 +14,7 @@ use Rattle.machine.specs.Labels.{label_of, step_from}
 use Rattle.machine.specs.Sheet.{label_text, start_line, step_line, walk_lines}
 use Rattle.machine.proofs.Text.{number_length, hex_length}
 use Rattle.walks.specs.declared.found.FoundWalk.{FoundWalk}
-use Rattle.walks.specs.Found.{LeadLow}
+use Rattle.walks.specs.Found.{LeadLow, ByteLetters}
 use Rattle.walks.specs.Walks.{walk_from, as_found}
 
 -- the line of a step does not show where it starts
@@ -64,11 +64,11 @@ low_label (Back P) h = tt
 low_label (Mix P) h = tt
 
 -- 36 bytes to a step at most
-pub steps_few : (l : List Step) → LeadLow l → length (steps_text l) ≤ 36 * length l
-steps_few [] h = omega arith
-steps_few (t ∷ l) h = let low = h t (Memᴰ.head refl) in
-    rw length-append (omega (arith, steps_few l (λ s m. h s (Memᴰ.tail m)), step_short t (low_label t.label low.1) (omega (arith, low.0))))
+pub steps_few : (l : List Step) → LeadLow l → ByteLetters l → length (steps_text l) ≤ 36 * length l
+steps_few [] h b = omega arith
+steps_few (t ∷ l) h b = let m : t among (t ∷ l) = Memᴰ.head refl in
+    rw length-append (omega (arith, steps_few l (λ s n. h s (Memᴰ.tail n)) (λ s n. b s (Memᴰ.tail n)), step_short t (low_label t.label (b t m)) (omega (arith, h t m))))
 
 -- no walk has more bytes
 pub walk_few : (w : FoundWalk) → length (walk_lines (some (as_found w))) ≤ 2400
-walk_few w = omega (arith, walk_length w, start_short w.start (omega (arith, w.low)), steps_few (take w.count w.steps) w.lead_low, length-take w.count w.steps, w.few)
+walk_few w = omega (arith, walk_length w, start_short w.start (omega (arith, w.low)), steps_few (take w.count w.steps) w.lead_low w.byte_letters, length-take w.count w.steps, w.few)

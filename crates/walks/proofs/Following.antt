@@ -1,5 +1,5 @@
--- A walk written step by step: what is written, and then any steps that follow the layers further down (`take_more`); each step leads to a state,
--- and its letter, if it has one, is a byte (`lead_low`).
+-- A walk written step by step: what is written, and then any steps that follow the layers further down (`take_more`); each step leads to a state
+-- (`lead_low`), and its letter, if it has one, is a byte (`byte_letters`).
 use Prim.Native.Nat.{ℕ, zero, suc, ◌+◌, ◌-◌, ◌<◌}
 use mathlib.Core.Path.{◌≡◌, refl, subst}
 use mathlib.Core.Logic.{⊎_elim}
@@ -15,11 +15,12 @@ use Rattle.masks.proofs.Member.{member_lt}
 use Rattle.rows.proofs.Keys.{letter_bytes}
 use Rattle.orderings.specs.Steps.{Label, letter}
 use Rattle.machine.specs.declared.StepLabel.{StepLabel}
+use Rattle.machine.specs.declared.StepLabel.TheVariants.{Letter}
 use Rattle.machine.specs.declared.Step.{Step}
 use Rattle.machine.specs.Labels.{label_of}
 use Rattle.search.specs.declared.Claims.{Claims}
 use Rattle.search.specs.Graph.{Graph}
-use Rattle.walks.specs.Found.{LeadLow}
+use Rattle.walks.specs.Found.{LeadLow, ByteLetters}
 use Rattle.walks.specs.Choices.{Way, Chooses}
 use Rattle.walks.specs.Walks.{Follows}
 
@@ -47,16 +48,23 @@ module _ (W : ℕ → Label → ℕ → Type 0) (Ordered : Type 0) (layers : Lis
       let left : d - i ≡ suc (d - 1 - i) = omega arith in
       rw (← append-nil (take i steps)) (now [] (rw left c))
 
+-- what holds of each step that is chosen holds of each step of the walk
+module _ (W : ℕ → Label → ℕ → Type 0) (Ordered : Type 0) (layers : List ℕ) (P : Step → Type 0)
+    (chosen : (k a : ℕ) (t : Step) → Chooses (get_or layers k 0) (W a) Ordered (Some t) → P t) where
+  each_step : (k a : ℕ) (l : List Step) → Follows W Ordered layers a k l → (t : Step) → t among l → P t
+  each_step zero a l f t m = absurd (Memᴰ.not-nil (subst (λ (x : List Step). t among x) f m))
+  each_step (suc k) a [] f t m = absurd (Memᴰ.not-nil m)
+  each_step (suc k) a (s ∷ l) f t m = ⊎_elim (λ e. rw e (chosen k a s f.0)) (λ n. each_step k s.to l f.1 t n) (Memᴰ.cases_cons m)
+
+-- each step leads into a layer
+pub lead_low : (W : ℕ → Label → ℕ → Type 0) (Ordered : Type 0) (layers : List ℕ) (k a : ℕ) (l : List Step) → Follows W Ordered layers a k l → LeadLow l
+lead_low W Ordered layers = each_step W Ordered layers (λ t. t.to < 64) (λ k a t c. member_lt t.to (get_or layers k 0) c.1)
+
 -- the letter of a letter row is a byte
 pub way_low : (words : List ℕ) (n : ℕ) (b : Graph) (force : Claims) (a x t : ℕ) → Way words n b force a (letter x) t → x < 256
 way_low words n b force a x t (j, h, e) = (letter_bytes (get_or words j 0) e).0
 
--- each step leads into a layer
 module _ (W : ℕ → Label → ℕ → Type 0) (low : (a x t : ℕ) → W a (letter x) t → x < 256) (Ordered : Type 0) (layers : List ℕ) where
-  pub lead_low : (k a : ℕ) (l : List Step) → Follows W Ordered layers a k l → LeadLow l
-  lead_low zero a l f t m = absurd (Memᴰ.not-nil (subst (λ (x : List Step). t among x) f m))
-  lead_low (suc k) a [] f t m = absurd (Memᴰ.not-nil m)
-  lead_low (suc k) a (s ∷ l) f t m = ⊎_elim
-      (λ e. rw e (member_lt s.to (get_or layers k 0) f.0.1, λ x q. low a x s.to (subst (λ (v : StepLabel). W a (label_of v) s.to) q f.0.0)))
-      (λ n. lead_low k s.to l f.1 t n)
-      (Memᴰ.cases_cons m)
+  pub byte_letters : (k a : ℕ) (l : List Step) → Follows W Ordered layers a k l → ByteLetters l
+  byte_letters = each_step W Ordered layers (λ t. (x : ℕ) → t.label ≡ Letter x → x < 256)
+      (λ k a t c x q. low a x t.to (subst (λ (v : StepLabel). W a (label_of v) t.to) q c.0))

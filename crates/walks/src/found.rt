@@ -1,6 +1,7 @@
 // What is found: where a walk starts and how long it is, and a walk with its steps.
-ghost use Rattle.std.specs.Prelude.{◌≡◌, ◌≤◌, ◌<◌, take};
-ghost use Rattle.walks.specs.Found.{LeadLow};
+ghost use Rattle.std.specs.Prelude.{◌≡◌, ℕ, ◌≤◌, ◌<◌, take};
+ghost use Rattle.machine.specs.declared.StepLabel.TheVariants.{Letter};
+ghost use Rattle.walks.specs.Found.{LeadLow, ByteLetters};
 
 use machine::{Step, StepLabel};
 use masks::STATES;
@@ -29,9 +30,31 @@ pub struct FoundWalk {
     pub ghost low: { start < 64 },
     pub ghost few: { count < 64 },
     pub ghost lead_low: { LeadLow (take count steps) },
+    pub ghost byte_letters: { ByteLetters (take count steps) },
 }
 
+// A step that is read: its letter, if it has one, is a byte.
+fn read(step: Step)
+    ensures { (a : ℕ) → step.label ≡ Letter a → a < 256 }
+{}
+
 impl FoundWalk {
+    // The walk of the first `count` of some steps.
+    pub fn new(start: u8, count: usize, steps: [Step; STATES]) -> FoundWalk
+        requires { (start < 64) × (count < 64) × LeadLow (take count steps) }
+        ensures { (result.start ≡ start) × (result.count ≡ count) × (result.steps ≡ steps) }
+    {
+        // Of an array nothing is known but of what is read of it.
+        for i in 0..count {
+            read(steps[i]);
+        }
+        FoundWalk {
+            start,
+            count,
+            steps,
+        }
+    }
+
     // The walk of no steps.
     pub fn staying(start: u8) -> FoundWalk
         requires { start < 64 }

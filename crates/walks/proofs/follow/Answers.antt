@@ -5,7 +5,7 @@ use lib.ListN.{length-set, take}
 use Rattle.masks.proofs.Member.{member_lt}
 use Rattle.walks.specs.Choices.{Way, SetsRise}
 use Rattle.walks.specs.Walks.{Follows}
-use Rattle.walks.proofs.Following.{take_more, take_end, take_stop, way_low, lead_low}
+use Rattle.walks.proofs.Following.{take_more, take_end, take_stop, lead_low, way_low, byte_letters}
 use Rattle.walks.proofs.follow.Goals.{In_default, After-loop-i}
 use Rattle.walks.proofs.follow.Goals as goal
 
@@ -38,13 +38,17 @@ loop-i-preserved c =
     )
 
 pub invariant_of-result : goal.invariant_of-result
-invariant_of-result c = record { low = c.args.leg.low; few = omega arith; lead_low = lead_low _ (way_low _ _ c.args.back.now c.args.force) _ _ _ _ _ (stopped (goal.at.invariant_of-result c).In_default) }
+invariant_of-result c =
+    let f = stopped (goal.at.invariant_of-result c).In_default in
+    record { low = c.args.leg.low; few = omega arith; lead_low = lead_low _ _ _ _ _ _ f; byte_letters = byte_letters _ (way_low _ _ c.args.back.now c.args.force) _ _ _ _ _ f }
 
 pub returns-in_default : goal.returns-in_default
 returns-in_default c = record { start = refl; follows = stopped (goal.at.returns-in_default c).In_default }
 
 pub invariant_of-result-2 : goal.invariant_of-result-2
-invariant_of-result-2 c = record { low = c.args.leg.low; few = c.requires.1; lead_low = lead_low _ (way_low _ _ c.args.back.now c.args.force) _ _ _ _ _ (ended (goal.at.invariant_of-result-2 c).After-loop-i) }
+invariant_of-result-2 c =
+    let f = ended (goal.at.invariant_of-result-2 c).After-loop-i in
+    record { low = c.args.leg.low; few = c.requires.1; lead_low = lead_low _ _ _ _ _ _ f; byte_letters = byte_letters _ (way_low _ _ c.args.back.now c.args.force) _ _ _ _ _ f }
 
 pub returns : goal.returns
 returns c = record { start = refl; follows = ended (goal.at.returns c).After-loop-i }
