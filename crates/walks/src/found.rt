@@ -33,7 +33,7 @@ pub struct FoundWalk {
     pub ghost byte_letters: { ByteLetters (take count steps) },
 }
 
-// A step that is read: its letter, if it has one, is a byte.
+// Of a step that is read the letter, if it has one, is a byte.
 fn read(step: Step)
     ensures { (a : ℕ) → step.label ≡ Letter a → a < 256 }
 {}
@@ -44,7 +44,7 @@ impl FoundWalk {
         requires { (start < 64) × (count < 64) × LeadLow (take count steps) }
         ensures { (result.start ≡ start) × (result.count ≡ count) × (result.steps ≡ steps) }
     {
-        // Of an array nothing is known but of what is read of it.
+        // Each step is read, so that its letter is known to be a byte.
         for i in 0..count {
             read(steps[i]);
         }
